@@ -1,0 +1,6 @@
+pub mod MarkFacts
+pub mod RecordFacts
+pub mod SpaceFacts
+pub mod CellFacts
+pub mod DigitFacts
+pub mod LawFacts

@@ -1,0 +1,4 @@
+pub mod Sheets
+pub mod Faults
+pub mod Values
+pub mod Laws

@@ -1,0 +1,34 @@
+//! Why there is no sheet of a file's bytes.
+
+ghost use Rattle.std.specs.Prelude.{◌≡◌};
+ghost use Rattle.gtfs_text.specs.declared.fault.SheetFault.TheVariants.{Memory};
+
+use std::alloc::{AllocError, AllocFailed};
+use thiserror::Error;
+
+/// Why there is no sheet of a file's bytes.
+#[derive(Clone, Copy, Debug, PartialEq, Eq, Error)]
+pub enum SheetFault {
+    /// The record of this number is the first that isn't UTF-8. Record 0 is the header.
+    #[error("record {0} is not UTF-8")]
+    BadRecord(usize),
+    /// Memory was refused.
+    #[error("out of memory")]
+    Memory,
+}
+
+impl From<AllocError> for SheetFault {
+    ghost from_gives = { λ _ e. e ≡ Memory };
+
+    fn from(_error: AllocError) -> SheetFault {
+        SheetFault::Memory
+    }
+}
+
+impl<T: Drop> From<AllocFailed<T>> for SheetFault {
+    ghost from_gives = { λ _ e. e ≡ Memory };
+
+    fn from(_error: AllocFailed<T>) -> SheetFault {
+        SheetFault::Memory
+    }
+}

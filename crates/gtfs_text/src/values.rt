@@ -1,0 +1,101 @@
+//! The values that fields spell, by their types (GTFS Schedule reference, "Field types").
+
+ghost use Rattle.std.specs.Prelude.{◌≡◌, ◌<◌, ◌≤◌, ◌^◌, ◌+◌, true, length, option_map};
+ghost use Rattle.std.specs.List.{list_all};
+ghost use Rattle.std.specs.Char.{is_ascii_digit};
+ghost use Rattle.gtfs_text.specs.Values.{date_of, day_of, ymd, decimal, is_digits, whole_of, time_of, is_sixtieth};
+
+use jiff::civil::Date;
+
+// The number that these digits spell.
+fn decimal(digits: &[u8]) -> u32
+    requires few { length digits.now ≤ 9 }
+    requires digits { list_all is_ascii_digit digits.now ≡ true }
+    ensures value { result ≡ decimal digits.now }
+    ensures bound { result < 10 ^ length digits.now }
+{
+    let mut number = 0;
+    for digit in digits {
+        number = 10 * number + (*digit - b'0') as u32;
+    }
+    number
+}
+
+fn all_digits(text: &[u8]) -> bool
+    ensures { result ≡ list_all is_ascii_digit text.now }
+{
+    text.iter().all(|byte| byte.is_ascii_digit())
+}
+
+// Whether this is from `least` to `most` digits and nothing else.
+fn is_digits(least: usize, most: usize, text: &[u8]) -> bool
+    ensures { result ≡ is_digits least most text.now }
+{
+    least <= text.len() && text.len() <= most && all_digits(text)
+}
+
+/// The number of a "Non-negative integer" of at most nine digits; None where the text is no such number.
+/// Signs, spaces and digits of other scripts make it none. Zeros may stand before the number.
+pub fn whole(text: &str) -> Option<u32>
+    ensures { result ≡ whole_of text.now }
+{
+    let bytes = text.as_bytes();
+    if is_digits(1, 9, bytes) {
+        Some(decimal(bytes))
+    } else {
+        None
+    }
+}
+
+// Whether this is `:` and two digits that spell at most 59.
+fn is_sixtieth(text: &[u8]) -> bool
+    ensures { result ≡ is_sixtieth text.now }
+{
+    match text {
+        [b':', digits @ ..] => is_digits(2, 2, digits) && decimal(digits) <= 59,
+        _ => false,
+    }
+}
+
+/// The seconds that a "Time" counts from noon minus 12 hours of its service day; None where the text is no time.
+/// A time is one to three digits of hours, at most 167, then `:MM:SS`.
+pub fn time(text: &str) -> Option<u32>
+    ensures { result ≡ time_of text.now }
+{
+    let bytes = text.as_bytes();
+    let (hours, rest) = bytes.split_at(bytes.len().saturating_sub(6));
+    let (minutes, seconds) = rest.split_at(rest.len().min(3));
+    if is_digits(1, 3, hours)
+        && decimal(hours) <= 167
+        && is_sixtieth(minutes)
+        && is_sixtieth(seconds)
+    {
+        Some(3600 * decimal(hours) + 60 * decimal(&minutes[1..]) + decimal(&seconds[1..]))
+    } else {
+        None
+    }
+}
+
+// The day of the calendar whose year, month and day these digits spell.
+fn day(year: &[u8], month: &[u8], day: &[u8]) -> Option<Date>
+    ensures { option_map ymd result ≡ day_of year.now month.now day.now }
+{
+    if !(is_digits(4, 4, year) && is_digits(2, 2, month) && is_digits(2, 2, day)) {
+        return None;
+    }
+    let (year, month, day) = (decimal(year), decimal(month), decimal(day));
+    match Date::new(year as i16, month as i8, day as i8) {
+        Ok(date) => Some(date),
+        Err(_) => None,
+    }
+}
+
+/// The day of a "Date", `YYYYMMDD` with a year from 0000 to 9999; None where the text names no day of the calendar.
+pub fn date(text: &str) -> Option<Date>
+    ensures { option_map ymd result ≡ date_of text.now }
+{
+    let bytes = text.as_bytes();
+    let (year, rest) = bytes.split_at(bytes.len().min(4));
+    let (month, rest) = rest.split_at(rest.len().min(2));
+    day(year, month, rest)
+}
