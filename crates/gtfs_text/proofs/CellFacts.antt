@@ -1,28 +1,18 @@
 -- Cells of a table.
-use Rattle.std.proofs.Common.{◌≡◌, ℕ, zero, suc, ◌<◌, Bool, true, false, List, [], ◌∷◌, length, get_or, map, refl, lt-ltb, arith, sym, ◌∙◌, ap, Some, None}
+use Rattle.std.proofs.Common.{◌≡◌, ℕ, zero, suc, ◌+◌, ◌<◌, ◌==◌, Bool, true, List, [], ◌∷◌, length, get_or, take, map, refl, arith, sym, ◌∙◌, ap, None, ◌&&◌, add-one}
 use Rattle.std.specs.Prelude.{unwrap_or}
-use Rattle.std.specs.List.{position_from, position_or_len}
-use Rattle.std.proofs.lemmas.List.Sums.{position_or_len_is}
-use Rattle.std.proofs.lemmas.Iterator.Adapters.{position_from-zero}
-use Rattle.csv.specs.Records.{field_at, fields_of, Row}
-use Rattle.std.proofs.lemmas.List.{get_or-map, length-map}
-use Rattle.gtfs_text.specs.Sheets.{Table, table_of, header_of, cell, without_spaces, without_front_spaces, without_end_spaces}
-
-pub nothing : without_spaces [] ≡ []
-unfolding without_front_spaces without_end_spaces
-nothing = refl
+use Rattle.std.specs.List.{list_all, range_with_len}
+use Rattle.std.specs.Str.{is_utf8}
+use Rattle.std.proofs.lemmas.Str.{is_utf8-from_IsUtf8, IsUtf8-nil}
+use Rattle.csv.specs.Records.{field_at}
+use Rattle.gtfs_text.specs.Packed.{unpacked}
+use Rattle.gtfs_text.specs.Sheets.{Table, is_text}
+use Rattle.gtfs_text.proofs.PackedFacts.{both, take_nothing, unpacked_none}
 
 at_map : {X Y : Type 0} (f : X → Y) (xs : List X) (i : ℕ) (d : X) → get_or (map f xs) i (f d) ≡ f (get_or xs i d)
 at_map f [] i d = refl
 at_map f (x ∷ xs) zero d = refl
 at_map f (x ∷ xs) (suc i) d = at_map f xs i d
-
-trimmed_at : (fields : List (List ℕ)) (i : ℕ) → get_or (map without_spaces fields) i [] ≡ without_spaces (get_or fields i [])
-trimmed_at fields i = rw nothing at (at_map without_spaces fields i [])
-
--- a cell is a field without spaces
-pub cell_is : (raws : List (List (List ℕ))) (row column : ℕ) → cell (table_of raws) row column ≡ without_spaces (get_or (get_or raws row []) column [])
-cell_is raws row column = ap (λ (fields : List (List ℕ)). get_or fields column []) (at_map (map without_spaces) raws row []) ∙ trimmed_at (get_or raws row []) column
 
 -- csv's word for a field, and this one
 pub field_is : (fields : List (List ℕ)) (i : ℕ) → unwrap_or (field_at fields i) [] ≡ get_or fields i []
@@ -31,28 +21,41 @@ field_is [] i = refl
 field_is (f ∷ fs) zero = refl
 field_is (f ∷ fs) (suc i) = field_is fs i
 
--- a field of a sheet's record
-pub sheet_cell : (items : List Row) (record_at : Row) (row column : ℕ) → row < length (table_of (map fields_of items)) → record_at ≡ get_or items row record_at
-    → cell (table_of (map fields_of items)) row column ≡ without_spaces (unwrap_or (field_at (fields_of record_at) column) [])
-sheet_cell items record_at row column within here =
-    let inside : row < length items = simp length-map at within in
-    let same : get_or (map fields_of items) row [] ≡ fields_of record_at = get_or-map fields_of items row record_at [] inside ∙ ap fields_of (sym here) in
-    rw (cell_is (map fields_of items) row column, same, field_is (fields_of record_at) column) refl
+-- csv's word has a field where the record reaches it
+pub field_reached : (fields : List (List ℕ)) (i : ℕ) → i < length fields → field_at fields i ≡ None → ⊥
+unfolding field_at
+field_reached [] i within none = absurd (omega arith)
+field_reached (f ∷ fs) zero within none = cc none
+field_reached (f ∷ fs) (suc i) within none = field_reached fs i (omega arith) none
 
-pub header_width : (items : List Row) (record_at : Row) → 0 < length items → record_at ≡ get_or items 0 record_at → length (header_of (table_of (map fields_of items))) ≡ length (fields_of record_at)
-header_width [] record_at h e = absurd (omega arith)
-header_width (r ∷ rs) record_at h e = rw (length-map (fields_of r) without_spaces) (ap (λ (x : Row). length (fields_of x)) (sym e))
+-- a row of packed records
+pub row_is : (records : List (List ℕ)) (row : ℕ) (packed : List ℕ) → packed ≡ get_or records row [] → unpacked packed ≡ get_or (map unpacked records) row []
+row_is records row packed is = ap unpacked is ∙ rw (unpacked_none [] refl) at (sym (at_map unpacked records row []))
 
-pub first_at : {X : Type 0} (p : X → Bool) (xs : List X) (i : ℕ) (d : X) → i < length xs → p (get_or xs i d) ≡ true → ((k : ℕ) → k < i → p (get_or xs k d) ≡ false) → position_from p 0 xs ≡ Some i
-first_at p xs i d within here before =
-    let at : position_or_len p xs ≡ i = position_or_len_is p xs i d (omega arith) before (λ _. here) in
-    sym (position_from-zero p xs) ∙ rw at (rw (lt-ltb i (length xs) within) refl)
+-- a test of the first fields is a test by columns, where it holds of nothing
+shifted : (p : List ℕ → Bool) (f : List ℕ) (fs : List (List ℕ)) (from n : ℕ) → list_all (λ column. p (get_or (f ∷ fs) column [])) (range_with_len (from + 1) n) ≡ list_all (λ column. p (get_or fs column [])) (range_with_len from n)
+shifted p f fs from zero = refl
+shifted p f fs from (suc n) = let here : get_or (f ∷ fs) (from + 1) [] ≡ get_or fs from [] = rw add-one refl in rw (here, shifted p f fs (from + 1) n) refl
 
-pub nowhere : {X : Type 0} (p : X → Bool) (xs : List X) (i : ℕ) (d : X) → length xs ≡ i → ((k : ℕ) → k < i → p (get_or xs k d) ≡ false) → position_from p 0 xs ≡ None
-nowhere p xs i d within before =
-    let at : position_or_len p xs ≡ i = position_or_len_is p xs i d (omega arith) before (λ h. absurd (omega arith)) in
-    sym (position_from-zero p xs) ∙ rw (at, within) (grind arith)
+past_end : (p : List ℕ → Bool) (from n : ℕ) → p [] ≡ true → list_all (λ column. p (get_or [] column [])) (range_with_len from n) ≡ true
+past_end p from zero none = refl
+past_end p from (suc n) none = rw (none, past_end p (from + 1) n none) refl
 
-pub has_header : (table : Table) (column : ℕ) → column < length (header_of table) → 0 < length table
-has_header [] column h = absurd (omega arith)
-has_header (r ∷ rs) column h = omega arith
+by_columns : (p : List ℕ → Bool) (fields : List (List ℕ)) (n : ℕ) → p [] ≡ true → list_all p (take n fields) ≡ list_all (λ column. p (get_or fields column [])) (range_with_len 0 n)
+by_columns p [] n none = rw (take_nothing n) (sym (past_end p 0 n none))
+by_columns p (f ∷ fs) zero none = refl
+by_columns p (f ∷ fs) (suc n) none = ap (λ (b : Bool). p f && b) (by_columns p fs n none ∙ sym (shifted p f fs 0 n))
+
+pub blank_is : (fields : List (List ℕ)) (n : ℕ) → list_all (λ field. length field == 0) (take n fields) ≡ list_all (λ column. length (get_or fields column []) == 0) (range_with_len 0 n)
+blank_is fields n = by_columns (λ field. length field == 0) fields n refl
+
+-- a field of a row of text is text, and so is a row of a table of text
+pub utf8_in : (fields : List (List ℕ)) (column : ℕ) → is_text fields ≡ true → is_utf8 (get_or fields column []) ≡ true
+utf8_in [] column all = is_utf8-from_IsUtf8 [] IsUtf8-nil
+utf8_in (f ∷ fs) zero all = (both (is_utf8 f) (is_text fs) all).0
+utf8_in (f ∷ fs) (suc column) all = utf8_in fs column (both (is_utf8 f) (is_text fs) all).1
+
+pub text_in : (table : Table) (row : ℕ) → list_all is_text table ≡ true → is_text (get_or table row []) ≡ true
+text_in [] row all = refl
+text_in (r ∷ rs) zero all = (both (is_text r) (list_all is_text rs) all).0
+text_in (r ∷ rs) (suc row) all = text_in rs row (both (is_text r) (list_all is_text rs) all).1

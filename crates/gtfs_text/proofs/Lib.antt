@@ -4,3 +4,4 @@ pub mod SpaceFacts
 pub mod CellFacts
 pub mod DigitFacts
 pub mod LawFacts
+pub mod PackedFacts

@@ -1,11 +1,11 @@
 -- All the records of a text, as csv reads them one by one.
-use Rattle.std.proofs.Common.{◌≡◌, ℕ, suc, ◌+◌, ◌-◌, ◌<◌, ◌≤◌, true, false, not, List, [], ◌∷◌, ◌++◌, length, refl, cond, arith, sym, ◌∙◌, ap, Option, Some, None, zero-add, add-zero, ◌&&◌, IsUtf8}
-use Rattle.std.proofs.lemmas.List.{append-nil}
+use Rattle.std.proofs.Common.{◌≡◌, ℕ, suc, ◌+◌, ◌-◌, ◌<◌, ◌≤◌, true, false, not, List, [], ◌∷◌, ◌++◌, length, map, refl, cond, arith, sym, ◌∙◌, ap, Option, Some, None, zero-add, add-zero, ◌&&◌, IsUtf8}
+use Rattle.std.proofs.lemmas.List.{append-nil, length-map}
 use Rattle.std.specs.List.{list_all, position_from}
 use Rattle.std.specs.Str.{is_utf8}
 use Rattle.std.proofs.lemmas.Str.{is_utf8-from_IsUtf8, IsUtf8-from_is_utf8}
 use Rattle.csv.specs.Records.{AllText}
-use Rattle.gtfs_text.specs.Sheets.{is_text, bad_record, Explains}
+use Rattle.gtfs_text.specs.Sheets.{without_spaces, is_text, bad_record, table_of, Explains}
 use Rattle.gtfs_text.specs.Faults.{fault_at, IsPlain}
 use Rattle.csv.specs.Machine.{Read, step, is_end, ends_at_end, next_record, fields_after, field_after}
 use Rattle.csv.specs.Reading.{records, records_from, Reached, default_config, NextIs, ReadsNext, ExplainsRead, source_of, pending_of}
@@ -159,3 +159,7 @@ plain_error rem a b (kind.UnequalLengths pos expected len) f why = cc (sym f ∙
 plain_error rem a b (kind.Serialize t) f why = why
 plain_error rem a b (kind.Deserialize pos err) f why = why
 plain_error rem a b kind.OutOfMemory f why = tt
+
+-- packed records are as many as those that they unpack to
+pub same_length : {X : Type 0} (f : X → List (List ℕ)) (xs : List X) (rows : List (List (List ℕ))) → map f xs ≡ table_of rows → length xs ≡ length rows
+same_length f xs rows same = sym (length-map xs f) ∙ ap length same ∙ length-map rows (map without_spaces)

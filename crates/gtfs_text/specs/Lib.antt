@@ -1,4 +1,5 @@
 pub mod Sheets
 pub mod Faults
+pub mod Packed
 pub mod Values
 pub mod Laws

@@ -7,6 +7,8 @@
 mod fault;
 pub mod laws;
 mod marks;
+mod packed;
+mod records;
 mod sheet;
 mod spaces;
 mod values;

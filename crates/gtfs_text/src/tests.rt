@@ -79,6 +79,26 @@ fn no_records(rt: HostRuntime) -> Result<(), Fail> {
     Ok(())
 }
 
+#[test]
+fn long_fields(rt: HostRuntime) -> Result<(), Fail> {
+    for size in [253, 254, 255, 256, 9_000, 70_000] {
+        let mut file = Vec::new(rt.alloc());
+        file.extend_from_slice(b"id,name,last\n1,")?;
+        for _ in 0..size {
+            file.push(b'x')?;
+        }
+        file.extend_from_slice(b",y\n")?;
+        let sheet = Sheet::read(rt.alloc(), file)?;
+        assert_eq!(rt; sheet.rows(), 1);
+        assert_eq!(rt;
+            text_at(&sheet, 1, "name").map(|text| text.len()),
+            Some(size)
+        );
+        assert_eq!(rt; text_at(&sheet, 1, "last"), Some("y"));
+    }
+    Ok(())
+}
+
 // With an allocation that fails the answers are Memory, and no other fault.
 #[test]
 fn bad_bytes_or_memory(rt: HostRuntime) -> Result<(), Fail> {

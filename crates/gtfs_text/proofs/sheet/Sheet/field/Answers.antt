@@ -1,16 +1,8 @@
-use Rattle.std.proofs.Common.{◌∙◌, sym, ap}
-use Rattle.gtfs_text.specs.Sheets.{cell}
-use Rattle.gtfs_text.proofs.CellFacts.{sheet_cell, nothing}
+use Rattle.std.proofs.Common.{[], get_or}
+use Rattle.std.proofs.lemmas.Str.{IsUtf8-from_is_utf8}
+use Rattle.gtfs_text.specs.Packed.{unpacked}
+use Rattle.gtfs_text.proofs.CellFacts.{utf8_in}
 use Rattle.gtfs_text.proofs.sheet.Sheet.field.Goals as goal
 
-pub returns-in-Some : goal.returns-in-Some
-returns-in-Some c =
-    let at = rw c.in-Some.is at c.get.ensures.value in
-    let is = sheet_cell c.self.inside.records.items c.index.result.now c.args.row c.args.column (rw (← c.self.view_is) at c.requires) c.index.ensures in
-    c.without_spaces.ensures ∙ rw (← at) at (sym is) ∙ ap (λ t. cell t c.args.row c.args.column) c.self.view_is
-
-pub returns-in-None : goal.returns-in-None
-returns-in-None c =
-    let at = rw c.in-None.is at c.get.ensures.value in
-    let is = sheet_cell c.self.inside.records.items c.index.result.now c.args.row c.args.column (rw (← c.self.view_is) at c.requires) c.index.ensures in
-    sym nothing ∙ rw (← at) at (sym is) ∙ ap (λ t. cell t c.args.row c.args.column) c.self.view_is
+pub from_utf8_unchecked-requires : goal.from_utf8_unchecked-requires
+from_utf8_unchecked-requires c = rw c.field_at.ensures (IsUtf8-from_is_utf8 (get_or (unpacked c.record.result.now) c.args.column []) (utf8_in (unpacked c.record.result.now) c.args.column c.record.ensures.text))

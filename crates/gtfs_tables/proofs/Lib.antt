@@ -1,0 +1,11 @@
+pub mod CallFacts
+pub mod LawFacts
+pub mod RowFacts
+pub mod TextFacts
+pub mod TimeFacts
+pub mod TripFacts
+pub mod TransferFacts
+pub mod OrderFacts
+pub mod ClockFacts
+pub mod ListFacts
+pub mod SortFacts

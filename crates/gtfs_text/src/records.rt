@@ -1,0 +1,53 @@
+//! The records of a file, one by one.
+
+ghost use Rattle.std.specs.Prelude.{◌≡◌, true, map, None, OnOk, IfOk, IfErr};
+ghost use Rattle.std.specs.List.{list_all};
+ghost use Rattle.csv.specs.Reading.{error_kind};
+ghost use Rattle.csv.specs.Records.{fields_of};
+ghost use Rattle.gtfs_text.specs.Faults.{fault_at, IsPlain};
+ghost use Rattle.gtfs_text.specs.Packed.{unpacked};
+ghost use Rattle.gtfs_text.specs.Sheets.{records_of, bad_record, table_of, is_text, Explains};
+
+use crate::fault::SheetFault;
+use crate::marks::after_marks;
+use crate::packed::pack;
+use csv::{ByteRecord, Error, ErrorKind, ReaderBuilder, StringRecord};
+use std::alloc::Global;
+
+// What ended the reading of a record.
+fn fault_of(error: &Error, row: usize) -> SheetFault
+    requires { IsPlain (error_kind error.now) }
+    ensures { result ≡ fault_at row (error_kind error.now) }
+{
+    match error.kind() {
+        ErrorKind::Utf8 { .. } => SheetFault::BadRecord(row),
+        ErrorKind::Io(_) | ErrorKind::OutOfMemory => SheetFault::Memory,
+        _ => unreachable!(),
+    }
+}
+
+/// The records of a file, packed, each as one field.
+pub(crate) fn packed_records(alloc: Global, bytes: &[u8]) -> Result<ByteRecord, SheetFault>
+    ensures records { IfOk result (λ records. map unpacked (fields_of records) ≡ table_of (records_of bytes.now)) }
+    ensures packed_text { IfOk result (λ records. list_all is_text (map unpacked (fields_of records)) ≡ true) }
+    ensures text { OnOk result (bad_record (records_of bytes.now) ≡ None) }
+    ensures fault { IfErr result (Explains (records_of bytes.now)) }
+{
+    let mut reader = ReaderBuilder::new()
+        .has_headers(false)
+        .flexible(true)
+        .from_reader(alloc, after_marks(bytes));
+    let mut records = ByteRecord::with_capacity(alloc, bytes.len(), 0)?;
+    let mut record = StringRecord::new(alloc);
+    let mut packed = Vec::new(alloc);
+    'records: loop {
+        match reader.read_record(&mut record) {
+            Ok(true) => {
+                pack(&record, &mut packed)?;
+                records.push_field(&packed)?;
+            }
+            Ok(false) => return Ok(records),
+            Err(error) => return Err(fault_of(&error, records.len())),
+        }
+    }
+}

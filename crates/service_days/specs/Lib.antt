@@ -1,0 +1,5 @@
+pub mod Noon
+pub mod Cover
+pub mod Answers
+pub mod Runs
+pub mod Laws

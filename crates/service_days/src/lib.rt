@@ -1,0 +1,15 @@
+//! The days that a planner covers: on which of them a service runs, and where each starts.
+#![tactic(auto)]
+
+mod cover;
+mod dates;
+mod fault;
+pub mod laws;
+mod runs;
+mod starts;
+
+pub use cover::Cover;
+pub use fault::DayFault;
+
+#[cfg(test)]
+mod tests;

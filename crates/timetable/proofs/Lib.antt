@@ -1,0 +1,17 @@
+pub mod Growing
+pub mod Legs
+pub mod Best
+pub mod Rows
+pub mod Listing
+pub mod GroupSteps
+pub mod WalkRows
+pub mod WinnerSteps
+pub mod Ranking
+pub mod Winning
+pub mod RowSteps
+pub mod Instancing
+pub mod Assembling
+pub mod Taken
+pub mod FrontSteps
+pub mod Shifting
+pub mod NameFacts

@@ -1,0 +1,42 @@
+use Rattle.std.proofs.Common.{◌≡◌, ◌++◌, ◌∷◌, [], length, arith, sym, ◌∙◌, ap}
+use Rattle.std.proofs.lemmas.List.Elements.{All-push}
+use Rattle.gtfs_tables.specs.Tables.{calls_of}
+use Rattle.gtfs_tables.specs.declared.values.Trip.{Trip}
+use Rattle.timetable.specs.Table.{Run, IsRun}
+use Rattle.timetable.specs.Instances.{instance_on, calls_from}
+use Rattle.timetable.specs.Running.{listed}
+use Rattle.timetable.proofs.Listing.{listed_due, listed_not, listed_day}
+use Rattle.timetable.proofs.Shifting.{same_run}
+use Rattle.timetable.proofs.instances.list_instances.Goals as goal
+use Rattle.timetable.proofs.instances.list_instances.Goals.{then-is_due+in_ok-calls+in_ok-push, else-is_due}
+
+pub loop-trip-preserved : goal.loop-trip-preserved
+loop-trip-preserved c = elim c.if-is_due.branch [
+  | then-is_due+in_ok-calls+in_ok-push w ↦
+      let due = sym c.is_due.ensures ∙ w.if-is_due.true in
+      let made : w.new.result ≡ instance_on c.args.tables.now c.args.cover.now c.loop-day.day c.loop-trip.trip =
+      w.new.ensures ∙ ap (λ calls. record { trip = c.loop-trip.trip; day = c.loop-day.day; calls = calls })
+      (w.in_ok-calls.ensures.calls ∙ ap (λ start. calls_from start (calls_of c.args.tables.now c.loop-trip.trip)) c.day_start-start.ensures.value) in
+      rw (w.instances-is, w.in_ok-push.ensures.items) (record {
+        listed = ap (λ xs. xs ++ w.new.result ∷ []) c.loop-trip.invariant.listed
+            ∙ (ap (λ x. listed c.args.tables.now c.args.cover.now c.args.running.now c.loop-day.day c.loop-trip.trip ++ x ∷ []) made
+            ∙ sym (listed_due c.args.tables.now c.args.cover.now c.args.running.now c.loop-day.day c.loop-trip.trip due));
+        runs = All-push (IsRun (length c.args.tables.now.stops)) c.loop-trip.instances.items w.new.result c.loop-trip.invariant.runs
+            (same_run (length c.args.tables.now.stops) _ w.new.result w.in_ok-calls.ensures.run (ap (λ (r : Run). r.calls) w.new.ensures));
+      })
+  | else-is_due w ↦
+      rw w.instances-is (record {
+        listed = c.loop-trip.invariant.listed ∙ sym (listed_not c.args.tables.now c.args.cover.now c.args.running.now c.loop-day.day c.loop-trip.trip (sym c.is_due.ensures ∙ w.if-is_due.false));
+        runs = c.loop-trip.invariant.runs;
+      })
+]
+
+pub loop-day-preserved : goal.loop-day-preserved
+loop-day-preserved c =
+    let all : c.loop-trip.trip ≡ length c.args.tables.now.trips =
+    omega (arith, c.loop-trip-test.false, c.loop-trip.auto.trip-end, ap (length {A = Trip}) c.trips-trip-end.ensures.value) in
+    record {
+      listed = c.loop-trip.invariant.listed ∙ (ap (λ n. listed c.args.tables.now c.args.cover.now c.args.running.now c.loop-day.day n) all
+          ∙ sym (listed_day c.args.tables.now c.args.cover.now c.args.running.now c.loop-day.day));
+      runs = c.loop-trip.invariant.runs;
+    }

@@ -1,0 +1,15 @@
+pub mod Table
+pub mod Journeys
+pub mod Legs
+pub mod Front
+pub mod Laws
+pub mod Hops
+pub mod Groups
+pub mod Index
+pub mod Winners
+pub mod Instances
+pub mod Running
+pub mod Transfers
+pub mod Answers
+pub mod NameLists
+pub mod Names

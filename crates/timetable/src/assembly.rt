@@ -1,0 +1,69 @@
+//! The timetable of a feed's tables.
+
+ghost use Rattle.std.specs.Prelude.{◌≡◌, ◌≤◌, ◌<◌, IfOk, OnErr, IfErr, length};
+ghost use Rattle.timetable.specs.Answers.{IsTimetable, IsFault};
+ghost use Rattle.gtfs_tables.specs.declared.fault.FaultKind.TheVariants.{TooMany};
+
+use crate::instances::{count_instances, list_instances};
+use crate::running::running_days;
+use crate::table::Timetable;
+use crate::transfers::TransferIndex;
+use crate::walks::{count_walks, list_walks};
+use gtfs_tables::{FaultKind, FeedFault, FeedFile, Tables};
+use service_days::Cover;
+use std::alloc::Global;
+
+/// How many instances a timetable has at most.
+pub const MOST_INSTANCES: usize = 1_000_000;
+
+/// How many calls its instances have at most.
+pub const MOST_CALLS: usize = 20_000_000;
+
+/// How many walks it has at most.
+pub const MOST_WALKS: usize = 4_000_000;
+
+// The longest time of a feed, 167:59:59, in seconds.
+const LONGEST_TIME: u32 = 604_799;
+
+// There is too much of what a file gives.
+fn too_many(file: FeedFile) -> FeedFault
+    ensures { result ≡ record { kind = TooMany; file = file; row = 0 } }
+{
+    FeedFault {
+        kind: FaultKind::TooMany,
+        file,
+        row: 0,
+    }
+}
+
+/// The timetable of the tables over the covered days. A transfer without a written time takes `default_walk` seconds.
+///
+/// It fails with `TooMany`, row 0, where there are too many instances (of trips.txt), calls (of stop_times.txt) or
+/// walks (of transfers.txt), tested in this order before it takes memory for them, and where memory runs out.
+pub fn assemble(
+    alloc: Global,
+    tables: &Tables,
+    cover: &Cover,
+    default_walk: u32,
+) -> Result<Timetable, FeedFault>
+    requires { default_walk ≤ 86_400 }
+    ensures ok { IfOk result (IsTimetable tables.now cover.now default_walk) }
+    ensures fault { IfErr result (IsFault tables.now cover.now default_walk) }
+{
+    let running = running_days(alloc, tables, cover)?;
+    let counts = count_instances(tables, cover, &running);
+    if counts.instances > MOST_INSTANCES {
+        return Err(too_many(FeedFile::Trips));
+    }
+    if counts.calls > MOST_CALLS {
+        return Err(too_many(FeedFile::StopTimes));
+    }
+    let index = TransferIndex::new(alloc, tables)?;
+    if count_walks(alloc, tables, &index, default_walk)? > MOST_WALKS {
+        return Err(too_many(FeedFile::Transfers));
+    }
+    let ways = list_walks(alloc, tables, &index, default_walk)?;
+    let instances = list_instances(alloc, tables, cover, &running, counts.instances)?;
+    let horizon = cover.day_start(cover.days() - 1) + LONGEST_TIME;
+    Ok(Timetable::new(horizon, ways.changes, ways.walks, instances))
+}

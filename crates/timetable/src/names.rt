@@ -1,0 +1,159 @@
+//! The ids of a feed: from an id to what it names, and back.
+
+ghost use Rattle.std.specs.Prelude.{◌≡◌, ℕ, List, [], ◌<◌, ◌≤◌, length, map, slice_index_or, IfOk};
+ghost use Rattle.std.specs.List.{position_from};
+ghost use Rattle.std.specs.HashMap.{get_by_text};
+ghost use Rattle.std.specs.Str.{bytes_eq};
+ghost use Rattle.timetable.specs.Names.{AreNamesOf, IsPlaceOf, stop_named};
+
+use crate::groups::Groups;
+use crate::parts::StopId;
+use crate::transfers::stops_by_station;
+use gtfs_tables::{Id, Tables};
+use indexmap::IndexMap;
+use std::alloc::{AllocError, Global};
+use std::hash::RandomState;
+use std::marker::Model;
+
+/// What an id names.
+#[derive(Clone, Copy, Debug, PartialEq, Eq)]
+pub enum Place<'a> {
+    Stop(StopId),
+    /// A station, by its stops in the order of their numbers.
+    Station(&'a [StopId]),
+}
+
+// The place of each id among others: the first where there are several.
+type Numbers = IndexMap<String, usize, RandomState>;
+
+/// The ids of a feed's stops, stations and trips.
+#[derive(Drop)]
+pub struct Names {
+    stops: Vec<Id>,
+    stations: Vec<Id>,
+    trips: Vec<Id>,
+    stop_numbers: Numbers,
+    station_numbers: Numbers,
+    children: Groups<StopId>,
+}
+
+impl Model for Names {
+    ghost use Rattle.std.specs.Prelude.{◌≡◌, ◌≤◌, ℕ, List, length};
+    ghost use Rattle.std.specs.List.{position_from};
+    ghost use Rattle.std.specs.HashMap.{get_by_text};
+    ghost use Rattle.std.specs.Str.{bytes_eq};
+    ghost use Rattle.timetable.specs.NameLists.{NameLists};
+
+    ghost Value = { NameLists };
+
+    ghost view = { λ a. record { stops = a.stops.items; stations = a.stations.items; trips = a.trips.items; children = a.children } };
+
+    ghost invariant = { λ a. (length a.stops.items ≤ 65_534)
+        × ((id : List ℕ) → get_by_text a.stop_numbers id ≡ position_from (bytes_eq id) 0 a.stops.items)
+        × ((id : List ℕ) → get_by_text a.station_numbers id ≡ position_from (bytes_eq id) 0 a.stations.items) };
+}
+
+fn stop_ids(alloc: Global, tables: &Tables) -> Result<Vec<Id>, AllocError>
+    ensures ids { IfOk result (λ ids. ids.items ≡ map (λ stop. stop.id) tables.now.stops) }
+    ensures few { IfOk result (λ ids. length ids.items ≤ 65_534) }
+{
+    let mut ids = Vec::with_capacity(alloc, tables.stops().len())?;
+    for stop in tables.stops() {
+        ids.push(Id::new(alloc, stop.id.as_str())?)?;
+    }
+    Ok(ids)
+}
+
+fn station_ids(alloc: Global, tables: &Tables) -> Result<Vec<Id>, AllocError>
+    ensures { IfOk result (λ ids. ids.items ≡ map (λ station. station.id) tables.now.stations) }
+{
+    let mut ids = Vec::with_capacity(alloc, tables.stations().len())?;
+    for station in tables.stations() {
+        ids.push(Id::new(alloc, station.id.as_str())?)?;
+    }
+    Ok(ids)
+}
+
+fn trip_ids(alloc: Global, tables: &Tables) -> Result<Vec<Id>, AllocError>
+    ensures { IfOk result (λ ids. ids.items ≡ map (λ trip. trip.id) tables.now.trips) }
+{
+    let mut ids = Vec::with_capacity(alloc, tables.trips().len())?;
+    for trip in tables.trips() {
+        ids.push(Id::new(alloc, trip.id.as_str())?)?;
+    }
+    Ok(ids)
+}
+
+fn numbers_of(alloc: Global, keys: RandomState, ids: &[Id]) -> Result<Numbers, AllocError>
+    ensures { IfOk result (λ numbers. (id : List ℕ) → get_by_text numbers id ≡ position_from (bytes_eq id) 0 ids.now) }
+{
+    let mut numbers = IndexMap::with_hasher(alloc, keys);
+    for (number, id) in ids.iter().enumerate() {
+        let text = id.as_str();
+        if !numbers.contains_key(text) {
+            numbers.insert(String::from_str(alloc, text)?, number)?;
+        }
+    }
+    Ok(numbers)
+}
+
+impl Names {
+    /// The names of these tables. Ids are looked up under `keys`, which nobody who writes a feed can know.
+    pub fn of(alloc: Global, keys: RandomState, tables: &Tables) -> Result<Names, AllocError>
+        ensures { IfOk result (AreNamesOf tables.now) }
+    {
+        let stops = stop_ids(alloc, tables)?;
+        let stations = station_ids(alloc, tables)?;
+        let trips = trip_ids(alloc, tables)?;
+        let stop_numbers = numbers_of(alloc, keys, &stops)?;
+        let station_numbers = numbers_of(alloc, keys, &stations)?;
+        let children = stops_by_station(alloc, tables)?;
+        Ok(Names {
+            stops,
+            stations,
+            trips,
+            stop_numbers,
+            station_numbers,
+            children,
+        })
+    }
+
+    /// The id of a stop.
+    pub fn stop(&self, stop: StopId) -> &str
+        requires { stop < length self.now.stops }
+        ensures { result.now ≡ slice_index_or self.now.stops stop [] }
+    {
+        self.stops[stop.number()].as_str()
+    }
+
+    /// The id of a trip, by its number.
+    pub fn trip(&self, number: u32) -> &str
+        requires { number < length self.now.trips }
+        ensures { result.now ≡ slice_index_or self.now.trips number [] }
+    {
+        self.trips[number as usize].as_str()
+    }
+
+    /// The stop of that id; none where the id names a station or nothing.
+    pub fn stop_named(&self, id: &str) -> Option<StopId>
+        ensures { result ≡ stop_named self.now id.now }
+    {
+        match self.stop_numbers.get(id) {
+            Some(number) => Some(StopId::new(*number as u16)),
+            None => None,
+        }
+    }
+
+    /// What the id names: the stop of that id, else the station, by its stops in the order of their numbers.
+    pub fn place(&self, id: &str) -> Option<Place<'_>>
+        ensures { IsPlaceOf self.now id.now result }
+    {
+        if let Some(stop) = self.stop_named(id) {
+            return Some(Place::Stop(stop));
+        }
+        match self.station_numbers.get(id) {
+            Some(number) => Some(Place::Station(self.children.of(*number))),
+            None => None,
+        }
+    }
+}

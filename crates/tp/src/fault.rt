@@ -1,0 +1,66 @@
+//! Why the program gives no answer.
+
+ghost use Rattle.std.specs.Prelude.{◌≡◌};
+ghost use Rattle.tp.specs.Statuses.{status_of};
+
+use gtfs_tables::{FaultKind, FeedFault};
+use service_days::DayFault;
+use std::alloc::AllocError;
+use thiserror::Error;
+
+/// A fault, shown as the program prints it.
+#[derive(Clone, Copy, Debug, PartialEq, Eq, Error)]
+pub enum Fault<'a> {
+    #[error("A1 BadDate")]
+    BadDate,
+    #[error("A2 BadTime")]
+    BadTime,
+    #[error("{0}")]
+    Feed(FeedFault),
+    #[error("{0}")]
+    Days(DayFault),
+    #[error("Q1 UnknownStop {0}")]
+    UnknownStop(&'a str),
+    #[error("Q2 NotCovered")]
+    NotCovered,
+    #[error("Memory")]
+    Memory,
+}
+
+impl<'a> Fault<'a> {
+    /// The status that the program ends with.
+    pub fn status(&self) -> u8
+        ensures { result ≡ status_of self.now }
+    {
+        match self {
+            Fault::Feed(_) | Fault::Days(_) => 1,
+            Fault::BadDate | Fault::BadTime => 2,
+            Fault::UnknownStop(_) | Fault::NotCovered => 6,
+            Fault::Memory => 7,
+        }
+    }
+}
+
+impl<'a> From<FeedFault> for Fault<'a> {
+    fn from(fault: FeedFault) -> Fault<'a> {
+        match fault.kind {
+            FaultKind::Memory => Fault::Memory,
+            _ => Fault::Feed(fault),
+        }
+    }
+}
+
+impl<'a> From<DayFault> for Fault<'a> {
+    fn from(fault: DayFault) -> Fault<'a> {
+        match fault {
+            DayFault::Memory => Fault::Memory,
+            _ => Fault::Days(fault),
+        }
+    }
+}
+
+impl<'a> From<AllocError> for Fault<'a> {
+    fn from(_e: AllocError) -> Fault<'a> {
+        Fault::Memory
+    }
+}

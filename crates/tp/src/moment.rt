@@ -1,0 +1,25 @@
+//! Moments as the program prints them.
+
+use jiff::civil::Date;
+use std::fmt;
+
+/// A time of a service day, shown as `YYYYMMDD HH:MM:SS`. Hours of 24 and more belong to the night after the date.
+#[derive(Clone, Copy, Debug, PartialEq, Eq)]
+pub struct DayTime {
+    pub date: Date,
+    /// Seconds from the start of the service day.
+    pub seconds: u32,
+}
+
+impl fmt::Display for DayTime {
+    fn fmt<W: fmt::Write>(&self, f: &mut fmt::Formatter<W>) -> fmt::Result {
+        let (year, month, day) = (self.date.year(), self.date.month(), self.date.day());
+        let hours = self.seconds / 3600;
+        let minutes = self.seconds / 60 % 60;
+        let seconds = self.seconds % 60;
+        write!(
+            f,
+            "{year:04}{month:02}{day:02} {hours:02}:{minutes:02}:{seconds:02}"
+        )
+    }
+}

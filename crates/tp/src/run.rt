@@ -1,0 +1,69 @@
+//! Running a job.
+
+ghost use Rattle.std.specs.Prelude.{◌≡◌, ◌⊎◌};
+
+use crate::answer::{Answer, direct};
+use crate::fault::Fault;
+use crate::job::{Job, Task};
+use gtfs_tables::{FaultKind, FeedFault, FeedFile, Files, read_tables};
+use gtfs_text::{date, time};
+use service_days::Cover;
+use std::alloc::Global;
+use std::hash::RandomState;
+use std::io::{Read, Write};
+use timetable::{Names, assemble};
+
+// No seed for the look-up of ids could be had: nothing of the feed is read.
+const NO_KEYS: FeedFault = FeedFault {
+    kind: FaultKind::ReadFailed,
+    file: FeedFile::Stops,
+    row: 0,
+};
+
+// A moment that no timetable covers.
+const NEVER: u32 = u32::MAX;
+
+fn answer<'a, R: Read + Drop>(
+    alloc: Global,
+    keys: Option<RandomState>,
+    job: &Job<'a>,
+    files: Files<R>,
+) -> Result<Answer, Fault<'a>> {
+    let first = date(job.date).ok_or(Fault::BadDate)?;
+    let Task::Direct { from, to, at } = job.task;
+    let at = time(at).ok_or(Fault::BadTime)?;
+    let keys = keys.ok_or(Fault::Feed(NO_KEYS))?;
+    let tables = read_tables(alloc, keys, files)?;
+    let cover = Cover::new(first, job.days, job.zone)?;
+    let timetable = assemble(alloc, &tables, &cover, job.default_walk)?;
+    let names = Names::of(alloc, keys, &tables)?;
+    let depart = cover.moment(first, at).unwrap_or(NEVER);
+    direct(&timetable, &names, &cover, from, to, depart)
+}
+
+/// Does the job over the feed's files: the answer goes to `out`, a fault to `err` behind `tp: `. Gives the status to end
+/// with: 0 done; 1 the feed or its days are at fault; 2 the date or the time is; 6 the question is; 7 memory ran out;
+/// 8 `out` refused a write. Where there are no `keys` for the look-up of ids, that is a feed whose reader failed.
+pub fn run<R: Read + Drop, W: Write, E: Write>(
+    alloc: Global,
+    keys: Option<RandomState>,
+    job: &Job<'_>,
+    files: Files<R>,
+    out: &mut W,
+    err: &mut E,
+) -> u8
+    ensures { (result ≡ 0) ⊎ ((result ≡ 1) ⊎ ((result ≡ 2) ⊎ ((result ≡ 6) ⊎ ((result ≡ 7) ⊎ (result ≡ 8))))) }
+{
+    match answer(alloc, keys, job, files) {
+        Ok(answer) => {
+            if writeln!(out, "{answer}").is_err() || out.flush().is_err() {
+                return 8;
+            }
+            0
+        }
+        Err(fault) => {
+            let _ = writeln!(err, "tp: {fault}");
+            fault.status()
+        }
+    }
+}
