@@ -7,7 +7,8 @@ use Rattle.std.proofs.lemmas.Str.{is_utf8-from_IsUtf8, IsUtf8-nil}
 use Rattle.csv.specs.Records.{field_at}
 use Rattle.gtfs_text.specs.Packed.{unpacked}
 use Rattle.gtfs_text.specs.Sheets.{Table, is_text}
-use Rattle.gtfs_text.proofs.PackedFacts.{both, take_nothing, unpacked_none}
+use Rattle.gtfs_text.proofs.TestFacts.{both}
+use Rattle.gtfs_text.proofs.PackedFacts.{take_nothing, unpacked_none}
 
 at_map : {X Y : Type 0} (f : X → Y) (xs : List X) (i : ℕ) (d : X) → get_or (map f xs) i (f d) ≡ f (get_or xs i d)
 at_map f [] i d = refl

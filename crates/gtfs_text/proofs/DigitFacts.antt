@@ -1,13 +1,14 @@
 -- Digits.
-use Rattle.std.proofs.Common.{◌≡◌, ℕ, ◌+◌, ◌-◌, ◌*◌, ◌^◌, ◌<◌, ◌≤◌, Bool, true, false, List, [], ◌∷◌, length, get_or, take, drop, min, nat_le, ℤ, pos, ◌&&◌, Option, None, refl, arith, add-one}
+use Rattle.std.proofs.Common.{◌≡◌, ℕ, ◌^◌, ◌<◌, ◌≤◌, true, false, List, [], ◌∷◌, length, get_or, take, drop, min, nat_le, ℤ, pos, ◌&&◌, Option, None, refl, arith}
 use Rattle.std.specs.List.{list_all}
 use Rattle.std.specs.Char.{is_ascii_digit}
-use Rattle.std.proofs.Math.Nat.{pow-le-pow_right, pow-succ'}
+use Rattle.std.proofs.Math.Nat.{pow-le-pow_right}
 use Rattle.std.proofs.lemmas.List.{take_min, drop_all}
 use Rattle.std.proofs.Math.Nat.{min_comm}
 use Rattle.std.proofs.lemmas.Bool.{leb-true}
 use Rattle.std.proofs.lemmas.Int.{ints}
 use Rattle.jiff.specs.Words.{IsDate, days_in_month}
+use Rattle.gtfs_text.proofs.TestFacts.{and_false}
 use Rattle.gtfs_text.specs.Values.{is_day, is_digits, decimal, day_of}
 use Rattle.std.proofs.lemmas.List.Folds.{list_all_at}
 
@@ -17,10 +18,7 @@ in_range c h = (grind (arith, h), grind (arith, h))
 pub digit_at : (xs : List ℕ) (i : ℕ) → i < length xs → list_all is_ascii_digit xs ≡ true → (48 ≤ get_or xs i 0) × (get_or xs i 0 ≤ 57)
 digit_at xs i h all = in_range (get_or xs i 0) (elim (is_ascii_digit (get_or xs i 0)) as (λ t. is_ascii_digit (get_or xs i 0) ≡ t → t ≡ true) [ true ↦ λ e. refl | false ↦ λ e. cc (list_all_at is_ascii_digit xs i 0 h e) ] refl)
 
--- one more digit
-pub more_digits : (n i d : ℕ) → n < 10 ^ i → 48 ≤ d → d ≤ 57 → 10 * n + (d - 48) < 10 ^ (i + 1)
-more_digits n i d h l m = let e : 10 ^ (i + 1) ≡ 10 * 10 ^ i = rw add-one (pow-succ' 10 i) in rw e (omega arith)
-
+-- a number of few digits is small
 pub few_digits : (n i len : ℕ) → n < 10 ^ i → i < len → len ≤ 9 → n < 100000000
 few_digits n i len h l m = let e : 10 ^ i ≤ 10 ^ 8 = pow-le-pow_right {n = 10} (omega arith) {i = i} {j = 8} (omega arith) in omega (arith, e)
 
@@ -51,9 +49,5 @@ drop_twice (a ∷ b ∷ []) = refl
 drop_twice (a ∷ b ∷ c ∷ []) = refl
 drop_twice (a ∷ b ∷ c ∷ d ∷ xs) = refl
 
-and_none : (b : Bool) → (b && false) ≡ false
-and_none true = refl
-and_none false = refl
-
 pub not_day : (year month day : List ℕ) → is_day (decimal year) (decimal month) (decimal day) ≡ false → ◌≡◌ {A = Option (ℤ × ℕ × ℕ)} None (day_of year month day)
-not_day year month day h = rw (h, and_none (is_digits 4 4 year && is_digits 2 2 month && is_digits 2 2 day)) refl
+not_day year month day h = rw (h, and_false (is_digits 4 4 year && is_digits 2 2 month && is_digits 2 2 day)) refl

@@ -6,6 +6,7 @@ use Rattle.std.proofs.lemmas.Bool.{leb-true}
 use Rattle.csv.specs.Reading.{is_bom}
 use Rattle.gtfs_text.specs.Sheets.{without_marks, without_front_spaces, without_end_spaces}
 use Rattle.gtfs_text.specs.Values.{decimal, is_digits, is_sixtieth, is_time, seconds_of, time_of}
+use Rattle.gtfs_text.proofs.TestFacts.{both}
 use Rattle.gtfs_text.specs.Laws.{FollowsMarks, StandsBetweenSpaces, SpellsTime}
 
 -- marks
@@ -97,11 +98,6 @@ between_spaces field =
     }
 
 -- times
-
-both : (a b : Bool) → (a && b) ≡ true → (a ≡ true) × (b ≡ true)
-both true true h = (refl, refl)
-both true false h = cc h
-both false b h = cc h
 
 some_where : (b : Bool) (x y : ℕ) → cond b (Some x) None ≡ Some y → (b ≡ true) × (x ≡ y)
 some_where true x y h = (refl, cc h)

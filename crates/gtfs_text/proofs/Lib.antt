@@ -5,3 +5,4 @@ pub mod CellFacts
 pub mod DigitFacts
 pub mod LawFacts
 pub mod PackedFacts
+pub mod TestFacts

@@ -10,7 +10,7 @@ mark = 239 ∷ 187 ∷ 191 ∷ []
 -- a mark at the front goes
 pub one_mark_less : (xs : List ℕ) → starts_with nat_eq xs mark ≡ true → without_marks (drop 3 xs) ≡ without_marks xs
 unfolding without_marks
-one_mark_less [] h = cc h
+one_mark_less [] h = refl
 one_mark_less (a ∷ []) h = grind (arith, h)
 one_mark_less (a ∷ b ∷ []) h = grind (arith, h)
 one_mark_less (a ∷ b ∷ c ∷ rest) h = grind (arith, h)

@@ -6,7 +6,7 @@ use Rattle.std.specs.Str.{is_utf8}
 use Rattle.std.proofs.lemmas.Str.{is_utf8-from_IsUtf8, IsUtf8-from_is_utf8}
 use Rattle.csv.specs.Records.{AllText}
 use Rattle.gtfs_text.specs.Sheets.{without_spaces, is_text, bad_record, table_of, Explains}
-use Rattle.gtfs_text.specs.Faults.{fault_at, IsPlain}
+use Rattle.gtfs_text.specs.Faults.{fault_at}
 use Rattle.csv.specs.Machine.{Read, step, is_end, ends_at_end, next_record, fields_after, field_after}
 use Rattle.csv.specs.Reading.{records, records_from, Reached, default_config, NextIs, ReadsNext, ExplainsRead, source_of, pending_of}
 use Rattle.csv.specs.declared.reader.Reader.{Reader}
@@ -150,15 +150,6 @@ fault_explained rem a b (kind.UnequalLengths pos expected len) xs y rows ec ex h
 fault_explained rem a b (kind.Serialize t) xs y rows ec ex h text why = tt
 fault_explained rem a b (kind.Deserialize pos err) xs y rows ec ex h text why = tt
 fault_explained rem a b kind.OutOfMemory xs y rows ec ex h text why = tt
-
--- a flexible reader tells of no lengths
-pub plain_error : {R : Type 0} (rem : R → Option (List ℕ)) (a b : Reader R) (k : ErrorKind) → a.flexible ≡ true → ExplainsRead rem a b true k → IsPlain k
-plain_error rem a b (kind.Utf8 pos err) f why = tt
-plain_error rem a b (kind.Io e) f why = tt
-plain_error rem a b (kind.UnequalLengths pos expected len) f why = cc (sym f ∙ why.0)
-plain_error rem a b (kind.Serialize t) f why = why
-plain_error rem a b (kind.Deserialize pos err) f why = why
-plain_error rem a b kind.OutOfMemory f why = tt
 
 -- packed records are as many as those that they unpack to
 pub same_length : {X : Type 0} (f : X → List (List ℕ)) (xs : List X) (rows : List (List (List ℕ))) → map f xs ≡ table_of rows → length xs ≡ length rows

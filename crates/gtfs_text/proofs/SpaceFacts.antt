@@ -1,7 +1,8 @@
 -- Spaces at the front and at the end of a field.
-use Rattle.std.proofs.Common.{◌≡◌, ◌≢◌, ℕ, suc, ◌+◌, ◌-◌, ◌<◌, ◌≤◌, Bool, true, false, List, [], ◌∷◌, ◌++◌, length, take, drop, get_or, refl, arith, sym, ◌∙◌, ap, nat_eq, drop-cons, add-one, ◌&&◌}
+use Rattle.std.proofs.Common.{◌≡◌, ◌≢◌, ℕ, suc, ◌+◌, ◌-◌, ◌<◌, ◌≤◌, false, List, [], ◌∷◌, ◌++◌, length, take, drop, get_or, refl, arith, sym, ◌∙◌, ap, nat_eq, drop-cons, add-one}
 use Rattle.std.proofs.Math.Seq.{take-suc}
 use Rattle.std.proofs.lemmas.List.{drop_all}
+use Rattle.gtfs_text.proofs.TestFacts.{and_false}
 use Rattle.gtfs_text.specs.Sheets.{without_front_spaces, without_end_spaces}
 
 front_cons : (c : ℕ) (xs : List ℕ) → c ≡ 32 → without_front_spaces (c ∷ xs) ≡ without_front_spaces xs
@@ -31,10 +32,6 @@ end_space (x ∷ xs) = rw (end_space xs) refl
 length_end : (xs : List ℕ) (c : ℕ) → nat_eq c 32 ≡ false → nat_eq (length (xs ++ c ∷ [])) 0 ≡ false
 length_end [] c e = refl
 length_end (x ∷ xs) c e = grind arith
-
-and_false : (b : Bool) → (b && false) ≡ false
-and_false true = refl
-and_false false = refl
 
 -- and nothing else does
 pub end_other : (xs : List ℕ) (c : ℕ) → nat_eq c 32 ≡ false → without_end_spaces (xs ++ c ∷ []) ≡ xs ++ c ∷ []

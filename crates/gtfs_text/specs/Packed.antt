@@ -43,6 +43,6 @@ unfoldable pub fields_within : ℕ → List ℕ → List (List ℕ)
 fields_within zero packed = []
 fields_within (suc most) packed = if length packed == 0 then [] else first_field packed ∷ fields_within most (next_fields packed)
 
--- the fields of a packed record, none of which has fewer bytes than one
+-- the fields of a packed record: each takes a byte at least, so they are no more than its bytes
 abbrev pub unpacked : List ℕ → List (List ℕ)
 unpacked packed = fields_within (length packed) packed

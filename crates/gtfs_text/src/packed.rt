@@ -1,4 +1,7 @@
-//! Records kept in one text each: for every field its length, and then its bytes.
+//! Packed records: one text each, with every field's length and then its bytes.
+//!
+//! Most fields are short, so a length is one byte where it is below 255. A sheet then needs little more memory
+//! than its file, and no allocation for a record.
 
 ghost use Rattle.std.specs.Prelude.{◌≡◌, ◌<◌, ◌≤◌, ◌++◌, ◌==◌, ◌^◌, true, [], length, map, take, get_or, OnOk, IfSome};
 ghost use Rattle.std.specs.List.{list_all, position_from};
