@@ -1,12 +1,1 @@
-pub mod Times
-pub mod Calls
 pub mod Tables
-pub mod Faults
-pub mod Laws
-pub mod Rows
-pub mod Stops
-pub mod Trips
-pub mod Transfers
-pub mod TripTests
-pub mod StopTimes
-pub mod CallLists

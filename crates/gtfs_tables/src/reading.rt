@@ -3,19 +3,14 @@
 ghost use Rattle.std.specs.Prelude.{◌≡◌, ◌<◌, ◌≤◌, length, IfOk};
 ghost use Rattle.std.specs.Option.{IfSome};
 ghost use Rattle.std.specs.List.{All};
-ghost use Rattle.gtfs_tables.specs.Tables.{IsTransfer};
-ghost use Rattle.gtfs_tables.specs.CallLists.{AreCallLists};
+ghost use Rattle.gtfs_stops.specs.Transfers.{IsTransfer};
+ghost use Rattle.gtfs_calls.specs.CallLists.{AreCallLists};
 
-use crate::calendar::read_calendar;
-use crate::calendar_dates::read_calendar_dates;
-use crate::fault::{FaultKind, FeedFault, FeedFile, fault};
-use crate::opening::open_sheet;
-use crate::stop_times::{CallRows, read_stop_times};
-use crate::stops::{StopIds, StopRows, read_stops};
 use crate::tables::Tables;
-use crate::transfers::{TransferRows, read_transfers};
-use crate::trips::{TripRows, read_trips};
-use crate::values::{CalendarDate, CalendarRow, Skipped};
+use gtfs_calls::{CallRows, read_stop_times};
+use gtfs_rows::{CalendarDate, CalendarRow, FaultKind, FeedFault, FeedFile, Skipped, open_sheet};
+use gtfs_services::{TripRows, read_calendar, read_calendar_dates, read_trips};
+use gtfs_stops::{StopIds, StopRows, TransferRows, read_stops, read_transfers};
 use std::alloc::Global;
 use std::hash::RandomState;
 use std::io::Read;
@@ -67,7 +62,7 @@ fn read_calendars<R: Read + Drop>(
     calendar_dates: Option<R>,
 ) -> Result<Calendars, FeedFault> {
     if calendar.is_none() && calendar_dates.is_none() {
-        return Err(fault(FaultKind::MissingFile, FeedFile::Calendar, 0));
+        return Err(FeedFault::new(FaultKind::MissingFile, FeedFile::Calendar, 0));
     }
     let rows = read_calendar(alloc, keys, calendar)?;
     let dates = read_calendar_dates(alloc, keys, calendar_dates)?;

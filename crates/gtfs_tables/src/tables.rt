@@ -3,9 +3,8 @@
 ghost use Rattle.std.specs.Prelude.{◌≡◌};
 ghost use Rattle.gtfs_tables.specs.Tables.{AreTables};
 
-use crate::id::Id;
-use crate::trip_calls::TripCalls;
-use crate::values::{CalendarDate, CalendarRow, Skipped, Station, Stop, StopTime, Transfer, Trip};
+use gtfs_calls::TripCalls;
+use gtfs_rows::{CalendarDate, CalendarRow, Id, Skipped, Station, Stop, StopTime, Transfer, Trip};
 use std::marker::Model;
 
 /// The rows of a feed that are kept, as values. Stops, stations and trips are numbered from 0, each in the order of its file.

@@ -3,8 +3,8 @@ use Rattle.std.specs.Prelude.{◌≡◌, ◌<◌, ◌+◌, ◌*◌, ◌↔◌, �
 use Rattle.jiff.specs.Types.{Date}
 use Rattle.jiff.specs.Words.{epoch_day, weekday_of, IsBetween, IsYmd}
 use Rattle.gtfs_tables.specs.Tables.{TableValues}
-use Rattle.gtfs_tables.specs.declared.values.DateChange.{DateChange}
-use Rattle.gtfs_tables.specs.declared.values.DateChange.TheVariants.{Added, Removed}
+use Rattle.gtfs_rows.specs.declared.values.DateChange.{DateChange}
+use Rattle.gtfs_rows.specs.declared.values.DateChange.TheVariants.{Added, Removed}
 use Rattle.service_days.specs.Answers.{IsCoverAnswer}
 use Rattle.service_days.specs.Cover.{CoverDays, IsCovered}
 use Rattle.service_days.specs.Runs.{runs}

@@ -5,10 +5,10 @@ use Rattle.std.specs.Str.{bytes_eq}
 use Rattle.std.specs.List.{list_any}
 use Rattle.jiff.specs.Types.{Date}
 use Rattle.jiff.specs.Words.{epoch_day, weekday_of}
-use Rattle.gtfs_tables.specs.declared.values.CalendarRow.{CalendarRow}
-use Rattle.gtfs_tables.specs.declared.values.CalendarDate.{CalendarDate}
-use Rattle.gtfs_tables.specs.declared.values.DateChange.{DateChange}
-use Rattle.gtfs_tables.specs.declared.values.DateChange.TheVariants.{Added, Removed}
+use Rattle.gtfs_rows.specs.declared.values.CalendarRow.{CalendarRow}
+use Rattle.gtfs_rows.specs.declared.values.CalendarDate.{CalendarDate}
+use Rattle.gtfs_rows.specs.declared.values.DateChange.{DateChange}
+use Rattle.gtfs_rows.specs.declared.values.DateChange.TheVariants.{Added, Removed}
 use Rattle.gtfs_tables.specs.Tables.{TableValues}
 
 -- exception_type 1

@@ -2,10 +2,10 @@
 use Rattle.std.proofs.Common.{◌≡◌, ℕ, zero, suc, ◌+◌, ◌==◌, Bool, true, false, List, [], ◌∷◌, ◌++◌, length, get_or, map, refl, sym, ◌∙◌, ap, append-nil, if◌then◌else◌, inl, inr, zero-add, ◌<◌, slice_get, unwrap_or, option_map, Option, Some}
 use Rattle.std.specs.Option.{option_and_then}
 use Rattle.std.proofs.lemmas.Option.{slice_get_read, slice_get-get_or}
-use Rattle.gtfs_tables.specs.declared.values.Place.{Place}
+use Rattle.gtfs_rows.specs.declared.values.Place.{Place}
 use Rattle.gtfs_tables.specs.Tables.{TableValues}
-use Rattle.gtfs_tables.specs.declared.values.Stop.{Stop}
-use Rattle.gtfs_tables.specs.declared.values.Transfer.{Transfer}
+use Rattle.gtfs_rows.specs.declared.values.Stop.{Stop}
+use Rattle.gtfs_rows.specs.declared.values.Transfer.{Transfer}
 use Rattle.timetable.specs.Transfers.{station_of}
 use Rattle.timetable.specs.Groups.{is_child}
 use Rattle.timetable.specs.Index.{leaves_stop, leaves_station, is_stop, is_the_station}

@@ -7,7 +7,7 @@ use Rattle.std.proofs.lemmas.List.Quantifiers.{all_pairs_push}
 use Rattle.std.proofs.lemmas.Option.{slice_get-get_or}
 use Rattle.jiff.specs.Types.{Date}
 use Rattle.gtfs_tables.specs.Tables.{TableValues, AreTables, calls_of}
-use Rattle.gtfs_tables.specs.declared.values.Trip.{Trip}
+use Rattle.gtfs_rows.specs.declared.values.Trip.{Trip}
 use Rattle.service_days.specs.Cover.{CoverDays}
 use Rattle.service_days.specs.Noon.{IsDaysAfter}
 use Rattle.service_days.specs.Runs.{runs}

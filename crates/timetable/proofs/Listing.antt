@@ -7,8 +7,8 @@ use Rattle.std.proofs.Math.Nat.{mul-le-mul_right}
 use Rattle.std.proofs.lemmas.Slice.Zip.{length-zip}
 use Rattle.gtfs_tables.specs.Tables.{TableValues, AreTables, calls_of}
 use Rattle.std.proofs.lemmas.List.FromFn.{length-map-range_with_len}
-use Rattle.gtfs_tables.specs.Times.{filled, times_at}
-use Rattle.gtfs_tables.specs.declared.values.StopTime.{StopTime}
+use Rattle.gtfs_calls.specs.Times.{filled, times_at}
+use Rattle.gtfs_rows.specs.declared.values.StopTime.{StopTime}
 use Rattle.service_days.specs.Cover.{CoverDays}
 use Rattle.timetable.specs.Table.{Run, call_count}
 use Rattle.timetable.specs.Instances.{instance_on, calls_from, call_from}

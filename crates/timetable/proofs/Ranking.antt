@@ -2,7 +2,7 @@
 use Rattle.std.proofs.Common.{Option, ◌≡◌, ℕ, ◌<◌, ◌≤◌, ◌⊎◌, ◌==◌, ◌&&◌, true, false, List, [], ◌∷◌, slice_get, fold, Some, None, refl, sym, ◌∙◌, ap, ap₂, subst, inl, inr, arith, nat_lt, nat_le}
 use Rattle.std.proofs.lemmas.Bool.{cases_Bool, or_cases, or_parts, and_parts, and_cases, ltb-true, ltb-false, leb-true, leb-false, eqb-true, eqb-false}
 use Rattle.std.proofs.lemmas.Option.{same_Some}
-use Rattle.gtfs_tables.specs.declared.values.Transfer.{Transfer}
+use Rattle.gtfs_rows.specs.declared.values.Transfer.{Transfer}
 use Rattle.timetable.specs.declared.transfers.Row.{Row}
 use Rattle.timetable.specs.Transfers.{Outranks, stations_in}
 use Rattle.timetable.specs.Winners.{outranks, better, best_at, leads_to}

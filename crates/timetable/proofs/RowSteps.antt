@@ -14,12 +14,13 @@ use Rattle.std.proofs.lemmas.List.Sums.{sum_by-append}
 use Rattle.std.proofs.lemmas.Map.Lookups.{exact_unsigned}
 use Rattle.std.proofs.lemmas.Map.Views.{All-found, IfSome-get}
 use Rattle.std.proofs.lemmas.Option.{same_Some, slice_get_within, get_or_from_slice_get}
-use Rattle.gtfs_tables.specs.Tables.{TableValues, AreTables, IsPlace, IsTransfer}
-use Rattle.gtfs_tables.specs.declared.values.Place.{Place}
-use Rattle.gtfs_tables.specs.declared.values.Place.TheVariants as places
-use Rattle.gtfs_tables.specs.declared.values.Transfer.{Transfer}
-use Rattle.gtfs_tables.specs.declared.values.TransferType.{TransferType}
-use Rattle.gtfs_tables.specs.declared.values.TransferType.TheVariants.{Recommended, Timed, MinimumTime, NotPossible}
+use Rattle.gtfs_tables.specs.Tables.{TableValues, AreTables}
+use Rattle.gtfs_stops.specs.Transfers.{IsPlace, IsTransfer}
+use Rattle.gtfs_rows.specs.declared.values.Place.{Place}
+use Rattle.gtfs_rows.specs.declared.values.Place.TheVariants as places
+use Rattle.gtfs_rows.specs.declared.values.Transfer.{Transfer}
+use Rattle.gtfs_rows.specs.declared.values.TransferType.{TransferType}
+use Rattle.gtfs_rows.specs.declared.values.TransferType.TheVariants.{Recommended, Timed, MinimumTime, NotPossible}
 use Rattle.timetable.specs.declared.parts.Walk.{Walk}
 use Rattle.timetable.specs.declared.transfers.Row.{Row}
 use Rattle.timetable.specs.Table.{IsRow, walk_count}

@@ -5,10 +5,11 @@ use Rattle.std.proofs.lemmas.List.{get_or-map, take_more}
 use Rattle.std.proofs.lemmas.List.Elements.{All-get_or}
 use Rattle.std.proofs.lemmas.List.FromFn.{length-map-range_with_len}
 use Rattle.std.proofs.lemmas.Slice.Zip.{get_or-zip, length-zip}
-use Rattle.gtfs_tables.specs.Tables.{TableValues, AreTables, AreCalls, calls_of, IsCall as IsStopTime}
-use Rattle.gtfs_tables.specs.Times.{filled, times_at, NeverFall}
-use Rattle.gtfs_tables.specs.declared.values.StopTime.{StopTime}
-use Rattle.gtfs_tables.specs.declared.times.CallTimes.{CallTimes}
+use Rattle.gtfs_tables.specs.Tables.{TableValues, AreTables, calls_of}
+use Rattle.gtfs_calls.specs.CallLists.{AreCalls, IsCall as IsStopTime}
+use Rattle.gtfs_calls.specs.Times.{filled, times_at, NeverFall}
+use Rattle.gtfs_rows.specs.declared.values.StopTime.{StopTime}
+use Rattle.gtfs_calls.specs.declared.times.CallTimes.{CallTimes}
 use Rattle.timetable.specs.declared.parts.Call.{Call}
 use Rattle.timetable.specs.declared.parts.StopId.{StopId}
 use Rattle.timetable.specs.Table.{Run, IsRun, IsCall}

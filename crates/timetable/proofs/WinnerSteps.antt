@@ -3,9 +3,9 @@ use Rattle.std.proofs.Common.{Option, ◌≡◌, ℕ, ◌+◌, ◌<◌, List, []
 use Rattle.std.proofs.lemmas.List.{take_more}
 use Rattle.std.proofs.lemmas.List.Sums.{fold-append}
 use Rattle.std.proofs.lemmas.Option.{slice_get-get_or}
-use Rattle.gtfs_tables.specs.declared.values.Place.TheVariants as places
-use Rattle.gtfs_tables.specs.declared.values.TransferType.TheVariants.{Recommended}
-use Rattle.gtfs_tables.specs.declared.values.Transfer.{Transfer}
+use Rattle.gtfs_rows.specs.declared.values.Place.TheVariants as places
+use Rattle.gtfs_rows.specs.declared.values.TransferType.TheVariants.{Recommended}
+use Rattle.gtfs_rows.specs.declared.values.Transfer.{Transfer}
 use Rattle.timetable.specs.declared.transfers.Row.{Row}
 use Rattle.timetable.specs.Winners.{best_to, best_at}
 

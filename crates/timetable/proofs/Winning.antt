@@ -7,10 +7,10 @@ use Rattle.std.specs.Option.{option_and_then}
 use Rattle.std.proofs.lemmas.Bool.{cases_Bool, or_cases, or_left, or_right, eqb-true, eq-eqb}
 use Rattle.std.proofs.lemmas.Option.{slice_get_within}
 use Rattle.gtfs_tables.specs.Tables.{TableValues}
-use Rattle.gtfs_tables.specs.declared.values.Place.{Place}
-use Rattle.gtfs_tables.specs.declared.values.Place.TheVariants as places
-use Rattle.gtfs_tables.specs.declared.values.Stop.{Stop}
-use Rattle.gtfs_tables.specs.declared.values.Transfer.{Transfer}
+use Rattle.gtfs_rows.specs.declared.values.Place.{Place}
+use Rattle.gtfs_rows.specs.declared.values.Place.TheVariants as places
+use Rattle.gtfs_rows.specs.declared.values.Stop.{Stop}
+use Rattle.gtfs_rows.specs.declared.values.Transfer.{Transfer}
 use Rattle.timetable.specs.declared.transfers.Row.{Row}
 use Rattle.timetable.specs.declared.transfers.TransferIndex.{TransferIndex}
 use Rattle.timetable.specs.Transfers.{station_of, IsPlaceOf, IsCandidate}

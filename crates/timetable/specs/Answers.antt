@@ -1,10 +1,10 @@
 -- What `assemble` answers.
 use Rattle.std.specs.Prelude.{◌≡◌, ℕ, ◌+◌, ◌-◌, ◌<◌, ◌≤◌, ◌⊎◌, List, length, slice_index}
 use Rattle.gtfs_tables.specs.Tables.{TableValues}
-use Rattle.gtfs_tables.specs.declared.fault.FeedFault.{FeedFault}
-use Rattle.gtfs_tables.specs.declared.fault.FaultKind.TheVariants.{Memory, TooMany}
-use Rattle.gtfs_tables.specs.declared.fault.FeedFile.{FeedFile}
-use Rattle.gtfs_tables.specs.declared.fault.FeedFile.TheVariants.{Stops, Trips, Calendar, CalendarDates, StopTimes, Transfers}
+use Rattle.gtfs_rows.specs.declared.fault.FeedFault.{FeedFault}
+use Rattle.gtfs_rows.specs.declared.fault.FaultKind.TheVariants.{Memory, TooMany}
+use Rattle.gtfs_rows.specs.declared.fault.FeedFile.{FeedFile}
+use Rattle.gtfs_rows.specs.declared.fault.FeedFile.TheVariants.{Stops, Trips, Calendar, CalendarDates, StopTimes, Transfers}
 use Rattle.service_days.specs.Cover.{CoverDays}
 use Rattle.timetable.specs.declared.parts.Walk.{Walk}
 use Rattle.timetable.specs.Table.{Table, Run, call_count, walk_count}

@@ -3,8 +3,8 @@ use Rattle.std.specs.Prelude.{◌≡◌, ℕ, ◌==◌, Bool, false, length, sli
 use Rattle.std.specs.Option.{option_map, unwrap_or}
 use Rattle.std.specs.List.{filter, range_with_len}
 use Rattle.gtfs_tables.specs.Tables.{TableValues}
-use Rattle.gtfs_tables.specs.declared.values.Place.{Place}
-use Rattle.gtfs_tables.specs.declared.values.Place.TheVariants as places
+use Rattle.gtfs_rows.specs.declared.values.Place.{Place}
+use Rattle.gtfs_rows.specs.declared.values.Place.TheVariants as places
 use Rattle.timetable.specs.declared.transfers.TransferIndex.{TransferIndex}
 use Rattle.timetable.specs.Groups.{group, AreChildren}
 

@@ -4,9 +4,9 @@ use Rattle.std.specs.Option.{option_and_then, unwrap_or}
 use Rattle.std.specs.List.{All, AllPairs, Contains, zip}
 use Rattle.jiff.specs.Types.{Date}
 use Rattle.gtfs_tables.specs.Tables.{TableValues, calls_of}
-use Rattle.gtfs_tables.specs.Times.{filled}
-use Rattle.gtfs_tables.specs.declared.values.StopTime.{StopTime}
-use Rattle.gtfs_tables.specs.declared.times.CallTimes.{CallTimes}
+use Rattle.gtfs_calls.specs.Times.{filled}
+use Rattle.gtfs_rows.specs.declared.values.StopTime.{StopTime}
+use Rattle.gtfs_calls.specs.declared.times.CallTimes.{CallTimes}
 use Rattle.service_days.specs.Cover.{CoverDays}
 use Rattle.service_days.specs.Noon.{IsDaysAfter}
 use Rattle.service_days.specs.Runs.{runs}

@@ -5,9 +5,9 @@ use Rattle.std.specs.BTreeMap.{BTreeMap, get}
 use Rattle.std.specs.Option.{option_map, unwrap_or}
 use Rattle.std.specs.List.{list_any, filter_map}
 use Rattle.gtfs_tables.specs.Tables.{TableValues}
-use Rattle.gtfs_tables.specs.declared.values.Place.{Place}
-use Rattle.gtfs_tables.specs.declared.values.Place.TheVariants as places
-use Rattle.gtfs_tables.specs.declared.values.Transfer.{Transfer}
+use Rattle.gtfs_rows.specs.declared.values.Place.{Place}
+use Rattle.gtfs_rows.specs.declared.values.Place.TheVariants as places
+use Rattle.gtfs_rows.specs.declared.values.Transfer.{Transfer}
 use Rattle.timetable.specs.declared.transfers.Row.{Row}
 use Rattle.timetable.specs.Transfers.{IsCandidate, Wins, stations_in, seconds_of}
 use Rattle.timetable.specs.declared.parts.Walk.{Walk}

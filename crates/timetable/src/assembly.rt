@@ -2,7 +2,7 @@
 
 ghost use Rattle.std.specs.Prelude.{◌≡◌, ◌≤◌, ◌<◌, IfOk, OnErr, IfErr, length};
 ghost use Rattle.timetable.specs.Answers.{IsTimetable, IsFault};
-ghost use Rattle.gtfs_tables.specs.declared.fault.FaultKind.TheVariants.{TooMany};
+ghost use Rattle.gtfs_rows.specs.declared.fault.FaultKind.TheVariants.{TooMany};
 
 use crate::instances::{count_instances, list_instances};
 use crate::running::running_days;

@@ -1,7 +1,7 @@
 use Rattle.std.proofs.Common.{◌≡◌, ◌≤◌, length, arith, ◌∙◌, ap, get_or}
-use Rattle.gtfs_tables.specs.Times.{filled}
-use Rattle.gtfs_tables.specs.declared.values.StopTime.{StopTime}
-use Rattle.gtfs_tables.specs.declared.times.CallTimes.{CallTimes}
+use Rattle.gtfs_calls.specs.Times.{filled}
+use Rattle.gtfs_rows.specs.declared.values.StopTime.{StopTime}
+use Rattle.gtfs_calls.specs.declared.times.CallTimes.{CallTimes}
 use Rattle.timetable.specs.Instances.{calls_from}
 use Rattle.timetable.proofs.Shifting.{length-filled, run_from, rows_are, whole, time_read, call_more}
 use Rattle.timetable.proofs.instances.calls_on.Goals as goal

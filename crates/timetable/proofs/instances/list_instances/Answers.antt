@@ -1,7 +1,7 @@
 use Rattle.std.proofs.Common.{◌≡◌, ◌++◌, ◌∷◌, [], length, arith, sym, ◌∙◌, ap}
 use Rattle.std.proofs.lemmas.List.Elements.{All-push}
 use Rattle.gtfs_tables.specs.Tables.{calls_of}
-use Rattle.gtfs_tables.specs.declared.values.Trip.{Trip}
+use Rattle.gtfs_rows.specs.declared.values.Trip.{Trip}
 use Rattle.timetable.specs.Table.{Run, IsRun}
 use Rattle.timetable.specs.Instances.{instance_on, calls_from}
 use Rattle.timetable.specs.Running.{listed}

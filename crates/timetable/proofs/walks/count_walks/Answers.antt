@@ -1,5 +1,5 @@
 use Rattle.std.proofs.Common.{◌≡◌, ◌+◌, ◌<◌, ◌≤◌, ◌++◌, ◌∷◌, [], length, arith, sym, ◌∙◌, ap, ap₂, subst}
-use Rattle.gtfs_tables.specs.declared.values.Stop.{Stop}
+use Rattle.gtfs_rows.specs.declared.values.Stop.{Stop}
 use Rattle.timetable.specs.Transfers.{IsRowFrom}
 use Rattle.timetable.proofs.Growing.{each_push, length-push}
 use Rattle.timetable.proofs.RowSteps.{keys_fit, row_from, few_walks, walk_count-push}

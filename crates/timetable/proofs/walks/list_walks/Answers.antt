@@ -1,5 +1,5 @@
 use Rattle.std.proofs.Common.{◌≡◌, ◌+◌, ◌<◌, [], None, length, arith, sym, ◌∙◌, ap, subst}
-use Rattle.gtfs_tables.specs.declared.values.Stop.{Stop}
+use Rattle.gtfs_rows.specs.declared.values.Stop.{Stop}
 use Rattle.timetable.specs.Transfers.{IsRowFrom, IsChange}
 use Rattle.timetable.proofs.Growing.{each_push, length-push}
 use Rattle.timetable.proofs.RowSteps.{keys_fit, row_from, change_is}

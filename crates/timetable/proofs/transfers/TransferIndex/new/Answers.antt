@@ -1,5 +1,5 @@
 use Rattle.std.proofs.Common.{◌∙◌, ap, ◌++◌, ◌∷◌, [], ◌==◌, if◌then◌else◌}
-use Rattle.gtfs_tables.specs.declared.values.Place.TheVariants as places
+use Rattle.gtfs_rows.specs.declared.values.Place.TheVariants as places
 use Rattle.timetable.specs.Groups.{group}
 use Rattle.timetable.specs.Index.{leaves_stop, leaves_station}
 use Rattle.timetable.proofs.WinnerSteps.{blank}

@@ -1,7 +1,7 @@
 use Rattle.std.proofs.Common.{◌≡◌, ℕ, ◌<◌, List, [], length, fold, Option, Some, None, sym, ◌∙◌, ap, subst, arith}
 use Rattle.std.specs.Map.{lookup}
 use Rattle.std.proofs.lemmas.Option.{same_Some}
-use Rattle.gtfs_tables.specs.declared.values.Stop.{Stop}
+use Rattle.gtfs_rows.specs.declared.values.Stop.{Stop}
 use Rattle.std.specs.Ordering.{nat_cmp}
 use Rattle.std.specs.BTreeMap.{get, is_at}
 use Rattle.timetable.specs.declared.transfers.Row.{Row}

@@ -1,0 +1,5 @@
+pub mod CallFacts
+pub mod TimeFacts
+pub mod TripFacts
+pub mod ClockFacts
+pub mod SortFacts

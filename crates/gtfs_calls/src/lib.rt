@@ -1,0 +1,11 @@
+//! The calls of trips: stop_times.txt, and the times of a trip.
+#![tactic(auto)]
+
+mod stop_times;
+mod times;
+mod trip_calls;
+mod trip_tests;
+
+pub use stop_times::{CallRows, read_stop_times};
+pub use times::{CallTimes, fill_times};
+pub use trip_calls::TripCalls;

@@ -1,0 +1,3 @@
+pub mod LawFacts
+pub mod RowFacts
+pub mod TextFacts

@@ -1,0 +1,150 @@
+//! trips.txt.
+
+ghost use Rattle.std.specs.Prelude.{◌≡◌, ◌<◌, ◌≤◌, [], length, map, option_map, IfOk, OnOk};
+ghost use Rattle.std.specs.List.{flat_map, All};
+ghost use Rattle.gtfs_text.specs.Sheets.{row_count};
+ghost use Rattle.gtfs_rows.specs.declared.fault.FeedFile.TheVariants as files;
+ghost use Rattle.gtfs_rows.specs.Faults.{Answers, Passes, fault_at, first_fault};
+ghost use Rattle.gtfs_rows.specs.Rows.{has_new_key, rows_of, texts_in};
+ghost use Rattle.gtfs_services.specs.Trips.{trip_id, trip_ids, trip_tests, trips_tests, trip_values, service_values, AreTripColumns};
+
+use gtfs_rows::{FaultKind, FeedFault, FeedFile, Id, ROW_LIMIT, Texts, Trip, text_under};
+use gtfs_text::Sheet;
+use indexmap::IndexSet;
+use std::alloc::{AllocError, Global};
+use std::hash::RandomState;
+
+/// The rows of trips.txt, the services that they name, and the ids, each numbered as its trip.
+#[derive(Drop)]
+pub struct TripRows<'a> {
+    pub trips: Vec<Trip>,
+    pub services: Vec<Id>,
+    pub ids: Texts<'a>,
+}
+
+#[derive(Clone, Copy)]
+struct TripColumns {
+    id: Option<usize>,
+    service: Option<usize>,
+}
+
+fn trip_columns(sheet: &Sheet) -> TripColumns
+    ensures { AreTripColumns sheet.now result }
+{
+    TripColumns {
+        id: sheet.column("trip_id"),
+        service: sheet.column("service_id"),
+    }
+}
+
+// What is wrong with a row.
+fn row_fault(sheet: &Sheet, columns: TripColumns, is_new: bool, row: usize) -> Option<FaultKind>
+    requires row { row < length sheet.now }
+    requires columns { AreTripColumns sheet.now columns }
+    requires is_new { is_new ≡ has_new_key sheet.now (trip_id sheet.now) row }
+    ensures { option_map (λ kind. fault_at kind files.Trips row) result ≡ first_fault (trip_tests sheet.now row) }
+{
+    if text_under(sheet, columns.id, row).is_empty() {
+        Some(FaultKind::BadField)
+    } else if !is_new {
+        Some(FaultKind::DuplicateKey)
+    } else if text_under(sheet, columns.service, row).is_empty() {
+        Some(FaultKind::BadField)
+    } else {
+        None
+    }
+}
+
+// Tests each row, and gives the ids.
+fn test_rows<'a>(
+    alloc: Global,
+    keys: RandomState,
+    sheet: &'a Sheet,
+    columns: TripColumns,
+) -> Result<Texts<'a>, FeedFault>
+    requires { AreTripColumns sheet.now columns }
+    ensures tests { Passes result (flat_map (trip_tests sheet.now) (rows_of sheet.now)) }
+    ensures ids { IfOk result (λ ids. texts_in ids.keys ≡ trip_ids sheet.now) }
+{
+    let mut ids = IndexSet::with_hasher(alloc, keys);
+    for done in 0..sheet.rows() {
+        let row = done + 1;
+        if !sheet.blank(row) {
+            let is_new = ids.insert(text_under(sheet, columns.id, row))?;
+            if let Some(kind) = row_fault(sheet, columns, is_new, row) {
+                return Err(FeedFault::new(kind, FeedFile::Trips, row));
+            }
+        }
+    }
+    Ok(ids)
+}
+
+// The trips. The texts of services join `services`, where a service's number is its place.
+fn keep_trips<'a>(
+    alloc: Global,
+    sheet: &'a Sheet,
+    columns: TripColumns,
+    services: &mut Texts<'a>,
+) -> Result<Vec<Trip>, AllocError>
+    requires columns { AreTripColumns sheet.now columns }
+    requires few { row_count sheet.now ≤ 999_999_999 }
+    requires empty { services.old.keys ≡ [] }
+    ensures trips { IfOk result (λ trips. trips.items ≡ trip_values sheet.now) }
+    ensures services { OnOk result (texts_in services.new.keys ≡ service_values sheet.now) }
+{
+    let mut trips = Vec::new(alloc);
+    for done in 0..sheet.rows() {
+        let row = done + 1;
+        if !sheet.blank(row) {
+            let id = Id::new(alloc, text_under(sheet, columns.id, row))?;
+            let (number, _) = services.insert_full(text_under(sheet, columns.service, row))?;
+            trips.push(Trip {
+                id,
+                service: number as u32,
+            })?;
+        }
+    }
+    Ok(trips)
+}
+
+// The ids of services.
+fn keep_services(alloc: Global, services: &Texts<'_>) -> Result<Vec<Id>, AllocError>
+    ensures { IfOk result (λ ids. ids.items ≡ texts_in services.now.keys) }
+{
+    let mut ids = Vec::new(alloc);
+    for service in services.iter() {
+        ids.push(Id::new(alloc, service)?)?;
+    }
+    Ok(ids)
+}
+
+/// The rows of trips.txt, where each of its tests holds.
+pub fn read_trips(
+    alloc: Global,
+    keys: RandomState,
+    sheet: &Sheet,
+) -> Result<TripRows<'_>, FeedFault>
+    ensures trips { Answers (λ rows. rows.trips.items) result (trips_tests sheet.now) (trip_values sheet.now) }
+    ensures services { IfOk result (λ rows. rows.services.items ≡ service_values sheet.now) }
+    ensures ids { IfOk result (λ rows. texts_in rows.ids.keys ≡ trip_ids sheet.now) }
+    ensures few { IfOk result (λ rows. length rows.trips.items ≤ 999_999_999) }
+    ensures trip_ids { IfOk result (λ rows. length rows.ids.keys ≡ length rows.trips.items) }
+    ensures known { IfOk result (λ rows. All (λ trip. trip.service < length rows.services.items) rows.trips.items) }
+{
+    let columns = trip_columns(sheet);
+    if columns.id.is_none() || columns.service.is_none() {
+        return Err(FeedFault::new(FaultKind::MissingColumn, FeedFile::Trips, 0));
+    }
+    let ids = test_rows(alloc, keys, sheet, columns)?;
+    if sheet.rows() > ROW_LIMIT {
+        return Err(FeedFault::new(FaultKind::TooMany, FeedFile::Trips, 0));
+    }
+    let mut services = IndexSet::with_hasher(alloc, keys);
+    let trips = keep_trips(alloc, sheet, columns, &mut services)?;
+    let services = keep_services(alloc, &services)?;
+    Ok(TripRows {
+        trips,
+        services,
+        ids,
+    })
+}

@@ -1,0 +1,8 @@
+//! Stops, stations and the transfers between them: stops.txt and transfers.txt.
+#![tactic(auto)]
+
+mod stops;
+mod transfers;
+
+pub use stops::{StopIds, StopRows, read_stops};
+pub use transfers::{TransferRows, read_transfers};

@@ -1,0 +1,242 @@
+//! stops.txt.
+
+ghost use Rattle.std.specs.Prelude.{◌≡◌, ◌<◌, ◌≤◌, length, map, option_map, IfOk, OnOk};
+ghost use Rattle.std.specs.Option.{IfSome};
+ghost use Rattle.std.specs.List.{flat_map, All};
+ghost use Rattle.gtfs_rows.specs.declared.fault.FeedFile.TheVariants as files;
+ghost use Rattle.gtfs_stops.specs.declared.stops.RowKind.TheVariants as row_kinds;
+ghost use Rattle.gtfs_rows.specs.Faults.{Answers, Passes, fault_at, first_fault};
+ghost use Rattle.gtfs_rows.specs.Rows.{has_new_key, rows_of, distinct, number_in, texts_in, AreApart};
+ghost use Rattle.gtfs_stops.specs.Stops.{means_stop, means, parent_stands, stop_id, ids_of_kind, rows_of_kind, stop_among, station_of, stop_values, station_values, stop_tests, stops_tests, AreStopColumns, AreStopIds};
+
+use gtfs_rows::{FaultKind, FeedFault, FeedFile, Id, ROW_LIMIT, Station, Stop, Texts, text_under};
+use gtfs_text::Sheet;
+use indexmap::IndexSet;
+use std::alloc::{AllocError, Global};
+use std::hash::RandomState;
+
+/// The most stops that a feed may have.
+const STOP_LIMIT: usize = 65_534;
+
+/// The rows of stops.txt that are kept, and what its ids name.
+#[derive(Drop)]
+pub struct StopRows<'a> {
+    pub stops: Vec<Stop>,
+    pub stations: Vec<Station>,
+    pub ids: StopIds<'a>,
+}
+
+/// The ids of stops.txt: those of all rows, and those of stops and of stations, which are numbered alike.
+#[derive(Drop)]
+pub struct StopIds<'a> {
+    pub all: Texts<'a>,
+    pub stops: Texts<'a>,
+    pub stations: Texts<'a>,
+}
+
+#[derive(Clone, Copy)]
+struct StopColumns {
+    id: Option<usize>,
+    location_type: Option<usize>,
+    parent: Option<usize>,
+}
+
+// The kinds of rows that are kept.
+#[derive(Clone, Copy)]
+enum RowKind {
+    Stop,
+    Station,
+}
+
+fn stop_columns(sheet: &Sheet) -> StopColumns
+    ensures { AreStopColumns sheet.now result }
+{
+    StopColumns {
+        id: sheet.column("stop_id"),
+        location_type: sheet.column("location_type"),
+        parent: sheet.column("parent_station"),
+    }
+}
+
+// Whether a location_type is that of a stop.
+fn means_stop(text: &str) -> bool
+    ensures { result ≡ means_stop text.now }
+{
+    text.is_empty() || text == "0"
+}
+
+// Whether a location_type is that of rows of this kind.
+fn means(kind: RowKind, text: &str) -> bool
+    ensures { result ≡ means kind text.now }
+{
+    match kind {
+        RowKind::Stop => means_stop(text),
+        RowKind::Station => text == "1",
+    }
+}
+
+// The ids of the rows of a kind, in the whole file, each once.
+fn ids_of<'a>(
+    alloc: Global,
+    keys: RandomState,
+    sheet: &'a Sheet,
+    columns: StopColumns,
+    kind: RowKind,
+) -> Result<Texts<'a>, AllocError>
+    requires { AreStopColumns sheet.now columns }
+    ensures { IfOk result (λ ids. texts_in ids.keys ≡ distinct (ids_of_kind kind sheet.now)) }
+{
+    let mut ids = IndexSet::with_hasher(alloc, keys);
+    for done in 0..sheet.rows() {
+        let row = done + 1;
+        if !sheet.blank(row) && means(kind, text_under(sheet, columns.location_type, row)) {
+            ids.insert(text_under(sheet, columns.id, row))?;
+        }
+    }
+    Ok(ids)
+}
+
+// Whether a parent_station is one that a row may name.
+fn parent_stands(is_stop: bool, parent: &str, stations: &Texts<'_>) -> bool
+    ensures { result ≡ parent_stands is_stop parent.now (texts_in stations.now.keys) }
+{
+    !is_stop || parent.is_empty() || stations.contains(parent)
+}
+
+// What is wrong with a row.
+fn row_fault(
+    sheet: &Sheet,
+    columns: StopColumns,
+    stations: &Texts<'_>,
+    is_new: bool,
+    row: usize,
+) -> Option<FaultKind>
+    requires row { row < length sheet.now }
+    requires columns { AreStopColumns sheet.now columns }
+    requires stations { texts_in stations.now.keys ≡ distinct (ids_of_kind row_kinds.Station sheet.now) }
+    requires is_new { is_new ≡ has_new_key sheet.now (stop_id sheet.now) row }
+    ensures { option_map (λ kind. fault_at kind files.Stops row) result ≡ first_fault (stop_tests sheet.now row) }
+{
+    let is_stop = means_stop(text_under(sheet, columns.location_type, row));
+    if text_under(sheet, columns.id, row).is_empty() {
+        Some(FaultKind::BadField)
+    } else if !is_new {
+        Some(FaultKind::DuplicateKey)
+    } else if !parent_stands(is_stop, text_under(sheet, columns.parent, row), stations) {
+        Some(FaultKind::UnknownReference)
+    } else {
+        None
+    }
+}
+
+// Tests each row, and gives the ids.
+fn test_rows<'a>(
+    alloc: Global,
+    keys: RandomState,
+    sheet: &'a Sheet,
+    columns: StopColumns,
+    stations: &Texts<'a>,
+) -> Result<Texts<'a>, FeedFault>
+    requires columns { AreStopColumns sheet.now columns }
+    requires stations { texts_in stations.now.keys ≡ distinct (ids_of_kind row_kinds.Station sheet.now) }
+    ensures tests { Passes result (flat_map (stop_tests sheet.now) (rows_of sheet.now)) }
+    ensures ids { IfOk result (λ ids. texts_in ids.keys ≡ map (stop_id sheet.now) (rows_of sheet.now)) }
+    ensures apart { OnOk result (AreApart (stop_id sheet.now) (rows_of sheet.now)) }
+{
+    let mut ids = IndexSet::with_hasher(alloc, keys);
+    for done in 0..sheet.rows() {
+        let row = done + 1;
+        if !sheet.blank(row) {
+            let is_new = ids.insert(text_under(sheet, columns.id, row))?;
+            if let Some(kind) = row_fault(sheet, columns, stations, is_new, row) {
+                return Err(FeedFault::new(kind, FeedFile::Stops, row));
+            }
+        }
+    }
+    Ok(ids)
+}
+
+// The stops. A station's number is its place among the ids of stations.
+fn keep_stops(
+    alloc: Global,
+    sheet: &Sheet,
+    columns: StopColumns,
+    stations: &Texts<'_>,
+) -> Result<Vec<Stop>, AllocError>
+    requires columns { AreStopColumns sheet.now columns }
+    requires few { length stations.now.keys ≤ 999_999_999 }
+    ensures { IfOk result (λ stops. stops.items ≡ map (stop_among (texts_in stations.now.keys) sheet.now) (rows_of_kind row_kinds.Stop sheet.now)) }
+{
+    let mut stops = Vec::new(alloc);
+    for done in 0..sheet.rows() {
+        let row = done + 1;
+        if !sheet.blank(row) && means_stop(text_under(sheet, columns.location_type, row)) {
+            let id = Id::new(alloc, text_under(sheet, columns.id, row))?;
+            let station = number_in(stations, text_under(sheet, columns.parent, row));
+            stops.push(Stop { id, station })?;
+        }
+    }
+    Ok(stops)
+}
+
+// The number of a text among others.
+fn number_in(texts: &Texts<'_>, text: &str) -> Option<u32>
+    requires { length texts.now.keys ≤ 999_999_999 }
+    ensures { result ≡ number_in (texts_in texts.now.keys) text.now }
+{
+    match texts.get_index_of(text) {
+        Some(number) => Some(number as u32),
+        None => None,
+    }
+}
+
+// The stations, one for each of these ids.
+fn keep_stations(alloc: Global, ids: &Texts<'_>) -> Result<Vec<Station>, AllocError>
+    ensures { IfOk result (λ stations. stations.items ≡ map station_of (texts_in ids.now.keys)) }
+{
+    let mut stations = Vec::new(alloc);
+    for id in ids.iter() {
+        let id = Id::new(alloc, id)?;
+        stations.push(Station { id })?;
+    }
+    Ok(stations)
+}
+
+/// The rows of stops.txt, where each of its tests holds.
+pub fn read_stops(
+    alloc: Global,
+    keys: RandomState,
+    sheet: &Sheet,
+) -> Result<StopRows<'_>, FeedFault>
+    ensures stops { Answers (λ rows. rows.stops.items) result (stops_tests sheet.now) (stop_values sheet.now) }
+    ensures stations { IfOk result (λ rows. rows.stations.items ≡ station_values sheet.now) }
+    ensures ids { IfOk result (λ rows. AreStopIds sheet.now rows.ids) }
+    ensures few { IfOk result (λ rows. length rows.stops.items ≤ 65_534) }
+    ensures stop_ids { IfOk result (λ rows. length rows.ids.stops.keys ≡ length rows.stops.items) }
+    ensures station_ids { IfOk result (λ rows. length rows.ids.stations.keys ≡ length rows.stations.items) }
+    ensures few_stations { IfOk result (λ rows. length rows.stations.items ≤ 999_999_999) }
+    ensures linked { IfOk result (λ rows. All (λ stop. IfSome stop.station (λ n. n < length rows.stations.items)) rows.stops.items) }
+{
+    let columns = stop_columns(sheet);
+    if columns.id.is_none() {
+        return Err(FeedFault::new(FaultKind::MissingColumn, FeedFile::Stops, 0));
+    }
+    let stations = ids_of(alloc, keys, sheet, columns, RowKind::Station)?;
+    let all = test_rows(alloc, keys, sheet, columns, &stations)?;
+    if sheet.rows() > ROW_LIMIT {
+        return Err(FeedFault::new(FaultKind::TooMany, FeedFile::Stops, 0));
+    }
+    let stops = ids_of(alloc, keys, sheet, columns, RowKind::Stop)?;
+    if stops.len() > STOP_LIMIT {
+        return Err(FeedFault::new(FaultKind::TooMany, FeedFile::Stops, 0));
+    }
+    Ok(StopRows {
+        stops: keep_stops(alloc, sheet, columns, &stations)?,
+        stations: keep_stations(alloc, &stations)?,
+        ids: StopIds {
+            all,
+            stops,
+            stations,
+        },
+    })
+}

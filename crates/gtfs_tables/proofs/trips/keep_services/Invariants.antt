@@ -1,6 +1,0 @@
-use Rattle.std.proofs.Common.{◌≡◌, ◌++◌, map}
-use Rattle.gtfs_tables.specs.Rows.{texts_in}
-use Rattle.gtfs_tables.proofs.trips.keep_services.Given as goal
-
-abbrev pub invariant-loop-service : goal.invariant-loop-service
-invariant-loop-service l = l.ids.items ++ texts_in l.service-iterator ≡ texts_in l.services.keys
