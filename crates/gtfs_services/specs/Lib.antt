@@ -1,1 +1,4 @@
+pub mod Calendar
+pub mod CalendarDates
+pub mod Dates
 pub mod Trips

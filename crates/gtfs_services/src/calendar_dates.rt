@@ -1,18 +1,24 @@
 //! calendar_dates.txt.
 
-ghost use Rattle.std.specs.Prelude.{◌<◌, length};
+ghost use Rattle.std.specs.Prelude.{◌≡◌, ◌<◌, length, Option, List, ℕ, pos};
+ghost use Rattle.std.specs.List.{flat_map};
+ghost use Rattle.gtfs_rows.specs.declared.fault.FeedFile.TheVariants as files;
+ghost use Rattle.gtfs_rows.specs.Faults.{Answers};
+ghost use Rattle.gtfs_rows.specs.Rows.{IsContent, optional_tests, rows_of, table_in};
+ghost use Rattle.gtfs_services.specs.CalendarDates.{change_of, field_tests, calendar_date_tests, calendar_date_value, calendar_dates_tests, calendar_date_values, AreDateColumns};
 
 use gtfs_rows::{
     CalendarDate, DateChange, FaultKind, FeedFault, FeedFile, Id, ROW_LIMIT, open_sheet, text_under,
 };
 use gtfs_text::{Sheet, date};
 use indexmap::IndexSet;
+use jiff::civil::Date;
 use std::alloc::Global;
 use std::hash::RandomState;
 use std::io::Read;
 
-// Services, each on a date, which has one text.
-type ServiceDates<'a> = IndexSet<(&'a str, &'a str), RandomState>;
+// A service, and the year, month and day of a date.
+type ServiceDate<'a> = (&'a str, i16, i8, i8);
 
 #[derive(Clone, Copy)]
 struct DateColumns {
@@ -21,7 +27,9 @@ struct DateColumns {
     exception_type: Option<usize>,
 }
 
-fn date_columns(sheet: &Sheet) -> DateColumns {
+fn date_columns(sheet: &Sheet) -> DateColumns
+    ensures { AreDateColumns sheet.now result }
+{
     DateColumns {
         service: sheet.column("service_id"),
         date: sheet.column("date"),
@@ -30,7 +38,9 @@ fn date_columns(sheet: &Sheet) -> DateColumns {
 }
 
 // What an exception_type says.
-fn change_of(text: &str) -> Option<DateChange> {
+fn change_of(text: &str) -> Option<DateChange>
+    ensures { result ≡ change_of text.now }
+{
     match text {
         "1" => Some(DateChange::Added),
         "2" => Some(DateChange::Removed),
@@ -38,31 +48,37 @@ fn change_of(text: &str) -> Option<DateChange> {
     }
 }
 
-// Tests a row, and gives its values. Its service and date join those of the rows before it.
-fn read_row<'a>(
+fn service_date(service: &str, date: Date) -> ServiceDate<'_>
+    ensures service { result.0.now ≡ service.now }
+    ensures year { result.1 ≡ date.year }
+    ensures month { result.2 ≡ pos date.month }
+    ensures day { result.3 ≡ pos date.day }
+{
+    (service, date.year(), date.month(), date.day())
+}
+
+// The values of a row, where its fields pass their tests.
+fn read_row(
     alloc: Global,
-    sheet: &'a Sheet,
+    sheet: &Sheet,
     columns: DateColumns,
-    dates: &mut ServiceDates<'a>,
     row: usize,
 ) -> Result<CalendarDate, FeedFault>
-    requires { row < length sheet.now }
+    requires row { row < length sheet.now }
+    requires columns { AreDateColumns sheet.now columns }
+    ensures { Answers (λ value. value) result (field_tests sheet.now row) (calendar_date_value sheet.now row) }
 {
+    let bad_field = FeedFault::new(FaultKind::BadField, FeedFile::CalendarDates, row);
     let service = text_under(sheet, columns.service, row);
     if service.is_empty() {
-        return Err(FeedFault::new(FaultKind::BadField, FeedFile::CalendarDates, row));
+        return Err(bad_field);
     }
-    let day = text_under(sheet, columns.date, row);
-    let Some(date) = date(day) else {
-        return Err(FeedFault::new(FaultKind::BadField, FeedFile::CalendarDates, row));
+    let Some(date) = date(text_under(sheet, columns.date, row)) else {
+        return Err(bad_field);
     };
     let Some(change) = change_of(text_under(sheet, columns.exception_type, row)) else {
-        return Err(FeedFault::new(FaultKind::BadField, FeedFile::CalendarDates, row));
+        return Err(bad_field);
     };
-    let is_new = dates.insert((service, day))?;
-    if !is_new {
-        return Err(FeedFault::new(FaultKind::DuplicateKey, FeedFile::CalendarDates, row));
-    }
     Ok(CalendarDate {
         service: Id::new(alloc, service)?,
         date,
@@ -76,13 +92,22 @@ fn read_rows(
     keys: RandomState,
     sheet: &Sheet,
     columns: DateColumns,
-) -> Result<Vec<CalendarDate>, FeedFault> {
-    let mut dates: ServiceDates<'_> = IndexSet::with_hasher(alloc, keys);
+) -> Result<Vec<CalendarDate>, FeedFault>
+    requires { AreDateColumns sheet.now columns }
+    ensures { Answers (λ rows. rows.items) result (flat_map (calendar_date_tests sheet.now) (rows_of sheet.now)) (calendar_date_values sheet.now) }
+{
+    let mut dates: IndexSet<ServiceDate<'_>, RandomState> = IndexSet::with_hasher(alloc, keys);
     let mut rows = Vec::new(alloc);
     for done in 0..sheet.rows() {
         let row = done + 1;
         if !sheet.blank(row) {
-            rows.push(read_row(alloc, sheet, columns, &mut dates, row)?)?;
+            let value = read_row(alloc, sheet, columns, row)?;
+            let service = text_under(sheet, columns.service, row);
+            let is_new = dates.insert(service_date(service, value.date))?;
+            if !is_new {
+                return Err(FeedFault::new(FaultKind::DuplicateKey, FeedFile::CalendarDates, row));
+            }
+            rows.push(value)?;
         }
     }
     Ok(rows)
@@ -93,7 +118,9 @@ fn read_sheet(
     alloc: Global,
     keys: RandomState,
     sheet: &Sheet,
-) -> Result<Vec<CalendarDate>, FeedFault> {
+) -> Result<Vec<CalendarDate>, FeedFault>
+    ensures { Answers (λ rows. rows.items) result (calendar_dates_tests sheet.now) (calendar_date_values sheet.now) }
+{
     let columns = date_columns(sheet);
     if columns.service.is_none() || columns.date.is_none() || columns.exception_type.is_none() {
         return Err(FeedFault::new(FaultKind::MissingColumn, FeedFile::CalendarDates, 0));
@@ -105,12 +132,22 @@ fn read_sheet(
     Ok(rows)
 }
 
-/// The rows of calendar_dates.txt, where each of its tests holds; none where there is no such file.
+/// Reads calendar_dates.txt (GTFS Schedule reference, calendar_dates.txt): one value for each row that isn't blank, in
+/// file order; none where there is no such file. Rows are counted from 1.
+///
+/// The error is the first of these, with its row: `BadCsv` for a record that isn't UTF-8, where the header is row 0;
+/// `MissingColumn`, row 0, where one of the three columns isn't there; then row by row `BadField` for an empty
+/// `service_id`, for a `date` that is no day of the calendar and for an `exception_type` that is neither `1` nor `2`, and
+/// `DuplicateKey` where an earlier row has the service and the day; then `TooMany`, row 0, for more than 999,999,999 rows,
+/// blank ones among them. `ReadFailed` and `Memory` can come in place of any answer. Services and days are looked up under
+/// `keys`, which nobody who writes a feed can know.
 pub fn read_calendar_dates<R: Read + Drop>(
     alloc: Global,
     keys: RandomState,
     reader: Option<R>,
-) -> Result<Vec<CalendarDate>, FeedFault> {
+) -> Result<Vec<CalendarDate>, FeedFault>
+    ensures { (bytes : Option (List ℕ)) → IsContent R.remaining reader bytes → Answers (λ rows. rows.items) result (optional_tests files.CalendarDates calendar_dates_tests bytes) (calendar_date_values (table_in bytes)) }
+{
     if reader.is_none() {
         return Ok(Vec::new(alloc));
     }

@@ -3,8 +3,12 @@
 
 mod calendar;
 mod calendar_dates;
+pub mod laws;
 mod trips;
 
 pub use calendar::read_calendar;
 pub use calendar_dates::read_calendar_dates;
 pub use trips::{TripRows, read_trips};
+
+#[cfg(test)]
+mod tests;

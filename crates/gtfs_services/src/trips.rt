@@ -14,11 +14,14 @@ use indexmap::IndexSet;
 use std::alloc::{AllocError, Global};
 use std::hash::RandomState;
 
-/// The rows of trips.txt, the services that they name, and the ids, each numbered as its trip.
+/// What is kept of trips.txt.
 #[derive(Drop)]
 pub struct TripRows<'a> {
+    /// The trips, in file order.
     pub trips: Vec<Trip>,
+    /// The services that trips name, each once, in the order of their first trips: a trip's `service` is a place here.
     pub services: Vec<Id>,
+    /// The ids of the trips, to look a trip up by: the place of an id is the number of its trip.
     pub ids: Texts<'a>,
 }
 
@@ -118,7 +121,12 @@ fn keep_services(alloc: Global, services: &Texts<'_>) -> Result<Vec<Id>, AllocEr
     Ok(ids)
 }
 
-/// The rows of trips.txt, where each of its tests holds.
+/// Reads trips.txt (GTFS Schedule reference, trips.txt): each row that isn't blank is a trip. Rows are counted from 1.
+///
+/// The error is the first of these, with its row: `MissingColumn`, row 0, where there is no column `trip_id` or no
+/// `service_id`; then row by row `BadField` for an empty `trip_id`, `DuplicateKey` for one that an earlier row has, and
+/// `BadField` for an empty `service_id`; then `TooMany`, row 0, for more than 999,999,999 rows, blank ones among them.
+/// `Memory` can come in place of any answer. Texts are looked up under `keys`, which nobody who writes a feed can know.
 pub fn read_trips(
     alloc: Global,
     keys: RandomState,

@@ -1,0 +1,3 @@
+pub mod CalendarDateFacts
+pub mod CalendarFacts
+pub mod DateFacts
