@@ -3,3 +3,5 @@ pub mod TimeFacts
 pub mod TripFacts
 pub mod ClockFacts
 pub mod SortFacts
+pub mod CallRowFacts
+pub mod LawFacts

@@ -27,7 +27,7 @@ abbrev pub Each : (StopTime → Type 0) → List StopTime → Type 0
 Each P [] = Unit {0}
 Each P (x ∷ xs) = P x × Each P xs
 
-each-from : (P : StopTime → Type 0) (xs : List StopTime) → All P xs → Each P xs
+pub each-from : (P : StopTime → Type 0) (xs : List StopTime) → All P xs → Each P xs
 each-from P [] h = tt
 each-from P (x ∷ xs) h = (h 0 x (omega arith), each-from P xs (All-tail P x xs h))
 
@@ -130,7 +130,7 @@ cross-more : (acc : List StopTime) (x : StopTime) (xs : List StopTime) → Each 
 cross-more acc x [] h n = tt
 cross-more acc x (y ∷ ys) h n = (each-placed (λ a. a.sequence ≡ y.sequence → ⊥) acc x h.0 n.0, cross-more acc x ys h.1 n.1)
 
-fold-rises : (xs acc : List StopTime) → Rises acc → Each (λ y. Each (λ a. a.sequence ≡ y.sequence → ⊥) acc) xs → Differ xs → Rises (fold placed acc xs)
+pub fold-rises : (xs acc : List StopTime) → Rises acc → Each (λ y. Each (λ a. a.sequence ≡ y.sequence → ⊥) acc) xs → Differ xs → Rises (fold placed acc xs)
 fold-rises [] acc r h d = r
 fold-rises (x ∷ xs) acc r h d = fold-rises xs (placed acc x) (rises-placed acc x r h.0) (cross-more acc x xs h.1 d.0) d.1
 
@@ -145,7 +145,7 @@ fold-each : (P : StopTime → Type 0) (xs acc : List StopTime) → Each P acc �
 fold-each P [] acc a h = a
 fold-each P (x ∷ xs) acc a h = fold-each P xs (placed acc x) (each-placed P acc x a h.0) h.1
 
-none-cross : (xs : List StopTime) → Each (λ y. Each (λ a. a.sequence ≡ y.sequence → ⊥) []) xs
+pub none-cross : (xs : List StopTime) → Each (λ y. Each (λ a. a.sequence ≡ y.sequence → ⊥) []) xs
 none-cross [] = tt
 none-cross (x ∷ xs) = (tt, none-cross xs)
 

@@ -1,7 +1,10 @@
 //! The calls of trips: stop_times.txt, and the times of a trip.
 #![tactic(auto)]
 
+pub mod laws;
 mod stop_times;
+#[cfg(test)]
+mod tests;
 mod times;
 mod trip_calls;
 mod trip_tests;

@@ -1,8 +1,13 @@
 //! stop_times.txt.
 
-ghost use Rattle.std.specs.Prelude.{◌≡◌, ◌<◌, ◌≤◌, ◌++◌, [], ◌∷◌, length, IfOk, OnOk, IsPermutation, ℕ};
-ghost use Rattle.std.specs.List.{All, IsDistinct};
-ghost use Rattle.gtfs_calls.specs.StopTimes.{IsKept, place_of, is_place, AreApart};
+ghost use Rattle.std.specs.Prelude.{◌≡◌, ◌<◌, ◌≤◌, ◌++◌, [], ◌∷◌, length, codes, map, not, is_some, if◌then◌else◌, None, Some, Option, List, IfOk, OnOk, IfSome, IsPermutation, ℕ, ◌-◌, min};
+ghost use Rattle.std.specs.List.{All, IsDistinct, flat_map};
+ghost use Rattle.gtfs_text.specs.Sheets.{row_count};
+ghost use Rattle.gtfs_text.specs.Values.{time_of};
+ghost use Rattle.gtfs_rows.specs.declared.fault.FeedFile.TheVariants as files;
+ghost use Rattle.gtfs_rows.specs.Faults.{Answers, Passes};
+ghost use Rattle.gtfs_rows.specs.Rows.{IsContent, opening_tests, rows_of, table_in, texts_in};
+ghost use Rattle.gtfs_calls.specs.StopTimes.{AreApart, AreCallColumns, IsKept, call_lists, call_numbered, call_tests, call_values, is_allowed, is_boarding_rule, is_place, is_skipped, is_time_or_empty, kept_tests, kept_to, place_at, place_of, skipped_calls, stay_at, stay_stands, stop_times_tests};
 ghost use Rattle.gtfs_calls.specs.TripTests.{AreInOrder, calls_of_trip, in_sequence};
 ghost use Rattle.gtfs_calls.specs.CallLists.{AreCallLists};
 
@@ -20,10 +25,12 @@ use std::io::Read;
 // Places of calls: each the number of a trip and a stop_sequence.
 type CallPlaces = IndexSet<(u32, u32), RandomState>;
 
-/// The calls of each trip, and how many rows were skipped.
+/// What is kept of stop_times.txt.
 #[derive(Drop)]
 pub struct CallRows {
+    /// The calls of each trip, by its number, in the order of stop_sequence.
     pub calls: TripCalls,
+    /// How many rows were skipped: those without a stop_id.
     pub skipped: usize,
 }
 
@@ -38,7 +45,18 @@ struct CallColumns {
     drop_off: Option<usize>,
 }
 
-fn call_columns(sheet: &Sheet) -> CallColumns {
+// When a call arrives and departs, and whether passengers may board and alight.
+#[derive(Clone, Copy)]
+struct Stay {
+    arrival: Option<u32>,
+    departure: Option<u32>,
+    board: bool,
+    alight: bool,
+}
+
+fn call_columns(sheet: &Sheet) -> CallColumns
+    ensures { AreCallColumns sheet.now result }
+{
     CallColumns {
         trip: sheet.column("trip_id"),
         stop: sheet.column("stop_id"),
@@ -50,23 +68,44 @@ fn call_columns(sheet: &Sheet) -> CallColumns {
     }
 }
 
-fn is_time_or_empty(text: &str) -> bool {
-    text.is_empty() || time(text).is_some()
-}
-
-// Whether a pickup_type or drop_off_type is one that there is.
-fn is_boarding_rule(text: &str) -> bool {
-    text.is_empty() || text == "0" || text == "1" || text == "2" || text == "3"
-}
-
-// Tests what a call's row says of times, boarding and alighting.
-fn stay_stands(sheet: &Sheet, columns: CallColumns, row: usize) -> bool
-    requires { row < length sheet.now }
+// The time of a field, which may be empty; none where it is neither empty nor a time.
+fn time_if_any(text: &str) -> Option<Option<u32>>
+    ensures { result ≡ (if is_time_or_empty text.now then Some (time_of text.now) else None) }
 {
-    is_time_or_empty(text_under(sheet, columns.arrival, row))
-        && is_time_or_empty(text_under(sheet, columns.departure, row))
-        && is_boarding_rule(text_under(sheet, columns.pickup, row))
-        && is_boarding_rule(text_under(sheet, columns.drop_off, row))
+    if text.is_empty() {
+        return Some(None);
+    }
+    match time(text) {
+        Some(seconds) => Some(Some(seconds)),
+        None => None,
+    }
+}
+
+// Whether a pickup_type lets passengers board, or a drop_off_type alight; none where there is no such type.
+fn allows(rule: &str) -> Option<bool>
+    ensures { result ≡ (if is_boarding_rule rule.now then Some (is_allowed rule.now) else None) }
+{
+    if rule == "1" {
+        Some(false)
+    } else if rule.is_empty() || rule == "0" || rule == "2" || rule == "3" {
+        Some(true)
+    } else {
+        None
+    }
+}
+
+// What a row says of times, boarding and alighting.
+fn stay_of(sheet: &Sheet, columns: CallColumns, row: usize) -> Option<Stay>
+    requires row { row < length sheet.now }
+    requires columns { AreCallColumns sheet.now columns }
+    ensures { result ≡ (if stay_stands sheet.now row then Some (stay_at sheet.now row) else None) }
+{
+    Some(Stay {
+        arrival: time_if_any(text_under(sheet, columns.arrival, row))?,
+        departure: time_if_any(text_under(sheet, columns.departure, row))?,
+        board: allows(text_under(sheet, columns.pickup, row))?,
+        alight: allows(text_under(sheet, columns.drop_off, row))?,
+    })
 }
 
 // Tests the row of a call, and gives its values. Its place joins those of the rows before it.
@@ -79,8 +118,11 @@ fn read_call(
     row: usize,
 ) -> Result<StopTime, FeedFault>
     requires row { row < length sheet.now }
+    requires columns { AreCallColumns sheet.now columns }
     requires stops { length stops.now.keys ≤ 65_534 }
     requires trips { length trips.now.keys ≤ 999_999_999 }
+    requires places { places.old.keys ≡ map (place_at (texts_in trips.now.keys) sheet.now) (kept_to sheet.now (row - 1)) }
+    ensures call { Answers (λ call. call) result (kept_tests (texts_in stops.now.keys) (texts_in trips.now.keys) sheet.now row) (call_numbered (texts_in stops.now.keys) (texts_in trips.now.keys) sheet.now row (min row 999_999_999)) }
     ensures kept { IfOk result (IsKept (length stops.now.keys) (length trips.now.keys)) }
     ensures places { IfOk result (λ call. places.new.keys ≡ places.old.keys ++ place_of call ∷ []) }
     ensures apart { OnOk result (IsDistinct is_place places.new.keys) }
@@ -99,18 +141,18 @@ fn read_call(
     if !is_new {
         return Err(FeedFault::new(FaultKind::DuplicateKey, FeedFile::StopTimes, row));
     }
-    if !stay_stands(sheet, columns, row) {
+    let Some(stay) = stay_of(sheet, columns, row) else {
         return Err(FeedFault::new(FaultKind::BadField, FeedFile::StopTimes, row));
-    }
+    };
     Ok(StopTime {
         row: row.min(ROW_LIMIT) as u32,
         trip,
         stop: stop as u16,
         sequence,
-        arrival: time(text_under(sheet, columns.arrival, row)),
-        departure: time(text_under(sheet, columns.departure, row)),
-        board: text_under(sheet, columns.pickup, row) != "1",
-        alight: text_under(sheet, columns.drop_off, row) != "1",
+        arrival: stay.arrival,
+        departure: stay.departure,
+        board: stay.board,
+        alight: stay.alight,
     })
 }
 
@@ -123,8 +165,12 @@ fn read_rows(
     stops: &Texts<'_>,
     trips: &Texts<'_>,
 ) -> Result<(Vec<StopTime>, usize), FeedFault>
+    requires columns { AreCallColumns sheet.now columns }
     requires stops { length stops.now.keys ≤ 65_534 }
     requires trips { length trips.now.keys ≤ 999_999_999 }
+    ensures tests { Passes result (flat_map (call_tests (texts_in stops.now.keys) (texts_in trips.now.keys) sheet.now) (rows_of sheet.now)) }
+    ensures calls { IfOk result (λ rows. row_count sheet.now ≤ 999_999_999 → rows.0.items ≡ call_values (texts_in stops.now.keys) (texts_in trips.now.keys) sheet.now) }
+    ensures skipped { IfOk result (λ rows. rows.1 ≡ skipped_calls sheet.now) }
     ensures kept { IfOk result (λ rows. All (IsKept (length stops.now.keys) (length trips.now.keys)) rows.0.items) }
     ensures apart { IfOk result (λ rows. AreApart rows.0.items) }
 {
@@ -166,7 +212,9 @@ fn read_sheet(
 ) -> Result<CallRows, FeedFault>
     requires stops { length stops.now.keys ≤ 65_534 }
     requires trips { length trips.now.keys ≤ 999_999_999 }
-    ensures { IfOk result (λ rows. AreCallLists (length stops.now.keys) (length trips.now.keys) rows.calls) }
+    ensures calls { Answers (λ rows. rows.calls) result (stop_times_tests (texts_in stops.now.keys) (texts_in trips.now.keys) sheet.now) (call_lists (texts_in stops.now.keys) (texts_in trips.now.keys) sheet.now) }
+    ensures skipped { IfOk result (λ rows. rows.skipped ≡ skipped_calls sheet.now) }
+    ensures valid { IfOk result (λ rows. AreCallLists (length stops.now.keys) (length trips.now.keys) rows.calls) }
 {
     let columns = call_columns(sheet);
     if columns.trip.is_none() || columns.stop.is_none() || columns.sequence.is_none() {
@@ -181,7 +229,13 @@ fn read_sheet(
     Ok(CallRows { calls, skipped })
 }
 
-/// The calls of stop_times.txt, where each of its tests holds. Stops and trips are numbered as these ids are.
+/// Reads stop_times.txt (GTFS Schedule reference): the calls of each trip where every test of the file holds, else the fault of
+/// the first that doesn't, or `Memory` or `ReadFailed`, which can come at any time.
+///
+/// A stop and a trip have the numbers of their ids in `stops` and `trips`; there is a list of calls for each trip, also where
+/// it has none. A row without a stop_id is skipped and counted, and takes part in no test. Times are seconds from noon less
+/// twelve hours of the service day, and one that is empty stays so: `fill_times` finds it. Ids and places of calls are looked
+/// up under `keys`, which nobody who writes a feed can know.
 pub fn read_stop_times<R: Read + Drop>(
     alloc: Global,
     keys: RandomState,
@@ -191,7 +245,9 @@ pub fn read_stop_times<R: Read + Drop>(
 ) -> Result<CallRows, FeedFault>
     requires stops { length stops.now.keys ≤ 65_534 }
     requires trips { length trips.now.keys ≤ 999_999_999 }
-    ensures { IfOk result (λ rows. AreCallLists (length stops.now.keys) (length trips.now.keys) rows.calls) }
+    ensures calls { (bytes : Option (List ℕ)) → IsContent R.remaining reader bytes → Answers (λ rows. rows.calls) result (opening_tests files.StopTimes bytes ++ stop_times_tests (texts_in stops.now.keys) (texts_in trips.now.keys) (table_in bytes)) (call_lists (texts_in stops.now.keys) (texts_in trips.now.keys) (table_in bytes)) }
+    ensures skipped { (bytes : Option (List ℕ)) → IsContent R.remaining reader bytes → IfOk result (λ rows. rows.skipped ≡ skipped_calls (table_in bytes)) }
+    ensures valid { IfOk result (λ rows. AreCallLists (length stops.now.keys) (length trips.now.keys) rows.calls) }
 {
     let sheet = open_sheet(alloc, FeedFile::StopTimes, reader)?;
     read_sheet(alloc, keys, &sheet, stops, trips)

@@ -75,8 +75,11 @@ fn share(before: Option<(usize, CallTimes)>, after: Option<(usize, CallTimes)>) 
     left.departure + (gap * behind as u128 / (behind as u128 + ahead as u128)) as u32
 }
 
-/// The times of each call of a trip, in place of what `times` held. One empty time copies the other, and a call without
-/// times gets its share of the time between the calls with times around it. On an error `times` may hold anything.
+/// The times of each call of a trip, in place of what `times` held (GTFS Schedule reference, arrival_time and
+/// departure_time). One empty time copies the other. A call without times, i calls behind one that departs at d and n calls
+/// on the way from there to the next one with times, which arrives at a, arrives and departs at d + (a - d) * i / n, rounded
+/// down. Calls without times at an end of the list get 0; `read_stop_times` gives none such. The work grows with
+/// the number of calls. On an error `times` may hold anything.
 pub fn fill_times(calls: &[StopTime], times: &mut Vec<CallTimes>) -> Result<(), AllocError>
     ensures filled { OnOk result (times.new.items ≡ filled calls.now) }
     ensures rising { OnOk result ((stops trip : ℕ) → AreCalls stops trip calls.now → 2 ≤ length calls.now → NeverFall times.new.items) }
