@@ -38,6 +38,10 @@ rows_of_kind kind table = filter (λ row. means kind (location_type table row)) 
 abbrev pub ids_of_kind : RowKind → Table → List (List ℕ)
 ids_of_kind kind table = map (stop_id table) (rows_of_kind kind table)
 
+-- the ids of the stops
+abbrev pub stop_ids : Table → List (List ℕ)
+stop_ids table = ids_of_kind row_kinds.Stop table
+
 -- a parent_station is that of another row, is empty, or names a station of the file
 abbrev pub parent_stands : Bool → List ℕ → List (List ℕ) → Bool
 parent_stands is_stop parent stations = not is_stop || is_empty parent || has_text stations parent

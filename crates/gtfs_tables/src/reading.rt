@@ -1,10 +1,17 @@
 //! Reading the tables of a feed.
 
-ghost use Rattle.std.specs.Prelude.{◌≡◌, ◌<◌, ◌≤◌, length, IfOk};
+ghost use Rattle.std.specs.Prelude.{◌≡◌, ◌<◌, ◌≤◌, ◌||◌, length, is_some, IfOk, Option, List, ℕ};
 ghost use Rattle.std.specs.Option.{IfSome};
 ghost use Rattle.std.specs.List.{All};
-ghost use Rattle.gtfs_stops.specs.Transfers.{IsTransfer};
+ghost use Rattle.gtfs_rows.specs.declared.fault.FeedFile.TheVariants as files;
+ghost use Rattle.gtfs_rows.specs.Faults.{Answers};
+ghost use Rattle.gtfs_rows.specs.Rows.{IsContent, optional_tests, table_in};
+ghost use Rattle.gtfs_services.specs.Calendar.{calendar_values};
+ghost use Rattle.gtfs_services.specs.CalendarDates.{calendar_date_values};
+ghost use Rattle.gtfs_stops.specs.Stops.{lists_in};
+ghost use Rattle.gtfs_stops.specs.Transfers.{IsTransfer, transfers_tests, transfer_values, skipped_transfers};
 ghost use Rattle.gtfs_calls.specs.CallLists.{AreCallLists};
+ghost use Rattle.gtfs_tables.specs.Feed.{Feed, AreReaders, feed_tests, services_tests, values_of};
 
 use crate::tables::Tables;
 use gtfs_calls::{CallRows, read_stop_times};
@@ -34,6 +41,8 @@ fn read_optional_transfers<R: Read + Drop>(
 ) -> Result<TransferRows, FeedFault>
     requires stops { length ids.now.stops.keys ≤ 65_534 }
     requires stations { length ids.now.stations.keys ≤ 999_999_999 }
+    ensures transfers { (bytes : Option (List ℕ)) → IsContent R.remaining reader bytes → Answers (λ rows. rows.transfers.items) result (optional_tests files.Transfers (transfers_tests (lists_in ids.now)) bytes) (transfer_values (lists_in ids.now) (table_in bytes)) }
+    ensures skipped { (bytes : Option (List ℕ)) → IsContent R.remaining reader bytes → IfOk result (λ rows. rows.skipped ≡ skipped_transfers (lists_in ids.now) (table_in bytes)) }
     ensures valid { IfOk result (λ rows. All (IsTransfer (length ids.now.stops.keys) (length ids.now.stations.keys)) rows.transfers.items) }
     ensures few { IfOk result (λ rows. length rows.transfers.items ≤ 999_999_999) }
 {
@@ -45,6 +54,13 @@ fn read_optional_transfers<R: Read + Drop>(
     }
     let sheet = open_sheet(alloc, FeedFile::Transfers, reader)?;
     read_transfers(alloc, &sheet, ids)
+}
+
+// Whether one of two files is there at least.
+fn is_any_there<R>(first: &Option<R>, second: &Option<R>) -> bool
+    ensures { result ≡ (is_some first.now || is_some second.now) }
+{
+    first.is_some() || second.is_some()
 }
 
 // What both files of services say.
@@ -60,8 +76,13 @@ fn read_calendars<R: Read + Drop>(
     keys: RandomState,
     calendar: Option<R>,
     calendar_dates: Option<R>,
-) -> Result<Calendars, FeedFault> {
-    if calendar.is_none() && calendar_dates.is_none() {
+) -> Result<Calendars, FeedFault>
+    ensures rows { (bytes dates : Option (List ℕ)) → IsContent R.remaining calendar bytes → IsContent R.remaining calendar_dates dates
+        → Answers (λ read. read.rows.items) result (services_tests bytes dates) (calendar_values (table_in bytes)) }
+    ensures dates { (bytes dates : Option (List ℕ)) → IsContent R.remaining calendar bytes → IsContent R.remaining calendar_dates dates
+        → IfOk result (λ read. read.dates.items ≡ calendar_date_values (table_in dates)) }
+{
+    if !is_any_there(&calendar, &calendar_dates) {
         return Err(FeedFault::new(FaultKind::MissingFile, FeedFile::Calendar, 0));
     }
     let rows = read_calendar(alloc, keys, calendar)?;
@@ -84,6 +105,17 @@ fn tables_of(
     requires services { All (λ trip. trip.service < length trips.services.items) trips.trips.items }
     requires calls { AreCallLists (length stops.stops.items) (length trips.trips.items) calls.calls }
     requires transfers { All (IsTransfer (length stops.stops.items) (length stops.stations.items)) transfers.transfers.items }
+    ensures { result ≡ record {
+      stops = stops.entry.stops.items;
+      stations = stops.entry.stations.items;
+      services = trips.entry.services.items;
+      trips = trips.entry.trips.items;
+      calendar = calendars.rows.items;
+      calendar_dates = calendars.dates.items;
+      calls = calls.calls;
+      transfers = transfers.transfers.items;
+      skipped = record { calls = calls.skipped; transfers = transfers.skipped };
+    } }
 {
     let skipped = Skipped {
         calls: calls.skipped,
@@ -102,52 +134,24 @@ fn tables_of(
     }
 }
 
-// The files behind stops.txt.
-#[derive(Drop)]
-struct LaterFiles<R> {
-    trips: Option<R>,
-    calendar: Option<R>,
-    calendar_dates: Option<R>,
-    stop_times: Option<R>,
-    transfers: Option<R>,
-}
-
-// The tables of a feed whose stops are read.
-fn read_later<R: Read + Drop>(
+/// Reads the six files of a feed (GTFS Schedule reference): the values of their rows where every test of the feed holds,
+/// else the fault of the first that doesn't, by the order of files, rows and tests in docs/FORMATS.md. `ReadFailed`, where a
+/// file's reader fails, and `Memory` can come in place of any answer.
+///
+/// Ids are looked up under `keys`, which nobody who writes a feed can know.
+pub fn read_tables<R: Read + Drop>(
     alloc: Global,
     keys: RandomState,
-    stops: StopRows<'_>,
-    files: LaterFiles<R>,
+    files: Files<R>,
 ) -> Result<Tables, FeedFault>
-    requires few { length stops.stops.items ≤ 65_534 }
-    requires few_stations { length stops.stations.items ≤ 999_999_999 }
-    requires stop_ids { length stops.ids.stops.keys ≡ length stops.stops.items }
-    requires station_ids { length stops.ids.stations.keys ≡ length stops.stations.items }
-    requires linked { All (λ stop. IfSome stop.station (λ n. n < length stops.stations.items)) stops.stops.items }
+    ensures { (feed : Feed) → AreReaders R.remaining files feed → Answers (λ tables. tables) result (feed_tests feed) (values_of feed) }
 {
+    let stops_sheet = open_sheet(alloc, FeedFile::Stops, files.stops)?;
+    let stops = read_stops(alloc, keys, &stops_sheet)?;
     let trips_sheet = open_sheet(alloc, FeedFile::Trips, files.trips)?;
     let trips = read_trips(alloc, keys, &trips_sheet)?;
     let calendars = read_calendars(alloc, keys, files.calendar, files.calendar_dates)?;
     let calls = read_stop_times(alloc, keys, files.stop_times, &stops.ids.stops, &trips.ids)?;
     let transfers = read_optional_transfers(alloc, files.transfers, &stops.ids)?;
     Ok(tables_of(stops, trips, calendars, calls, transfers))
-}
-
-/// The tables of a feed, or the fault of the first test that it fails. Ids are looked up under `keys`, which nobody
-/// who writes a feed can know.
-pub fn read_tables<R: Read + Drop>(
-    alloc: Global,
-    keys: RandomState,
-    files: Files<R>,
-) -> Result<Tables, FeedFault> {
-    let stops_sheet = open_sheet(alloc, FeedFile::Stops, files.stops)?;
-    let stops = read_stops(alloc, keys, &stops_sheet)?;
-    let later = LaterFiles {
-        trips: files.trips,
-        calendar: files.calendar,
-        calendar_dates: files.calendar_dates,
-        stop_times: files.stop_times,
-        transfers: files.transfers,
-    };
-    read_later(alloc, keys, stops, later)
 }
