@@ -38,7 +38,7 @@ are_starts-one zone first starts e = record {
   capped = λ day low lt. omega arith;
 }
 
-below_or_same : (day n : ℕ) → day < n + 1 → (day < n) ⊎ (day ≡ n)
+pub below_or_same : (day n : ℕ) → day < n + 1 → (day < n) ⊎ (day ≡ n)
 below_or_same day n lt =
     elim (cases_order day n) [
       | inl same ↦ inr same

@@ -3,3 +3,5 @@ pub mod Cover
 pub mod Answers
 pub mod Runs
 pub mod Laws
+pub mod Running
+pub mod Noted

@@ -1,20 +1,25 @@
 //! The days that are covered.
 
-ghost use Rattle.std.specs.Prelude.{◌≡◌, ◌≤◌, ◌<◌, ◌*◌, ℕ, length, slice_index, IfSome, IfNone};
+ghost use Rattle.std.specs.Prelude.{◌≡◌, ◌≤◌, ◌<◌, ◌*◌, ℕ, length, slice_index, IfSome, IfNone, IfOk};
 ghost use Rattle.std.specs.Int.{IsInRange};
 ghost use Rattle.jiff.specs.Types.{Date as PlainDate};
+ghost use Rattle.gtfs_tables.specs.Tables.{AreTables};
 ghost use Rattle.service_days.specs.Answers.{IsCoverAnswer, IsMoment, IsSplit};
 ghost use Rattle.service_days.specs.Cover.{IsCoverRange, AreStarts, IsCovered};
 ghost use Rattle.service_days.specs.Noon.{IsDaysAfter, IsStart};
+ghost use Rattle.service_days.specs.Running.{AreRunning};
 ghost use Rattle.service_days.specs.Runs.{runs};
 
 use crate::dates::{MAX_DAYS, day_after, is_cover_range};
 use crate::fault::DayFault;
+use crate::running;
+use crate::running::Days;
 use crate::runs::runs_on;
 use crate::starts::starts_of;
 use gtfs_tables::Tables;
 use jiff::civil::Date;
 use jiff::tz::TimeZone;
+use std::alloc::{AllocError, Global};
 use std::marker::Model;
 
 /// The largest time of a feed, 167:59:59, in seconds.
@@ -95,9 +100,10 @@ impl Cover {
         self.starts[usize::from(day)]
     }
 
-    // The number of a covered date.
-    fn day_of(&self, date: Date) -> Option<u8>
+    /// The number of a covered date.
+    pub(crate) fn day_of(&self, date: Date) -> Option<u8>
         ensures covered { IfSome result (λ day. IsCovered self.now day date) }
+        ensures within { IfSome result (λ day. day < 14) }
         ensures none { IfNone result ((day : ℕ) → ¬ (IsCovered self.now day date)) }
     {
         let day = u8::try_from(self.first.to_plain().until(date.to_plain())).ok()?;
@@ -130,7 +136,7 @@ impl Cover {
     }
 
     /// Whether a service, by its id, runs on a covered day: an exception adds the date, or the service's calendar has it and
-    /// no exception removes it. It looks through all rows of both files.
+    /// no exception removes it. It looks through all rows of both files; for all services there is `running_days`.
     pub fn runs(&self, tables: &Tables, service: &str, day: u8) -> bool
         requires { day < length self.now.starts }
         ensures { (date : PlainDate) → IsDaysAfter day self.now.first date
@@ -142,5 +148,14 @@ impl Cover {
             service,
             self.date(day),
         )
+    }
+    /// The covered days on which each service runs, in the order of the tables' services: for each the same answers as
+    /// `runs`. It goes once through the calendar and twice through the exceptions, and takes memory for each service that
+    /// they name.
+    pub fn running_days(&self, alloc: Global, tables: &Tables) -> Result<Vec<Days>, AllocError>
+        ensures running { IfOk result (λ running. AreRunning tables.now self.now running.items) }
+        ensures valid { AreTables tables.now }
+    {
+        running::running_days(alloc, self, tables)
     }
 }

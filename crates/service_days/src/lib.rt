@@ -5,11 +5,13 @@ mod cover;
 mod dates;
 mod fault;
 pub mod laws;
+mod running;
 mod runs;
 mod starts;
 
 pub use cover::Cover;
 pub use fault::DayFault;
+pub use running::Days;
 
 #[cfg(test)]
 mod tests;

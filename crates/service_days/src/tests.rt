@@ -1,10 +1,11 @@
 use crate::runs::runs_on;
 use crate::starts::start_second;
 use crate::{Cover, DayFault};
-use gtfs_tables::{CalendarDate, CalendarRow, DateChange, Id};
+use gtfs_tables::{CalendarDate, CalendarRow, DateChange, Files, Id, read_tables};
 use jiff::Timestamp;
 use jiff::civil::Date;
 use jiff::tz::TimeZone;
+use std::hash::RandomState;
 use std::test::Fail;
 
 const CENTRAL: &str = "CET-1CEST,M3.5.0,M10.5.0/3";
@@ -162,6 +163,71 @@ fn dates_of_a_service(rt: HostRuntime) -> Result<(), Fail> {
             runs,
             "{service} {date}"
         );
+    }
+    Ok(())
+}
+
+// An exception wins over the calendar, and an addition over a removal.
+#[test]
+fn a_date_both_added_and_removed(rt: HostRuntime) -> Result<(), Fail> {
+    let tuesday = Date::new(2024, 1, 2)?;
+    let removed = CalendarDate {
+        service: Id::new(rt.alloc(), "WK")?,
+        date: tuesday,
+        change: DateChange::Removed,
+    };
+    let added = CalendarDate {
+        service: Id::new(rt.alloc(), "WK")?,
+        date: tuesday,
+        change: DateChange::Added,
+    };
+    let exceptions = [added, removed];
+    assert!(rt; runs_on(&[], &exceptions, "WK", tuesday));
+    assert!(rt; !runs_on(&[], &exceptions, "SU", tuesday));
+    Ok(())
+}
+
+const TRIPS: &[u8] = b"trip_id,service_id\nT1,SU\nT2,WK\nT3,NO\n";
+
+const CALENDAR: &[u8] =
+    b"service_id,monday,tuesday,wednesday,thursday,friday,saturday,sunday,start_date,end_date\nWK,1,1,1,1,1,0,0,20231201,20240105\nSU,0,0,0,0,0,0,1,20240101,20240131\n";
+
+const CALENDAR_DATES: &[u8] =
+    b"service_id,date,exception_type\nWK,20240102,2\nSU,20240103,1\nWK,20240106,1\nSU,20240107,2\nWK,20240109,1\n";
+
+// Over the week from Monday 2024-01-01: WK runs on weekdays up to Friday the 5th, but not on Tuesday, and on Saturday the
+// 6th. SU has Sundays, but not the 7th, and Wednesday the 3rd. NO is in neither file.
+#[test]
+fn days_of_all_services(rt: HostRuntime) -> Result<(), Fail> {
+    let keys = RandomState::new(&rt).ok().ok_or("keys")?;
+    let feed: Files<&'static [u8]> = Files {
+        stops: Some(b"stop_id\nA\n"),
+        trips: Some(TRIPS),
+        calendar: Some(CALENDAR),
+        calendar_dates: Some(CALENDAR_DATES),
+        stop_times: Some(b"trip_id,stop_id,stop_sequence,arrival_time,departure_time\n"),
+        transfers: None,
+    };
+    let tables = read_tables(rt.alloc(), keys, feed)
+        .ok()
+        .ok_or("the feed holds")?;
+    let cover = Cover::new(Date::new(2024, 1, 1)?, 7, "UTC0")?;
+    let running = cover.running_days(rt.alloc(), &tables)?;
+    assert_eq!(rt; running.len(), 3);
+    let su = [false, false, true, false, false, false, false];
+    let wk = [true, false, true, true, true, true, false];
+    assert_eq!(rt; &running[0][..7], su.as_slice());
+    assert_eq!(rt; &running[1][..7], wk.as_slice());
+    assert_eq!(rt; &running[2][..7], [false; 7].as_slice());
+    assert!(rt; cover.days() == 7);
+    for (service, days) in [("SU", su), ("WK", wk), ("NO", [false; 7])] {
+        for day in 0..7 {
+            assert_eq!(rt;
+                cover.runs(&tables, service, day),
+                days[usize::from(day)],
+                "{service} {day}"
+            );
+        }
     }
     Ok(())
 }
