@@ -1,5 +1,5 @@
 -- Facts about each place of a list, as the list grows by one element or one element is written.
-use Rattle.std.proofs.Common.{◌≡◌, ◌≢◌, ℕ, ◌+◌, ◌<◌, ◌≤◌, ◌⊎◌, List, [], ◌∷◌, ◌++◌, length, get_or, set, sym, ◌∙◌, subst, inl, inr, arith, length-append, get_or-set_same, get_or-set_other, eq-or-lt_of_le}
+use Rattle.std.proofs.Common.{◌≡◌, ℕ, ◌+◌, ◌<◌, ◌≤◌, ◌⊎◌, List, [], ◌∷◌, ◌++◌, length, get_or, sym, ◌∙◌, subst, inl, inr, arith, length-append, eq-or-lt_of_le}
 use Rattle.std.proofs.Math.ListN.{get_or-append}
 use Rattle.std.proofs.Math.Seq.{get_or-append_seam}
 
@@ -17,12 +17,4 @@ each_push P xs x d n len each here k lt = elim (below_or_here k n lt) [
   | inr same ↦
       subst (λ j. P j (get_or (xs ++ x ∷ []) j d)) (len ∙ sym same)
       (subst (P (length xs)) (sym (get_or-append_seam xs x [] d)) (subst (λ j. P j x) (sym len) here))
-]
-
--- what holds of each place below n holds of one place more, where that place is written
-pub each_set : {X : Type 0} (P : ℕ → X → Type 0) (xs : List X) (x d : X) (n : ℕ) → n < length xs
-    → ((k : ℕ) → k < n → P k (get_or xs k d)) → P n x → (k : ℕ) → k < n + 1 → P k (get_or (set xs n x) k d)
-each_set P xs x d n in' each here k lt = elim (below_or_here k n lt) [
-  | inl below ↦ subst (P k) (sym (get_or-set_other xs n k x d (let ne : k ≢ n = omega arith in ne))) (each k below)
-  | inr same ↦ subst (λ j. P j (get_or (set xs n x) j d)) (sym same) (subst (P n) (sym (get_or-set_same xs n x d in')) here)
 ]

@@ -1,23 +1,11 @@
 -- On which covered days services run, as they are kept while instances are listed. Only private clauses cite these words.
-use Rattle.std.specs.Prelude.{◌≡◌, ℕ, zero, suc, ◌<◌, ◌&&◌, nat_le, Bool, false, List, [], ◌∷◌, ◌++◌, length, slice_get, slice_index_or, if◌then◌else◌}
+use Rattle.std.specs.Prelude.{ℕ, zero, suc, ◌&&◌, nat_le, Bool, false, List, [], ◌∷◌, ◌++◌, length, slice_get, slice_index_or, if◌then◌else◌}
 use Rattle.std.specs.Option.{option_map, unwrap_or}
-use Rattle.jiff.specs.Types.{Date}
 use Rattle.gtfs_tables.specs.Tables.{TableValues, calls_of}
 use Rattle.service_days.specs.Cover.{CoverDays}
-use Rattle.service_days.specs.Noon.{IsDaysAfter}
-use Rattle.service_days.specs.Runs.{runs}
+pub use Rattle.service_days.specs.Running.{AreRunning}
 use Rattle.timetable.specs.Table.{Run}
 use Rattle.timetable.specs.Instances.{instance_on}
-
--- the answers say of each covered day whether the service runs on it
-abbrev pub AreDaysOf : TableValues → CoverDays → List ℕ → List Bool → Type 0
-AreDaysOf t c service days =
-    (day : ℕ) (date : Date) → day < length c.starts → IsDaysAfter day c.first date → slice_index_or days day false ≡ runs t service date
-
--- the same of each service
-pub record AreRunning (t : TableValues) (c : CoverDays) (running : List (List Bool)) : Type 0 where
-  pub count : length running ≡ length t.services
-  pub days : (service : ℕ) → service < length t.services → AreDaysOf t c (slice_index_or t.services service []) (slice_index_or running service [])
 
 -- the number of a trip's service
 abbrev pub service_of : TableValues → ℕ → ℕ

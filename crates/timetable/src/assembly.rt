@@ -5,7 +5,6 @@ ghost use Rattle.timetable.specs.Answers.{IsTimetable, IsFault};
 ghost use Rattle.gtfs_rows.specs.declared.fault.FaultKind.TheVariants.{TooMany};
 
 use crate::instances::{count_instances, list_instances};
-use crate::running::running_days;
 use crate::table::Timetable;
 use crate::transfers::TransferIndex;
 use crate::walks::{count_walks, list_walks};
@@ -50,7 +49,7 @@ pub fn assemble(
     ensures ok { IfOk result (IsTimetable tables.now cover.now default_walk) }
     ensures fault { IfErr result (IsFault tables.now cover.now default_walk) }
 {
-    let running = running_days(alloc, tables, cover)?;
+    let running = cover.running_days(alloc, tables)?;
     let counts = count_instances(tables, cover, &running);
     if counts.instances > MOST_INSTANCES {
         return Err(too_many(FeedFile::Trips));

@@ -8,10 +8,10 @@ ghost use Rattle.gtfs_tables.specs.Tables.{calls_of};
 ghost use Rattle.timetable.specs.Running.{AreRunning, listed_all};
 
 use crate::parts::{Call, StopId};
-use crate::running::{Days, is_due};
+use crate::running::is_due;
 use crate::table::Instance;
 use gtfs_tables::{CallTimes, Tables, fill_times};
-use service_days::Cover;
+use service_days::{Cover, Days};
 use std::alloc::{AllocError, Global};
 
 /// How many instances there are, and how many calls they have.

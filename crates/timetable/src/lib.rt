@@ -19,3 +19,6 @@ pub use direct::plain_direct;
 pub use names::{Names, Place};
 pub use parts::{Call, Leg, MOST_STOPS, Numbers, StopId, Walk};
 pub use table::{Instance, Timetable};
+
+#[cfg(test)]
+mod tests;

@@ -1,6 +1,6 @@
 //! The ids of a feed: from an id to what it names, and back.
 
-ghost use Rattle.std.specs.Prelude.{◌≡◌, ℕ, List, [], ◌<◌, ◌≤◌, length, map, slice_index_or, IfOk};
+ghost use Rattle.std.specs.Prelude.{◌≡◌, ℕ, List, [], ◌<◌, ◌≤◌, length, map, slice_index_or, IfOk, IfSome};
 ghost use Rattle.std.specs.List.{position_from};
 ghost use Rattle.std.specs.HashMap.{get_by_text};
 ghost use Rattle.std.specs.Str.{bytes_eq};
@@ -136,7 +136,8 @@ impl Names {
 
     /// The stop of that id; none where the id names a station or nothing.
     pub fn stop_named(&self, id: &str) -> Option<StopId>
-        ensures { result ≡ stop_named self.now id.now }
+        ensures value { result ≡ stop_named self.now id.now }
+        ensures known { IfSome result (λ stop. stop < length self.now.stops) }
     {
         match self.stop_numbers.get(id) {
             Some(number) => Some(StopId::new(*number as u16)),

@@ -5,7 +5,7 @@ use Rattle.timetable.proofs.names.Names.place.Goals as goal
 
 pub returns-in-Some-get : goal.returns-in-Some-get
 returns-in-Some-get c =
-    let none : stop_named c.args.self.now c.args.id.now ≡ None = sym c.stop_named.ensures ∙ c.in_default.is in
+    let none : stop_named c.args.self.now c.args.id.now ≡ None = sym c.stop_named.ensures.value ∙ c.in_default.is in
     rw (← c.self.view_is) (
       ap (λ (names : NameLists). stop_named names c.args.id.now) c.self.view_is ∙ none,
       c.in-Some-get.number.now,
