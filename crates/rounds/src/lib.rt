@@ -1,0 +1,24 @@
+//! The rounds of RAPTOR (Delling, Pajor, Werneck, "Round-Based Public Transit Routing", ALENEX 2012): the least arrivals
+//! after one ride, two rides and so on, the moments that are worth leaving at, and the best journeys' numbers.
+#![tactic(auto)]
+
+mod best;
+mod events;
+mod label;
+pub mod laws;
+mod parts;
+mod plain;
+mod riding;
+mod scratch;
+mod view;
+mod walking;
+
+pub use best::scan;
+pub use events::departures;
+pub use parts::{Path, Rides};
+pub use plain::plain_rounds;
+pub use scratch::Scratch;
+pub use view::{RoundView, Rounds};
+
+#[cfg(test)]
+mod tests;
