@@ -41,5 +41,6 @@ needs_subcommand app = record app { top = record app.top { subcommand_required =
 -- the program: one of its commands must be named
 abbrev pub program_app : App
 program_app =
-    with_subcommand (needs_subcommand (new_app (codes "tp")))
-    (journey_app (codes "direct")).top
+    with_subcommand (with_subcommand (needs_subcommand (new_app (codes "tp")))
+    (journey_app (codes "direct")).top)
+    (journey_app (codes "scan")).top

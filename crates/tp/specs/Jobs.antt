@@ -5,6 +5,7 @@ use Rattle.clap.specs.Words.{Row, Text, Kinds, IsAmong, first_of, one_of}
 use Rattle.clap.specs.declared.error.kind.ErrorKind.{ErrorKind}
 use Rattle.clap.specs.declared.error.kind.ErrorKind.TheVariants as kind
 use Rattle.tp.specs.declared.job.Job.{Job}
+use Rattle.tp.specs.declared.job.Question.{Question}
 use Rattle.tp.specs.declared.job.Task.{Task}
 use Rattle.tp.specs.declared.job.Task.TheVariants as task
 
@@ -20,10 +21,16 @@ Spells (Some text) number = digits_value 10 (without_leading_plus text) ≡ numb
 abbrev pub HasNumber : List Row → Text → ℕ → Type 0
 HasNumber rows option number = Spells (one_of option rows) number
 
--- the command's own words
+-- the words of a question
+pub record IsQuestion (rows : List Row) (question : Question) : Type 0 where
+  pub from : HasText rows (codes "from") question.from.now
+  pub to : HasText rows (codes "to") question.to.now
+  pub at : HasText rows (codes "at") question.at.now
+
+-- the command, and its own words
 abbrev pub IsTask : Text → List Row → Task → Type 0
-IsTask name rows (task.Direct from to at) =
-    (name ≡ codes "direct") × HasText rows (codes "from") from.now × HasText rows (codes "to") to.now × HasText rows (codes "at") at.now
+IsTask name rows (task.Direct question) = (name ≡ codes "direct") × IsQuestion rows question
+IsTask name rows (task.Scan question) = (name ≡ codes "scan") × IsQuestion rows question
 
 -- a command's name and rows give this job
 pub record IsJobOf (name : Text) (rows : List Row) (job : Job) : Type 0 where

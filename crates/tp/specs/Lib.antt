@@ -1,3 +1,5 @@
 pub mod Statuses
 pub mod CommandLine
 pub mod Jobs
+pub mod Answers
+pub mod Tasks

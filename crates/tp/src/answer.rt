@@ -1,16 +1,33 @@
 //! What the program answers.
 
+ghost use Rattle.std.specs.Prelude.{◌≡◌, ◌<◌, ◌≤◌, IfOk, IfErr, Some, length};
+ghost use Rattle.std.specs.List.{AllZip};
+ghost use Rattle.timetable.specs.Table.{stops_of};
+ghost use Rattle.timetable.specs.Names.{stop_named};
+ghost use Rattle.tp.specs.Answers.{IsDirect, IsScan, IsUnknown, Says, Shows};
+
 use crate::fault::Fault;
 use crate::moment::DayTime;
+use rounds::Rides;
 use service_days::Cover;
+use std::alloc::{AllocError, Global};
 use std::fmt;
-use timetable::{Names, StopId, Timetable, plain_direct};
+use timetable::{Names, Numbers, StopId, Timetable, plain_direct};
+
+/// The numbers of a best journey: how many rides, and when it arrives.
+#[derive(Clone, Copy, Debug, PartialEq, Eq)]
+pub struct Point {
+    pub rides: u8,
+    pub at: DayTime,
+}
 
 /// An answer, shown as the program prints it.
-#[derive(Clone, Copy, Debug, PartialEq, Eq)]
+#[derive(Debug, Drop)]
 pub enum Answer {
     NoRide,
     Arrive(DayTime),
+    /// The best journeys' numbers, by rising rides; none where there is no journey.
+    Points(Vec<Point>),
 }
 
 impl fmt::Display for Answer {
@@ -18,38 +35,86 @@ impl fmt::Display for Answer {
         match self {
             Answer::NoRide => write!(f, "no ride"),
             Answer::Arrive(at) => write!(f, "arrive {at}"),
+            Answer::Points(points) => write_points(f, points),
         }
     }
 }
 
-// The stop of an id: a station is none.
-fn stop_of<'a>(names: &Names, id: &'a str) -> Result<StopId, Fault<'a>> {
+// A line for each point, without a line's end behind the last.
+fn write_points<W: fmt::Write>(f: &mut fmt::Formatter<W>, points: &[Point]) -> fmt::Result {
+    if points.is_empty() {
+        return write!(f, "no journey");
+    }
+    for (number, point) in points.iter().enumerate() {
+        if number > 0 {
+            writeln!(f)?;
+        }
+        write!(f, "rides {} arrive {}", point.rides, point.at)?;
+    }
+    Ok(())
+}
+
+/// The stop of an id: a station is none.
+pub fn stop_of<'a>(names: &Names, id: &'a str) -> Result<StopId, Fault<'a>>
+    ensures stop { IfOk result (λ stop. stop_named names.now id.now ≡ Some stop) }
+    ensures known { IfOk result (λ stop. stop < length names.now.stops) }
+    ensures unknown { IfErr result (IsUnknown names.now id.now) }
+{
     match names.stop_named(id) {
         Some(stop) => Ok(stop),
         None => Err(Fault::UnknownStop(id)),
     }
 }
 
-/// The least arrival of one ride from a stop to a stop, by their ids, that departs at the moment or later.
-/// A moment that isn't covered is no moment to leave at.
-pub fn direct<'a>(
-    timetable: &Timetable,
-    names: &Names,
-    cover: &Cover,
-    from: &'a str,
-    to: &'a str,
-    depart: u32,
-) -> Result<Answer, Fault<'a>> {
-    let from = stop_of(names, from)?;
-    let to = stop_of(names, to)?;
-    if !timetable.covers(depart) {
-        return Err(Fault::NotCovered);
-    }
+// A moment, as a time of a service day.
+fn day_time(cover: &Cover, moment: u32) -> DayTime
+    ensures { Says cover.now moment result }
+{
+    let (date, seconds) = cover.split(moment);
+    DayTime { date, seconds }
+}
+
+/// The least arrival of one ride from a stop to a stop that departs at the moment or later.
+pub fn direct(timetable: &Timetable, cover: &Cover, from: StopId, to: StopId, depart: u32) -> Answer
+    ensures { IsDirect timetable.now cover.now from to depart result }
+{
     match plain_direct(timetable, from, to, depart) {
-        None => Ok(Answer::NoRide),
-        Some(leg) => {
-            let (date, seconds) = cover.split(timetable.arrival_of(leg));
-            Ok(Answer::Arrive(DayTime { date, seconds }))
-        }
+        None => Answer::NoRide,
+        Some(leg) => Answer::Arrive(day_time(cover, timetable.arrival_of(leg))),
     }
+}
+
+// Each of these numbers, as a point.
+fn points_of(alloc: Global, cover: &Cover, front: &[Numbers]) -> Result<Vec<Point>, AllocError>
+    ensures { IfOk result (λ points. AllZip (Shows cover.now) front.now points.items) }
+{
+    let mut points = Vec::with_capacity(alloc, front.len())?;
+    for numbers in front {
+        points.push(Point {
+            rides: numbers.rides,
+            at: day_time(cover, numbers.arrival),
+        })?;
+    }
+    Ok(points)
+}
+
+/// The best arrivals from a stop to a stop for one who leaves at the moment, over journeys of at most so many rides.
+/// It fails only where memory runs out.
+pub fn scan(
+    alloc: Global,
+    timetable: &Timetable,
+    cover: &Cover,
+    from: StopId,
+    to: StopId,
+    depart: u32,
+    rides: Rides,
+) -> Result<Answer, AllocError>
+    requires from { from < stops_of timetable.now }
+    requires to { to < stops_of timetable.now }
+    requires early { depart ≤ 4_000_000_000 }
+    ensures { IfOk result (IsScan timetable.now cover.now rides from to depart) }
+{
+    let front = rounds::scan(alloc, timetable, from, to, depart, rides)?;
+    let points = points_of(alloc, cover, front.as_slice())?;
+    Ok(Answer::Points(points))
 }

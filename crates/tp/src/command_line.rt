@@ -13,10 +13,14 @@ use std::alloc::Global;
 const ABOUT: &str = "Plans journeys over a GTFS Schedule feed.";
 
 const EXAMPLES: &str = "\
-Example: tp direct --feed demo/feed-m --date 20240102 --from A --to D --at 08:00:00
+Example: tp scan --feed demo/feed-m --date 20240102 --from A --to D --at 08:00:00
 
 Statuses: 0 done, 1 the feed or its days are at fault, 2 the words are, 6 the question is (an unknown stop,
 a day that isn't covered), 7 memory ran out, 8 standard output refused a write.";
+
+const SCAN: &str =
+    "Prints the best arrivals from a stop to a stop by walks and at most K rides: for each number of rides that \
+arrives earlier than all with fewer, a line.";
 
 const DIRECT: &str = "Prints the least arrival of one ride from a stop to a stop, without walks.";
 
@@ -148,6 +152,7 @@ pub fn matches_of<'a>(alloc: Global, words: &'a [&'a str]) -> Result<ArgMatches<
         .about(ABOUT)
         .after_help(EXAMPLES)
         .subcommand_required(true)
-        .subcommand(journey(alloc, "direct", DIRECT)?)?;
+        .subcommand(journey(alloc, "direct", DIRECT)?)?
+        .subcommand(journey(alloc, "scan", SCAN)?)?;
     program.try_get_matches_from(words)
 }

@@ -60,6 +60,11 @@ impl<'a> From<DayFault> for Fault<'a> {
 }
 
 impl<'a> From<AllocError> for Fault<'a> {
+    ghost use Rattle.std.specs.Prelude.{◌≡◌};
+    ghost use Rattle.tp.specs.declared.fault.Fault.TheVariants.{Memory};
+
+    ghost from_gives = { λ _ e. e ≡ Memory };
+
     fn from(_e: AllocError) -> Fault<'a> {
         Fault::Memory
     }

@@ -1,17 +1,20 @@
 //! Running a job.
 
-ghost use Rattle.std.specs.Prelude.{◌≡◌, ◌⊎◌};
+ghost use Rattle.std.specs.Prelude.{◌≡◌, ◌⊎◌, IfOk, IfErr, length};
+ghost use Rattle.tp.specs.Answers.{IsAnswer, IsRefusal};
+ghost use Rattle.timetable.specs.Table.{stops_of};
 
-use crate::answer::{Answer, direct};
+use crate::answer::{Answer, direct, scan, stop_of};
 use crate::fault::Fault;
-use crate::job::{Job, Task};
+use crate::job::{Job, Question, Task};
 use gtfs_tables::{FaultKind, FeedFault, FeedFile, Files, read_tables};
 use gtfs_text::{date, time};
+use rounds::Rides;
 use service_days::Cover;
 use std::alloc::Global;
 use std::hash::RandomState;
 use std::io::{Read, Write};
-use timetable::{Names, assemble};
+use timetable::{Names, Timetable, assemble};
 
 // No seed for the look-up of ids could be had: nothing of the feed is read.
 const NO_KEYS: FeedFault = FeedFault {
@@ -23,6 +26,34 @@ const NO_KEYS: FeedFault = FeedFault {
 // A moment that no timetable covers.
 const NEVER: u32 = u32::MAX;
 
+// Answers a task over a timetable, leaving at the moment. A moment that isn't covered is no moment to leave at.
+fn perform<'a>(
+    alloc: Global,
+    timetable: &Timetable,
+    names: &Names,
+    cover: &Cover,
+    job: &Job<'a>,
+    depart: u32,
+) -> Result<Answer, Fault<'a>>
+    requires stops { length names.now.stops ≡ stops_of timetable.now }
+    ensures answer { IfOk result (IsAnswer timetable.now cover.now names.now job.now depart) }
+    ensures refusal { IfErr result (IsRefusal timetable.now names.now job.now depart) }
+{
+    let Question { from, to, .. } = job.task.question();
+    let from = stop_of(names, from)?;
+    let to = stop_of(names, to)?;
+    if depart > timetable.horizon() {
+        return Err(Fault::NotCovered);
+    }
+    match job.task {
+        Task::Direct(_) => Ok(direct(timetable, cover, from, to, depart)),
+        Task::Scan(_) => {
+            let rides = Rides::new(job.rides);
+            Ok(scan(alloc, timetable, cover, from, to, depart, rides)?)
+        }
+    }
+}
+
 fn answer<'a, R: Read + Drop>(
     alloc: Global,
     keys: Option<RandomState>,
@@ -30,15 +61,14 @@ fn answer<'a, R: Read + Drop>(
     files: Files<R>,
 ) -> Result<Answer, Fault<'a>> {
     let first = date(job.date).ok_or(Fault::BadDate)?;
-    let Task::Direct { from, to, at } = job.task;
-    let at = time(at).ok_or(Fault::BadTime)?;
+    let at = time(job.task.question().at).ok_or(Fault::BadTime)?;
     let keys = keys.ok_or(Fault::Feed(NO_KEYS))?;
     let tables = read_tables(alloc, keys, files)?;
     let cover = Cover::new(first, job.days, job.zone)?;
     let timetable = assemble(alloc, &tables, &cover, job.default_walk)?;
     let names = Names::of(alloc, keys, &tables)?;
     let depart = cover.moment(first, at).unwrap_or(NEVER);
-    direct(&timetable, &names, &cover, from, to, depart)
+    perform(alloc, &timetable, &names, &cover, job, depart)
 }
 
 /// Does the job over the feed's files: the answer goes to `out`, a fault to `err` behind `tp: `. Gives the status to end

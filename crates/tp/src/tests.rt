@@ -9,15 +9,15 @@ use std::process::Abort;
 use std::random::RandomSource;
 use std::test::Fail;
 
-const STOPS: &[u8] = b"stop_id\nA\nB\nC\nD\nE\n";
+pub(crate) const STOPS: &[u8] = b"stop_id\nA\nB\nC\nD\nE\n";
 
-const TRIPS: &[u8] = b"trip_id,service_id\nT1,WK\nT2,WK\nT3,WK\n";
+pub(crate) const TRIPS: &[u8] = b"trip_id,service_id\nT1,WK\nT2,WK\nT3,WK\n";
 
-const CALENDAR: &[u8] =
+pub(crate) const CALENDAR: &[u8] =
     b"service_id,monday,tuesday,wednesday,thursday,friday,saturday,sunday,start_date,end_date\n\
 WK,1,1,1,1,1,0,0,20240101,20241231\n";
 
-const STOP_TIMES: &[u8] = b"trip_id,stop_id,stop_sequence,arrival_time,departure_time\n\
+pub(crate) const STOP_TIMES: &[u8] = b"trip_id,stop_id,stop_sequence,arrival_time,departure_time\n\
 T1,A,1,08:00:00,08:00:00\n\
 T1,B,2,08:10:00,08:12:00\n\
 T1,C,3,08:30:00,08:30:00\n\
@@ -39,7 +39,7 @@ fn feed<'a>(stops: &'a [u8], stop_times: &'a [u8]) -> Files<&'a [u8]> {
 }
 
 // Runs the words over the files: the status, standard output and standard error are these.
-fn expect<R: Read + Drop>(
+pub(crate) fn expect<R: Read + Drop>(
     rt: &(impl Abort + Alloc<A = Global> + RandomSource),
     files: Files<R>,
     words: &[&str],

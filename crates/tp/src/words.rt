@@ -3,10 +3,10 @@
 ghost use Rattle.std.specs.Prelude.{◌≡◌, IfOk, IfErr, IfSome, map};
 ghost use Rattle.clap.specs.Words.{subcommand_rows_of, subcommand_of, rows_of, found_of, fault_of, kind_of};
 ghost use Rattle.tp.specs.CommandLine.{program_app};
-ghost use Rattle.tp.specs.Jobs.{HasText, HasNumber, IsJob, IsJobOf, IsTask, IsStatus, kind_status};
+ghost use Rattle.tp.specs.Jobs.{HasText, HasNumber, IsJob, IsJobOf, IsQuestion, IsTask, IsStatus, kind_status};
 
 use crate::command_line::matches_of;
-use crate::job::{Job, Task};
+use crate::job::{Job, Question, Task};
 use clap::error::ErrorKind;
 use clap::{ArgMatches, Error};
 use std::alloc::Global;
@@ -31,16 +31,23 @@ fn byte_of(found: &ArgMatches<'_>, option: &str) -> Option<u8>
     u8::try_from(number).ok()
 }
 
-fn task_of<'a>(name: &str, found: &ArgMatches<'a>) -> Option<Task<'a>>
-    ensures { IfSome result (IsTask name.now (rows_of (found_of found.now))) }
+fn question_of<'a>(found: &ArgMatches<'a>) -> Option<Question<'a>>
+    ensures { IfSome result (IsQuestion (rows_of (found_of found.now))) }
 {
     let from = text_of(found, "from")?;
     let to = text_of(found, "to")?;
     let at = text_of(found, "at")?;
-    if name == "direct" {
-        Some(Task::Direct { from, to, at })
-    } else {
-        None
+    Some(Question { from, to, at })
+}
+
+fn task_of<'a>(name: &str, found: &ArgMatches<'a>) -> Option<Task<'a>>
+    ensures { IfSome result (IsTask name.now (rows_of (found_of found.now))) }
+{
+    let question = question_of(found)?;
+    match name {
+        "direct" => Some(Task::Direct(question)),
+        "scan" => Some(Task::Scan(question)),
+        _ => None,
     }
 }
 
