@@ -1,7 +1,6 @@
 -- What the getters of matches give, by the rows.
 use Rattle.std.proofs.Common.{◌≡◌, ◌∙◌, sym, ap, refl, ℕ, List, Option, None, Some, option_map, Bor, Result, Ok, [], ◌∷◌, inl, inr}
 use Rattle.std.specs.Prelude.{IfSome}
-use Rattle.std.specs.Str.Parse.{ParsesUnsigned}
 use Rattle.std.proofs.lemmas.Option.{none-some}
 use Rattle.clap.specs.declared.error.Error.{Error}
 use Rattle.clap.specs.Words.{Kinds, HasKind, kind_of, Text, one_of, rows_of, first_value, ReadsOne}

@@ -3,3 +3,4 @@ pub mod CommandLine
 pub mod Jobs
 pub mod Answers
 pub mod Tasks
+pub mod Feeds

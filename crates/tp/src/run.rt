@@ -1,7 +1,9 @@
 //! Running a job.
 
 ghost use Rattle.std.specs.Prelude.{◌≡◌, ◌⊎◌, IfOk, IfErr, length};
+ghost use Rattle.gtfs_tables.specs.Feed.{Feed, AreReaders};
 ghost use Rattle.tp.specs.Answers.{IsAnswer, IsRefusal};
+ghost use Rattle.tp.specs.Feeds.{IsFeedAnswer};
 ghost use Rattle.timetable.specs.Table.{stops_of};
 
 use crate::answer::{Answer, direct, scan, stop_of};
@@ -54,12 +56,16 @@ fn perform<'a>(
     }
 }
 
-fn answer<'a, R: Read + Drop>(
+/// Answers a job over the feed's files. An answer is given only where the job's date, time and zone are ones, and every test
+/// of the feed holds; it is then the one over the timetable of the feed's rows on the covered days.
+pub fn answer<'a, R: Read + Drop>(
     alloc: Global,
     keys: Option<RandomState>,
     job: &Job<'a>,
     files: Files<R>,
-) -> Result<Answer, Fault<'a>> {
+) -> Result<Answer, Fault<'a>>
+    ensures { (feed : Feed) → AreReaders R.remaining files feed → IfOk result (IsFeedAnswer feed job.now) }
+{
     let first = date(job.date).ok_or(Fault::BadDate)?;
     let at = time(job.task.question().at).ok_or(Fault::BadTime)?;
     let keys = keys.ok_or(Fault::Feed(NO_KEYS))?;

@@ -1,6 +1,6 @@
-use Rattle.std.proofs.Common.{◌≡◌, ◌∙◌, ap, ap₂, sym, subst, refl, map, List, true, IfOk}
+use Rattle.std.proofs.Common.{◌≡◌, ◌∙◌, ap, ap₂, subst, refl, map, List, true}
 use Rattle.std.proofs.lemmas.Result.{IfOk-weaker}
-use Rattle.clap.specs.Words.{App, Text, app_of, with_subcommand, fault_of, FailsBy, subcommand_of, subcommand_rows_of, is_simple, is_simple_and_free, HasMatchesOf}
+use Rattle.clap.specs.Words.{App, Text, app_of, with_subcommand, fault_of, FailsBy, subcommand_of, is_simple, is_simple_and_free}
 use Rattle.clap.specs.Simple.{app_of_fields}
 use Rattle.tp.specs.CommandLine.{program_app, needs_subcommand}
 use Rattle.tp.proofs.command_line.matches_of.Goals as goal

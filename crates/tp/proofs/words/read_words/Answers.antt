@@ -1,5 +1,5 @@
-use Rattle.std.proofs.Common.{◌≡◌, List, ℕ, Bor, map, rules, Err}
-use Rattle.clap.specs.Words.{fault_of, FailsBy}
+use Rattle.std.proofs.Common.{map}
+use Rattle.clap.specs.Words.{fault_of}
 use Rattle.tp.specs.CommandLine.{program_app}
 use Rattle.tp.proofs.WordFacts.{is_status}
 use Rattle.tp.proofs.words.read_words.Goals as goal
