@@ -1,5 +1,5 @@
 -- Rows of stop_times.txt, their tests and their values.
-use Rattle.std.proofs.Common.{◌≡◌, ◌∙◌, sym, ap, subst, refl, arith, ℕ, zero, suc, ◌+◌, ◌-◌, ◌≤◌, Bool, true, false, not, ◌&&◌, cond, Option, Some, None, List, [], ◌∷◌, ◌++◌, Bor, length, map, filter, length-append, min}
+use Rattle.std.proofs.Common.{◌≡◌, ◌∙◌, sym, ap, subst, refl, arith, ℕ, zero, suc, ◌+◌, ◌-◌, ◌≤◌, Bool, true, false, not, ◌&&◌, cond, Option, Some, None, List, [], ◌∷◌, ◌++◌, Bor, length, map, filter, length-append, min, get_or}
 use Rattle.std.specs.Prelude.{is_some, unwrap_or, position}
 use Rattle.std.specs.List.{All, IsDistinct, list_any, range_with_len}
 use Rattle.std.specs.Str.{bytes_eq}
@@ -11,8 +11,8 @@ use Rattle.gtfs_rows.specs.declared.fault.FaultKind.TheVariants as kinds
 use Rattle.gtfs_rows.specs.declared.fault.FeedFile.TheVariants as files
 use Rattle.gtfs_rows.specs.declared.values.StopTime.{StopTime}
 use Rattle.gtfs_rows.specs.Faults.{Test, test, fault_at, first_fault}
-use Rattle.gtfs_rows.specs.Rows.{has_text, number_in, texts_in, rows_to}
-use Rattle.gtfs_rows.proofs.RowFacts.{row_joins, row_skipped, filtered_in, filtered_out}
+use Rattle.gtfs_rows.specs.Rows.{field_under, has_text, number_in, text_under, texts_in, rows_to}
+use Rattle.gtfs_rows.proofs.RowFacts.{row_joins, row_skipped, filtered_in, filtered_out, under-fields}
 use Rattle.gtfs_rows.proofs.TextFacts.{any-texts_in, position-texts_in}
 use Rattle.gtfs_calls.specs.StopTimes.{AreApart, call_numbered, call_tests, call_values, kept_tests, has_new_place, is_place, is_skipped, kept_rows, kept_to, place_at, place_of}
 use Rattle.gtfs_calls.specs.TripTests.{calls_by_trip, calls_of_trip, in_sequence}
@@ -41,6 +41,12 @@ whole-value text n is = ap (λ (p : Option ℕ). unwrap_or p 0) (sym is)
 
 pub pair_is : {a b x y : ℕ} → a ≡ x → b ≡ y → ◌≡◌ {A = ℕ × ℕ} (a, b) (x, y)
 pair_is p q = λ i. (p i, q i)
+
+-- a field of a row, by the row's fields
+pub under : (table : Table) (row : ℕ) (fields : List (Bor (List ℕ))) (text : List ℕ) (column named : Option ℕ) → texts_in fields ≡ get_or table row [] → text ≡ field_under (texts_in fields) column
+    → column ≡ named → text ≡ text_under table named row
+under table row fields text column named same is there =
+    is ∙ under-fields table row (texts_in fields) column same ∙ ap (λ (at : Option ℕ). text_under table at row) there
 
 -- a place is new to those of the kept rows before
 pub new-place : (trips : List (List ℕ)) (table : Table) (row : ℕ) (keys : List (ℕ × ℕ)) (place : ℕ × ℕ) → keys ≡ map (place_at trips table) (kept_to table (row - 1))
@@ -119,7 +125,7 @@ held-values stops trips table few =
     map-each (call_held stops trips table) (λ row. call_numbered stops trips table row row) (kept_rows table)
     (λ k d lt. ap (call_numbered stops trips table _) (min-eq_left (let le = below k d lt in omega arith)))
 
-places-of : (stops trips : List (List ℕ)) (table : Table) (rows : List ℕ) → map place_of (map (call_held stops trips table) rows) ≡ map (place_at trips table) rows
+pub places-of : (stops trips : List (List ℕ)) (table : Table) (rows : List ℕ) → map place_of (map (call_held stops trips table) rows) ≡ map (place_at trips table) rows
 places-of stops trips table [] = refl
 places-of stops trips table (row ∷ rows) = ap (λ (places : List (ℕ × ℕ)). place_at trips table row ∷ places) (places-of stops trips table rows)
 

@@ -5,3 +5,4 @@ pub mod ClockFacts
 pub mod SortFacts
 pub mod CallRowFacts
 pub mod LawFacts
+pub mod PlainFacts

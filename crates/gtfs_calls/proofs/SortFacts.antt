@@ -199,7 +199,7 @@ eqb-flips x y = elim (eqb_tells x y) [
   | inr n ↦ n.0 ∙ sym (ne_eqb y x (λ e. n.1 (sym e)))
 ]
 
-place-flips : (a b : ℕ × ℕ) → is_place a b ≡ is_place b a
+pub place-flips : (a b : ℕ × ℕ) → is_place a b ≡ is_place b a
 place-flips a b = rw (eqb-flips a.0 b.0, eqb-flips a.1 b.1) refl
 
 -- the order of places: by trip, then by stop_sequence

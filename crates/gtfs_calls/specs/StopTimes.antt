@@ -136,6 +136,11 @@ stay_stands table row =
     is_time_or_empty (arrival_time table row) && is_time_or_empty (departure_time table row)
     && is_boarding_rule (pickup_type table row) && is_boarding_rule (drop_off_type table row)
 
+-- each field of a row is one that its column takes, and names a trip and a stop that are there: all tests of a row that is kept, but for that of its place
+abbrev pub stands : List (List ℕ) → List (List ℕ) → Table → ℕ → Bool
+stands stops trips table row =
+    has_text trips (trip_id table row) && has_text stops (stop_id table row) && is_some (whole_of (stop_sequence table row)) && stay_stands table row
+
 -- when a row's call arrives and departs, and who may board and alight
 abbrev pub stay_at : Table → ℕ → Stay
 stay_at table row = record {

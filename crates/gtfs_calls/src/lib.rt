@@ -2,6 +2,7 @@
 #![tactic(auto)]
 
 pub mod laws;
+mod plain_rows;
 mod stop_times;
 #[cfg(test)]
 mod tests;

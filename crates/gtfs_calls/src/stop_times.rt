@@ -1,8 +1,8 @@
 //! stop_times.txt.
 
-ghost use Rattle.std.specs.Prelude.{◌≡◌, ◌<◌, ◌≤◌, ◌++◌, [], ◌∷◌, length, codes, map, not, is_some, if◌then◌else◌, None, Some, Option, List, IfOk, OnOk, IfSome, IsPermutation, ℕ, ◌-◌, min};
+ghost use Rattle.std.specs.Prelude.{◌≡◌, ◌<◌, ◌≤◌, ◌++◌, [], ◌∷◌, length, get_or, codes, map, not, is_some, if◌then◌else◌, None, Some, Option, List, IfOk, OnOk, IfSome, IsPermutation, ℕ, ◌-◌, min};
 ghost use Rattle.std.specs.List.{All, IsDistinct, flat_map};
-ghost use Rattle.gtfs_text.specs.Sheets.{row_count};
+ghost use Rattle.gtfs_text.specs.Sheets.{Table, row_count};
 ghost use Rattle.gtfs_text.specs.Values.{time_of};
 ghost use Rattle.gtfs_rows.specs.declared.fault.FeedFile.TheVariants as files;
 ghost use Rattle.gtfs_rows.specs.Faults.{Answers, Passes};
@@ -11,10 +11,11 @@ ghost use Rattle.gtfs_calls.specs.StopTimes.{AreApart, AreCallColumns, IsKept, c
 ghost use Rattle.gtfs_calls.specs.TripTests.{AreInOrder, calls_of_trip, in_sequence};
 ghost use Rattle.gtfs_calls.specs.CallLists.{AreCallLists};
 
+use crate::plain_rows::{are_in_order, call_of, plain_calls};
 use crate::trip_calls::TripCalls;
 use crate::trip_tests::cut_calls;
 use gtfs_rows::{
-    FaultKind, FeedFault, FeedFile, ROW_LIMIT, StopTime, Texts, open_sheet, text_under,
+    FaultKind, FeedFault, FeedFile, ROW_LIMIT, StopTime, Texts, field_under, open_sheet, text_under,
 };
 use gtfs_text::{Sheet, time, whole};
 use indexmap::IndexSet;
@@ -34,24 +35,25 @@ pub struct CallRows {
     pub skipped: usize,
 }
 
+/// Where the columns of stop_times.txt are.
 #[derive(Clone, Copy)]
-struct CallColumns {
-    trip: Option<usize>,
-    stop: Option<usize>,
-    sequence: Option<usize>,
+pub(crate) struct CallColumns {
+    pub(crate) trip: Option<usize>,
+    pub(crate) stop: Option<usize>,
+    pub(crate) sequence: Option<usize>,
     arrival: Option<usize>,
     departure: Option<usize>,
     pickup: Option<usize>,
     drop_off: Option<usize>,
 }
 
-// When a call arrives and departs, and whether passengers may board and alight.
+/// When a call arrives and departs, and whether passengers may board and alight.
 #[derive(Clone, Copy)]
-struct Stay {
-    arrival: Option<u32>,
-    departure: Option<u32>,
-    board: bool,
-    alight: bool,
+pub(crate) struct Stay {
+    pub(crate) arrival: Option<u32>,
+    pub(crate) departure: Option<u32>,
+    pub(crate) board: bool,
+    pub(crate) alight: bool,
 }
 
 fn call_columns(sheet: &Sheet) -> CallColumns
@@ -94,22 +96,22 @@ fn allows(rule: &str) -> Option<bool>
     }
 }
 
-// What a row says of times, boarding and alighting.
-fn stay_of(sheet: &Sheet, columns: CallColumns, row: usize) -> Option<Stay>
-    requires row { row < length sheet.now }
-    requires columns { AreCallColumns sheet.now columns }
-    ensures { result ≡ (if stay_stands sheet.now row then Some (stay_at sheet.now row) else None) }
+/// What a row says of times, boarding and alighting, by its fields.
+pub(crate) fn stay_of(fields: &[&str], columns: CallColumns) -> Option<Stay>
+    ensures { (table : Table) (row : ℕ) → AreCallColumns table columns → texts_in fields.now ≡ get_or table row []
+        → result ≡ (if stay_stands table row then Some (stay_at table row) else None) }
 {
     Some(Stay {
-        arrival: time_if_any(text_under(sheet, columns.arrival, row))?,
-        departure: time_if_any(text_under(sheet, columns.departure, row))?,
-        board: allows(text_under(sheet, columns.pickup, row))?,
-        alight: allows(text_under(sheet, columns.drop_off, row))?,
+        arrival: time_if_any(field_under(fields, columns.arrival))?,
+        departure: time_if_any(field_under(fields, columns.departure))?,
+        board: allows(field_under(fields, columns.pickup))?,
+        alight: allows(field_under(fields, columns.drop_off))?,
     })
 }
 
 // Tests the row of a call, and gives its values. Its place joins those of the rows before it.
 fn read_call(
+    alloc: Global,
     sheet: &Sheet,
     columns: CallColumns,
     stops: &Texts<'_>,
@@ -130,33 +132,25 @@ fn read_call(
     let Some(trip) = trips.get_index_of(text_under(sheet, columns.trip, row)) else {
         return Err(FeedFault::new(FaultKind::UnknownReference, FeedFile::StopTimes, row));
     };
-    let Some(stop) = stops.get_index_of(text_under(sheet, columns.stop, row)) else {
+    let Some(_) = stops.get_index_of(text_under(sheet, columns.stop, row)) else {
         return Err(FeedFault::new(FaultKind::UnknownReference, FeedFile::StopTimes, row));
     };
     let Some(sequence) = whole(text_under(sheet, columns.sequence, row)) else {
         return Err(FeedFault::new(FaultKind::BadField, FeedFile::StopTimes, row));
     };
-    let trip = trip as u32;
-    let is_new = places.insert((trip, sequence))?;
+    let is_new = places.insert((trip as u32, sequence))?;
     if !is_new {
         return Err(FeedFault::new(FaultKind::DuplicateKey, FeedFile::StopTimes, row));
     }
-    let Some(stay) = stay_of(sheet, columns, row) else {
+    let mut fields = Vec::new(alloc);
+    sheet.fields(row, &mut fields)?;
+    let Some(call) = call_of(&fields, columns, stops, trips, None, row) else {
         return Err(FeedFault::new(FaultKind::BadField, FeedFile::StopTimes, row));
     };
-    Ok(StopTime {
-        row: row.min(ROW_LIMIT) as u32,
-        trip,
-        stop: stop as u16,
-        sequence,
-        arrival: stay.arrival,
-        departure: stay.departure,
-        board: stay.board,
-        alight: stay.alight,
-    })
+    Ok(call)
 }
 
-// Reads each row: the calls in file order, and how many rows were skipped.
+// Reads each row with all its tests: the calls in file order, and how many rows were skipped.
 fn read_rows(
     alloc: Global,
     keys: RandomState,
@@ -183,7 +177,7 @@ fn read_rows(
             if text_under(sheet, columns.stop, row).is_empty() {
                 skipped += 1;
             } else {
-                let call = read_call(sheet, columns, stops, trips, &mut places, row)?;
+                let call = read_call(alloc, sheet, columns, stops, trips, &mut places, row)?;
                 calls.push(call)?;
             }
         }
@@ -193,13 +187,42 @@ fn read_rows(
 
 // Sorts calls by trip, and each trip's by stop_sequence.
 fn sort_calls(calls: &mut Vec<StopTime>) -> Result<(), AllocError>
-    requires { AreApart calls.old.items }
     ensures permutation { IsPermutation calls.old.items calls.new.items }
-    ensures order { OnOk result (AreInOrder calls.new.items) }
-    ensures placed { OnOk result ((trip : ℕ) → calls_of_trip calls.new.items trip ≡ in_sequence (calls_of_trip calls.old.items trip)) }
+    ensures order { OnOk result (AreApart calls.old.items → AreInOrder calls.new.items) }
+    ensures placed { OnOk result (AreApart calls.old.items → (trip : ℕ) → calls_of_trip calls.new.items trip ≡ in_sequence (calls_of_trip calls.old.items trip)) }
 {
     calls.sort_by_key(|call| (call.trip, call.sequence))?;
     Ok(())
+}
+
+// Reads each row: the calls by trip and stop_sequence, and how many rows were skipped. Only where some test of a row fails are
+// the places of calls kept, to find the first that does.
+fn sorted_rows(
+    alloc: Global,
+    keys: RandomState,
+    sheet: &Sheet,
+    columns: CallColumns,
+    stops: &Texts<'_>,
+    trips: &Texts<'_>,
+) -> Result<(Vec<StopTime>, usize), FeedFault>
+    requires columns { AreCallColumns sheet.now columns }
+    requires stops { length stops.now.keys ≤ 65_534 }
+    requires trips { length trips.now.keys ≤ 999_999_999 }
+    ensures tests { Passes result (flat_map (call_tests (texts_in stops.now.keys) (texts_in trips.now.keys) sheet.now) (rows_of sheet.now)) }
+    ensures placed { IfOk result (λ rows. row_count sheet.now ≤ 999_999_999 → (trip : ℕ) → calls_of_trip rows.0.items trip ≡ in_sequence (calls_of_trip (call_values (texts_in stops.now.keys) (texts_in trips.now.keys) sheet.now) trip)) }
+    ensures order { IfOk result (λ rows. AreInOrder rows.0.items) }
+    ensures skipped { IfOk result (λ rows. rows.1 ≡ skipped_calls sheet.now) }
+    ensures kept { IfOk result (λ rows. All (IsKept (length stops.now.keys) (length trips.now.keys)) rows.0.items) }
+{
+    if let Some((mut calls, skipped)) = plain_calls(alloc, sheet, columns, stops, trips)? {
+        sort_calls(&mut calls)?;
+        if are_in_order(&calls) {
+            return Ok((calls, skipped));
+        }
+    }
+    let (mut calls, skipped) = read_rows(alloc, keys, sheet, columns, stops, trips)?;
+    sort_calls(&mut calls)?;
+    Ok((calls, skipped))
 }
 
 // The calls of the file, where each of its tests holds.
@@ -220,11 +243,10 @@ fn read_sheet(
     if columns.trip.is_none() || columns.stop.is_none() || columns.sequence.is_none() {
         return Err(FeedFault::new(FaultKind::MissingColumn, FeedFile::StopTimes, 0));
     }
-    let (mut calls, skipped) = read_rows(alloc, keys, sheet, columns, stops, trips)?;
+    let (calls, skipped) = sorted_rows(alloc, keys, sheet, columns, stops, trips)?;
     if sheet.rows() > ROW_LIMIT {
         return Err(FeedFault::new(FaultKind::TooMany, FeedFile::StopTimes, 0));
     }
-    sort_calls(&mut calls)?;
     let calls = cut_calls(alloc, calls, trips.len())?;
     Ok(CallRows { calls, skipped })
 }

@@ -231,6 +231,16 @@ fn faults_of_rows(rt: HostRuntime) -> Result<(), Fail> {
             2,
         ),
         (
+            b"T1,A,1,08:00:00,,,\nT2,A,1,08:00:00,,,\nT1,B,2,09:00:00,,,\nT2,B,01,09:00:00,,,\nT1,B,1,09:00:00,,,\n".as_slice(),
+            FaultKind::DuplicateKey,
+            4,
+        ),
+        (
+            b"T1,A,1,08:00:00,,,\nT1,A,2,25:61:00,,,\nT1,B,1,09:00:00,,,\n".as_slice(),
+            FaultKind::BadField,
+            2,
+        ),
+        (
             b"T1,A,1,,,,\n,,,,,,\nT1,,1,,,,\nT9,A,1,,,,\n".as_slice(),
             FaultKind::UnknownReference,
             4,

@@ -6,13 +6,13 @@ use Rattle.std.proofs.lemmas.List.Elements.{filter-append}
 use Rattle.std.proofs.lemmas.Grind.{flat_map-append}
 use Rattle.gtfs_rows.specs.declared.fault.FaultKind.{FaultKind}
 use Rattle.gtfs_rows.specs.declared.fault.FaultKind.TheVariants as kinds
-use Rattle.std.specs.Prelude.{is_some, nat_le, option_map}
+use Rattle.std.specs.Prelude.{get_or, is_some, nat_le, option_map}
 use Rattle.std.specs.List.{range_with_len, flat_map, list_all}
 use Rattle.gtfs_text.specs.Sheets.{Table, row_count, column_of, is_blank}
 use Rattle.gtfs_rows.specs.Faults.{Test, test, fault_at, first_fault, Explains}
 use Rattle.gtfs_rows.specs.declared.fault.FeedFile.{FeedFile}
 use Rattle.gtfs_rows.specs.declared.fault.FeedFault.{FeedFault}
-use Rattle.gtfs_rows.specs.Rows.{rows_to, rows_of, table_tests}
+use Rattle.gtfs_rows.specs.Rows.{field_under, text_under, rows_to, rows_of, table_tests}
 
 -- an earlier part of the tests decides
 pub first_more : (xs ys : List Test) → first_fault xs ≡ None → first_fault (xs ++ ys) ≡ first_fault ys
@@ -203,3 +203,8 @@ range_passed tests a (suc n) passed k low high =
     let here = front_passes (tests a) (flat_map tests (range_with_len (a + 1) n)) passed in
     ⊎_elim (λ e. subst (λ (m : ℕ). first_fault (tests m) ≡ None) e here)
     (λ ne. range_passed tests (a + 1) n (sym (first_more (tests a) (flat_map tests (range_with_len (a + 1) n)) here) ∙ passed) k (omega arith) (omega arith)) (cases_eq a k)
+
+-- the fields of a row have under a column what the row has there
+pub under-fields : (table : Table) (row : ℕ) (fields : List (List ℕ)) (column : Option ℕ) → fields ≡ get_or table row [] → field_under fields column ≡ text_under table column row
+under-fields table row fields None same = refl
+under-fields table row fields (Some column) same = ap (λ (texts : List (List ℕ)). get_or texts column []) same

@@ -1,5 +1,5 @@
 -- The rows of a sheet by column names, and the tests that each file has.
-use Rattle.std.specs.Prelude.{◌≡◌, Bool, false, not, ℕ, ◌-◌, List, [], ◌∷◌, ◌++◌, length, map, filter, position, Option, None, Some, is_some, is_none, unwrap_or, nat_le, if◌then◌else◌, ◌==◌, ◌&&◌}
+use Rattle.std.specs.Prelude.{◌≡◌, Bool, false, not, ℕ, ◌-◌, List, [], ◌∷◌, ◌++◌, length, map, filter, get_or, position, Option, None, Some, is_some, is_none, unwrap_or, nat_le, if◌then◌else◌, ◌==◌, ◌&&◌}
 use Rattle.std.specs.List.{list_any, list_all, range_with_len, flat_map, fold, AllPairs}
 use Rattle.std.specs.Str.{bytes_eq}
 use denote.Ref.{Bor}
@@ -12,6 +12,11 @@ use Rattle.gtfs_rows.specs.Faults.{Test, test}
 abbrev pub text_under : Table → Option ℕ → ℕ → List ℕ
 text_under table None row = []
 text_under table (Some column) row = cell table row column
+
+-- what the fields of a row have under a column, if there is that column
+abbrev pub field_under : List (List ℕ) → Option ℕ → List ℕ
+field_under fields None = []
+field_under fields (Some column) = get_or fields column []
 
 -- what a row has under a name
 abbrev pub text_at : Table → List ℕ → ℕ → List ℕ

@@ -11,7 +11,7 @@ mod values;
 pub use fault::{FaultKind, FeedFault, FeedFile};
 pub use id::Id;
 pub use opening::open_sheet;
-pub use rows::{ROW_LIMIT, Texts, text_under};
+pub use rows::{ROW_LIMIT, Texts, field_under, text_under};
 pub use values::{
     CalendarDate, CalendarRow, DateChange, Place, Skipped, Station, Stop, StopTime, Transfer,
     TransferType, Trip,

@@ -13,6 +13,7 @@ ghost use Rattle.gtfs_text.specs.Sheets.{is_text, without_spaces};
 use crate::spaces::without_spaces;
 use csv::StringRecord;
 use std::alloc::AllocError;
+use std::str;
 
 /// The byte that a length of nine bytes begins with; a smaller one is a length itself.
 const LONG: u8 = 255;
@@ -86,6 +87,22 @@ pub(crate) fn field_at(packed: &[u8], column: usize) -> &[u8]
         rest = after;
     }
     b""
+}
+
+/// The fields of a packed record of text, in place of what `fields` held.
+pub(crate) fn unpack<'a>(packed: &'a [u8], fields: &mut Vec<&'a str>) -> Result<(), AllocError>
+    requires { is_text (unpacked packed.now) ≡ true }
+    ensures { OnOk result (map (λ field. field.now) fields.new.items ≡ unpacked packed.now) }
+{
+    fields.clear();
+    let mut rest = packed;
+    while !rest.is_empty() {
+        let (field, after) = split_field(rest);
+        // The record is text, and so is each field of it.
+        fields.push(unsafe { str::from_utf8_unchecked(field) })?;
+        rest = after;
+    }
+    Ok(())
 }
 
 /// The number of fields of a packed record.

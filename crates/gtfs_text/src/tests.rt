@@ -65,6 +65,21 @@ fn short_long_and_blank_records(rt: HostRuntime) -> Result<(), Fail> {
 }
 
 #[test]
+fn fields_of_rows(rt: HostRuntime) -> Result<(), Fail> {
+    let sheet = sheet_of(rt.alloc(), b" id ,name\n1,\"a, b\" , x\n\n2\n ,\n")?;
+    let mut fields = Vec::new(rt.alloc());
+    sheet.fields(0, &mut fields)?;
+    assert!(rt; fields.as_slice() == ["id", "name"].as_slice());
+    sheet.fields(1, &mut fields)?;
+    assert!(rt; fields.as_slice() == ["1", "a, b", "x"].as_slice());
+    sheet.fields(2, &mut fields)?;
+    assert!(rt; fields.as_slice() == ["2"].as_slice());
+    sheet.fields(3, &mut fields)?;
+    assert!(rt; fields.as_slice() == ["", ""].as_slice());
+    Ok(())
+}
+
+#[test]
 fn no_records(rt: HostRuntime) -> Result<(), Fail> {
     for file in [
         b"".as_slice(),

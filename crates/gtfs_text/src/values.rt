@@ -1,6 +1,6 @@
 //! The values that fields spell, by their types (GTFS Schedule reference, "Field types").
 
-ghost use Rattle.std.specs.Prelude.{◌≡◌, ◌<◌, ◌≤◌, ◌^◌, ◌+◌, true, length, option_map};
+ghost use Rattle.std.specs.Prelude.{◌≡◌, ◌<◌, ◌≤◌, ◌^◌, ◌&&◌, true, None, Some, length, drop, nat_le, if◌then◌else◌, option_map};
 ghost use Rattle.std.specs.List.{list_all};
 ghost use Rattle.std.specs.Char.{is_ascii_digit};
 ghost use Rattle.gtfs_text.specs.Values.{date_of, day_of, ymd, decimal, is_digits, whole_of, time_of, is_sixtieth};
@@ -47,14 +47,29 @@ pub fn whole(text: &str) -> Option<u32>
     }
 }
 
-// Whether this is `:` and two digits that spell at most 59.
-fn is_sixtieth(text: &[u8]) -> bool
-    ensures { result ≡ is_sixtieth text.now }
+// The hours that one to three digits spell, where they are at most 167.
+fn hours(text: &[u8]) -> Option<u32>
+    ensures { result ≡ (if is_digits 1 3 text.now && nat_le (decimal text.now) 167 then Some (decimal text.now) else None) }
 {
-    match text {
-        [b':', digits @ ..] => is_digits(2, 2, digits) && decimal(digits) <= 59,
-        _ => false,
+    if !is_digits(1, 3, text) {
+        return None;
     }
+    let hours = decimal(text);
+    if hours <= 167 { Some(hours) } else { None }
+}
+
+// The minutes or the seconds that `:` and two digits spell, where they are at most 59.
+fn sixtieth(text: &[u8]) -> Option<u32>
+    ensures { result ≡ (if is_sixtieth text.now then Some (decimal (drop 1 text.now)) else None) }
+{
+    let [b':', tens, ones] = text else {
+        return None;
+    };
+    if !tens.is_ascii_digit() || !ones.is_ascii_digit() {
+        return None;
+    }
+    let number = 10 * (*tens - b'0') as u32 + (*ones - b'0') as u32;
+    if number <= 59 { Some(number) } else { None }
 }
 
 /// The seconds that a "Time" counts from noon minus 12 hours of its service day; None where the text is no time.
@@ -63,17 +78,12 @@ pub fn time(text: &str) -> Option<u32>
     ensures { result ≡ time_of text.now }
 {
     let bytes = text.as_bytes();
-    let (hours, rest) = bytes.split_at(bytes.len().saturating_sub(6));
-    let (minutes, seconds) = rest.split_at(rest.len().min(3));
-    if is_digits(1, 3, hours)
-        && decimal(hours) <= 167
-        && is_sixtieth(minutes)
-        && is_sixtieth(seconds)
-    {
-        Some(3600 * decimal(hours) + 60 * decimal(&minutes[1..]) + decimal(&seconds[1..]))
-    } else {
-        None
-    }
+    let (hours_text, rest) = bytes.split_at(bytes.len().saturating_sub(6));
+    let (minutes_text, seconds_text) = rest.split_at(rest.len().min(3));
+    let hours = hours(hours_text)?;
+    let minutes = sixtieth(minutes_text)?;
+    let seconds = sixtieth(seconds_text)?;
+    Some(3600 * hours + 60 * minutes + seconds)
 }
 
 // The day of the calendar whose year, month and day these digits spell.
