@@ -1,0 +1,5 @@
+mod Clock
+mod Covered
+mod Filled
+mod Replayed
+mod Sound

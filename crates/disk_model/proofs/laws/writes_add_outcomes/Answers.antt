@@ -1,0 +1,5 @@
+use Rattle.disk_model.proofs.Sound.{outcome_before_a_write}
+use Rattle.disk_model.proofs.laws.writes_add_outcomes.Goals as goal
+
+pub returns : goal.returns
+returns c = outcome_before_a_write

@@ -1,0 +1,10 @@
+pub mod Crash
+pub mod CrashImage
+pub mod Disk
+pub mod File
+pub mod Image
+pub mod Laws
+pub mod MemDisk
+pub mod Memory
+pub mod Moments
+pub mod Plan

@@ -1,0 +1,118 @@
+//! A file of the operating system as a disk.
+
+ghost use Rattle.std.specs.Prelude.{◌≡◌, ◌+◌, min, IfOk};
+ghost use Rattle.disk_model.specs.Disk.{last_count};
+ghost use Rattle.disk_model.specs.File.{failures_in, unknown_state};
+
+use crate::disk::Disk;
+use crate::fault::DiskFault;
+use std::fs::{File, OpenOptions};
+use std::io;
+use std::os::unix::fs::FileExt;
+use std::rt::Files;
+
+/// A file of the operating system.
+///
+/// No contract can say what such a file holds, so nothing is promised but that each call that failed is counted and that
+/// a read says no more bytes than its buffer has. What a store over it promises rests on the file doing as an honest disk
+/// does: a read gives what was written last, and after `sync` the bytes and the length stand through a crash.
+///
+/// A second process that writes the file breaks that: nothing here locks it. So may a file on a network share, and a
+/// drive that answers before it has written. On a full disk a write fails and may have been done in part, as any write
+/// that fails.
+///
+/// Opening a file brings its name to the disk too, so that a crash can't lose a file that was just made. Where the path is
+/// a link, that is the name of the link.
+#[derive(Drop)]
+pub struct FileDisk {
+    file: File,
+    failures: u64,
+}
+
+// The folder in which a file of that path lies.
+fn folder_of(path: &str) -> &str {
+    match path.rsplit_once('/') {
+        Some(("", _)) => "/",
+        Some((folder, _)) => folder,
+        None => ".",
+    }
+}
+
+// Opens the file, and brings its name to the disk.
+fn open_file<R: Files<File = File>>(rt: &R, path: &str) -> io::Result<File> {
+    let mut options = OpenOptions::new();
+    options.read(true).write(true).create(true);
+    let file = options.open(rt, path)?;
+    File::open(rt, folder_of(path))?.sync_all()?;
+    Ok(file)
+}
+
+impl FileDisk {
+    /// Opens a file for reading and writing, and makes it empty where it isn't there. It is a fault where the system
+    /// refuses, as for a folder, without leave to write, or where the folder that the file lies in can't be synced.
+    pub fn open<R: Files<File = File>>(rt: &R, path: &str) -> Result<FileDisk, DiskFault>
+        ensures { IfOk result (λ disk. failures_in disk ≡ 0) }
+    {
+        match open_file(rt, path) {
+            Ok(file) => Ok(FileDisk { file, failures: 0 }),
+            Err(_) => Err(DiskFault::Failed),
+        }
+    }
+
+    // Counts a call that failed.
+    fn fault(&mut self) -> DiskFault
+        ensures { failures_in self.new ≡ min (failures_in self.old + 1) last_count }
+    {
+        self.failures = self.failures.saturating_add(1);
+        DiskFault::Failed
+    }
+}
+
+impl Disk for FileDisk {
+    ghost state = { λ _. unknown_state };
+
+    ghost honest = { λ _. ⊥ };
+
+    ghost failures = { failures_in };
+
+    ghost may_stay = { λ disk h. absurd h };
+
+    fn len(&mut self) -> Result<u64, DiskFault> {
+        match self.file.metadata() {
+            Ok(data) => Ok(data.len()),
+            Err(_) => Err(self.fault()),
+        }
+    }
+
+    fn read_at(&mut self, pos: u64, buf: &mut [u8]) -> Result<usize, DiskFault> {
+        match self.file.read_at(buf, pos) {
+            Ok(count) => Ok(count),
+            Err(_) => Err(self.fault()),
+        }
+    }
+
+    fn write_at(&mut self, pos: u64, bytes: &[u8]) -> Result<(), DiskFault> {
+        match self.file.write_all_at(bytes, pos) {
+            Ok(()) => Ok(()),
+            Err(_) => Err(self.fault()),
+        }
+    }
+
+    fn sync(&mut self) -> Result<(), DiskFault> {
+        match self.file.sync_all() {
+            Ok(()) => Ok(()),
+            Err(_) => Err(self.fault()),
+        }
+    }
+
+    fn cut(&mut self, len: u64) -> Result<(), DiskFault> {
+        match self.file.set_len(len) {
+            Ok(()) => Ok(()),
+            Err(_) => Err(self.fault()),
+        }
+    }
+
+    fn failures(&self) -> u64 {
+        self.failures
+    }
+}
