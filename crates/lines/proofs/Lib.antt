@@ -1,0 +1,6 @@
+pub mod OrderFacts
+pub mod ChainFacts
+pub mod GroupFacts
+pub mod LineFacts
+pub mod PlaceFacts
+pub mod LinesFacts
