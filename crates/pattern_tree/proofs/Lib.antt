@@ -1,0 +1,11 @@
+pub mod StepFacts
+pub mod NodeFacts
+pub mod PairFacts
+pub mod SiblingFacts
+pub mod AdditionFacts
+pub mod GrowthFacts
+pub mod KeptFacts
+pub mod InsertionFacts
+pub mod CountFacts
+pub mod WalkFacts
+pub mod PairOrderFacts

@@ -1,0 +1,6 @@
+use Rattle.std.proofs.Common.{◌≡◌, take}
+use Rattle.pattern_tree.specs.Branch.{branches}
+use Rattle.pattern_tree.proofs.copying.+copy_level.Given as goal
+
+abbrev pub invariant-loop-node : goal.invariant-loop-node
+invariant-loop-node g l = branches l.copies.items ≡ take l.node-index (branches l.level)
