@@ -1,0 +1,3 @@
+pub mod GivenFacts
+pub mod BestFacts
+pub mod CompleteFacts

@@ -1,0 +1,2 @@
+pub mod RoundPairs
+pub mod Finished

@@ -1,0 +1,103 @@
+//! The tree of a source, built from the rounds at each of its events.
+
+ghost use Rattle.std.specs.Prelude.{◌≡◌, ◌≢◌, ℕ, ◌<◌, ◌≤◌, length, Err, IfOk, OnOk};
+ghost use Rattle.std.specs.List.{AllPairs};
+ghost use Rattle.timetable.specs.Table.{stops_of};
+ghost use Rattle.rounds.specs.Events.{IsEvent};
+ghost use Rattle.rounds.specs.Scratch.{IsMadeFor, IsAlike, rides_of, rounds_of};
+ghost use Rattle.pattern_tree.specs.Forest.{Pair};
+ghost use Rattle.pattern_tree.specs.Content.{IsTooLarge, longest};
+ghost use Rattle.pattern_tree.specs.Completeness.{Complete, Earned, TooManyAreEarned};
+ghost use Rattle.pattern_building.specs.RoundPairs.{Gives, InRound, IsGiven, AddsGiven, Keeps, HasGiven, CompleteAt};
+
+use pattern_tree::{PatternTree, TreeFault};
+use rounds::{RoundView, Scratch, departures};
+use std::alloc::{Allocator, Global};
+use timetable::{StopId, Timetable};
+
+// Puts in the pairs of journeys of exactly so many rides that are sooner than with fewer.
+fn add_round<A: Allocator + Clone>(
+    view: &RoundView<'_>,
+    rides: u8,
+    stops: usize,
+    tree: &mut PatternTree<A>,
+) -> Result<(), TreeFault>
+    requires some { 1 ≤ rides }
+    requires few { rides ≤ length (rounds_of view.now) }
+    requires known { stops ≤ 65_534 }
+    requires ridden { (p : Pair) → p.1 < stops → Gives (rounds_of view.now) rides p → 0 < length p.0 }
+    requires once { AllPairs (λ p q. p ≢ q) tree.old.pairs }
+    ensures source { tree.new.source ≡ tree.old.source }
+    ensures once { AllPairs (λ p q. p ≢ q) tree.new.pairs }
+    ensures adds { AddsGiven (rounds_of view.now) (InRound rides stops) tree.old.pairs tree.new.pairs }
+    ensures keeps { Keeps tree.old.pairs tree.new.pairs }
+    ensures all { OnOk result (HasGiven (rounds_of view.now) (InRound rides stops) tree.new.pairs) }
+    ensures large { result ≡ Err TreeFault.TooLarge → (p : Pair) × IsGiven (rounds_of view.now) (InRound rides stops) p × IsTooLarge tree.new.pairs p }
+{
+    for number in 0..stops {
+        let stop = StopId::new(number as u16);
+        if let Some(path) = view.pattern(rides, stop) {
+            tree.insert(path.as_slice(), stop)?;
+        }
+    }
+    Ok(())
+}
+
+// Puts in the pairs of the best journeys at one event.
+fn add_event<A: Allocator + Clone>(
+    table: &Timetable,
+    source: StopId,
+    event: u32,
+    scratch: &mut Scratch,
+    tree: &mut PatternTree<A>,
+) -> Result<(), TreeFault>
+    requires table { IsMadeFor scratch.old table.now }
+    requires source { source < stops_of table.now }
+    requires event { IsEvent table.now source event }
+    requires once { AllPairs (λ p q. p ≢ q) tree.old.pairs }
+    requires earned { Earned table.now (rides_of scratch.old) source tree.old.pairs }
+    ensures same { IsAlike scratch.old scratch.new }
+    ensures source { tree.new.source ≡ tree.old.source }
+    ensures once { AllPairs (λ p q. p ≢ q) tree.new.pairs }
+    ensures earned { Earned table.now (rides_of scratch.old) source tree.new.pairs }
+    ensures keeps { Keeps tree.old.pairs tree.new.pairs }
+    ensures complete { OnOk result (CompleteAt table.now (rides_of scratch.old) source event tree.new.pairs) }
+    ensures large { result ≡ Err TreeFault.TooLarge → TooManyAreEarned table.now (rides_of scratch.old) source }
+{
+    let rides = scratch.rides();
+    let stops = table.stops();
+    let view = scratch.run(table, source, event)?;
+    for round in 0..rides.number() {
+        add_round(&view, round + 1, stops, tree)?;
+    }
+    Ok(())
+}
+
+/// The tree of a source: for each moment and stop, the patterns of the best journeys of at most as many rides as the
+/// scratch has, and no others. It lies in the memory of `alloc`; the moments to leave at lie in that of `global` meanwhile.
+///
+/// TooLarge comes only where there are more such patterns and ends than a tree holds. Every other fault is that memory ran
+/// out. The scratch is one of this timetable, and serves further runs, also after a fault.
+pub fn build<A: Allocator + Clone>(
+    alloc: A,
+    global: Global,
+    table: &Timetable,
+    source: StopId,
+    scratch: &mut Scratch,
+) -> Result<PatternTree<A>, TreeFault>
+    requires table { IsMadeFor scratch.old table.now }
+    requires source { source < stops_of table.now }
+    ensures same { IsAlike scratch.old scratch.new }
+    ensures source { IfOk result (λ tree. tree.source ≡ source) }
+    ensures complete { IfOk result (λ tree. Complete table.now (rides_of scratch.old) source tree.pairs) }
+    ensures earned { IfOk result (λ tree. Earned table.now (rides_of scratch.old) source tree.pairs) }
+    ensures short { IfOk result (λ tree. longest tree.pairs ≤ rides_of scratch.old) }
+    ensures large { result ≡ Err TreeFault.TooLarge → TooManyAreEarned table.now (rides_of scratch.old) source }
+{
+    let moments = departures(global, table, source)?;
+    let mut tree = PatternTree::new_in(alloc, source);
+    for moment in &moments {
+        add_event(table, source, *moment, scratch, &mut tree)?;
+    }
+    Ok(tree)
+}
