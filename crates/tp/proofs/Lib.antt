@@ -1,2 +1,3 @@
-pub mod WordFacts
+pub mod FaultFacts
 pub mod MomentFacts
+pub mod PrintedFacts

@@ -56,14 +56,20 @@ pub record IsAnswer (table : Table) (c : CoverDays) (names : NameLists) (job : J
   pub leaves : stop_named names (question_of job.task).from.now ≡ Some from
   pub arrives : stop_named names (question_of job.task).to.now ≡ Some to
   pub covered : d ≤ table.horizon
-  pub right : IsAnswerTo job.task table c job.rides from to d answer
+  pub right : IsAnswerTo job.task table c job.settings.rides from to d answer
 
--- a question that has no answer: no stop has the first id, or else the second; or else the moment isn't covered. Memory may run
+-- some stop has the id
+abbrev pub IsKnown : NameLists → List ℕ → Type 0
+IsKnown names id = (stop : ℕ) × (stop_named names id ≡ Some stop)
+
+-- A question that has no answer: no stop has the first id; or else the second; or else the moment isn't covered. Memory may run
 -- out as well.
 abbrev pub IsRefusal : Table → NameLists → Job → ℕ → Fault → Type 0
 IsRefusal table names job d (faults.UnknownStop id) =
-    ((id.now ≡ (question_of job.task).from.now) ⊎ (id.now ≡ (question_of job.task).to.now)) × (stop_named names id.now ≡ None)
-IsRefusal table names job d faults.NotCovered = table.horizon < d
+    (stop_named names id.now ≡ None)
+    × ((id.now ≡ (question_of job.task).from.now) ⊎ (IsKnown names (question_of job.task).from.now × (id.now ≡ (question_of job.task).to.now)))
+IsRefusal table names job d faults.NotCovered =
+    IsKnown names (question_of job.task).from.now × IsKnown names (question_of job.task).to.now × (table.horizon < d)
 IsRefusal table names job d faults.Memory = Unit {0}
 IsRefusal table names job d faults.BadDate = ⊥
 IsRefusal table names job d faults.BadTime = ⊥

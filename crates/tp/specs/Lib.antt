@@ -1,6 +1,8 @@
-pub mod Statuses
-pub mod CommandLine
-pub mod Jobs
 pub mod Answers
-pub mod Tasks
+pub mod CommandLine
 pub mod Feeds
+pub mod Jobs
+pub mod Printed
+pub mod Runs
+pub mod Statuses
+pub mod Tasks

@@ -1,9 +1,11 @@
 //! What the program answers.
 
 ghost use Rattle.std.specs.Prelude.{◌≡◌, ◌<◌, ◌≤◌, IfOk, IfErr, Some, length};
+ghost use Rattle.std.specs.Fmt.{WritesOnOk};
 ghost use Rattle.std.specs.List.{AllZip};
 ghost use Rattle.timetable.specs.Table.{stops_of};
 ghost use Rattle.timetable.specs.Names.{stop_named};
+ghost use Rattle.tp.specs.Printed.{answer_text, point_text, points_text};
 ghost use Rattle.tp.specs.Answers.{IsDirect, IsScan, IsUnknown, Says, Shows};
 
 use crate::fault::Fault;
@@ -14,7 +16,7 @@ use std::alloc::{AllocError, Global};
 use std::fmt;
 use timetable::{Names, Numbers, StopId, Timetable, plain_direct};
 
-/// The numbers of a best journey: how many rides, and when it arrives.
+/// The numbers of a best journey: how many rides, and when it arrives. Shown as `rides N arrive DATE TIME`.
 #[derive(Clone, Copy, Debug, PartialEq, Eq)]
 pub struct Point {
     pub rides: u8,
@@ -30,7 +32,17 @@ pub enum Answer {
     Points(Vec<Point>),
 }
 
+impl fmt::Display for Point {
+    ghost output = { λ point. Some (point_text point) };
+
+    fn fmt<W: fmt::Write>(&self, f: &mut fmt::Formatter<W>) -> fmt::Result {
+        write!(f, "rides {} arrive {}", self.rides, self.at)
+    }
+}
+
 impl fmt::Display for Answer {
+    ghost output = { λ answer. Some (answer_text answer) };
+
     fn fmt<W: fmt::Write>(&self, f: &mut fmt::Formatter<W>) -> fmt::Result {
         match self {
             Answer::NoRide => write!(f, "no ride"),
@@ -41,15 +53,15 @@ impl fmt::Display for Answer {
 }
 
 // A line for each point, without a line's end behind the last.
-fn write_points<W: fmt::Write>(f: &mut fmt::Formatter<W>, points: &[Point]) -> fmt::Result {
-    if points.is_empty() {
+fn write_points<W: fmt::Write>(f: &mut fmt::Formatter<W>, points: &[Point]) -> fmt::Result
+    ensures { WritesOnOk W.write_str_gives f.old result (points_text points.now) f.new }
+{
+    let Some((first, others)) = points.split_first() else {
         return write!(f, "no journey");
-    }
-    for (number, point) in points.iter().enumerate() {
-        if number > 0 {
-            writeln!(f)?;
-        }
-        write!(f, "rides {} arrive {}", point.rides, point.at)?;
+    };
+    write!(f, "{first}")?;
+    for point in others {
+        write!(f, "\n{point}")?;
     }
     Ok(())
 }

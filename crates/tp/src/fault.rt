@@ -42,6 +42,11 @@ impl<'a> Fault<'a> {
 }
 
 impl<'a> From<FeedFault> for Fault<'a> {
+    ghost use Rattle.std.specs.Prelude.{◌≡◌};
+    ghost use Rattle.tp.specs.Statuses.{of_feed};
+
+    ghost from_gives = { λ f e. e ≡ of_feed f };
+
     fn from(fault: FeedFault) -> Fault<'a> {
         match fault.kind {
             FaultKind::Memory => Fault::Memory,
@@ -51,6 +56,11 @@ impl<'a> From<FeedFault> for Fault<'a> {
 }
 
 impl<'a> From<DayFault> for Fault<'a> {
+    ghost use Rattle.std.specs.Prelude.{◌≡◌};
+    ghost use Rattle.tp.specs.Statuses.{of_days};
+
+    ghost from_gives = { λ f e. e ≡ of_days f };
+
     fn from(fault: DayFault) -> Fault<'a> {
         match fault {
             DayFault::Memory => Fault::Memory,

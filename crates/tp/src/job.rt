@@ -1,8 +1,9 @@
 //! What the program is asked to do.
 
-ghost use Rattle.std.specs.Prelude.{◌≡◌, ◌≤◌};
-ghost use Rattle.std.specs.Int.{IsInRange};
+ghost use Rattle.std.specs.Prelude.{◌≡◌};
 ghost use Rattle.tp.specs.Tasks.{question_of};
+
+use programs::Settings;
 
 /// From which stop to which, and when.
 #[derive(Clone, Copy, Debug, PartialEq, Eq)]
@@ -38,19 +39,6 @@ impl<'a> Task<'a> {
 /// The words of the program, read.
 #[derive(Clone, Copy, Debug, PartialEq, Eq)]
 pub struct Job<'a> {
-    /// The folder of the feed.
-    pub feed: &'a str,
-    /// The first covered day, as it is written.
-    pub date: &'a str,
-    /// How many days are covered.
-    pub days: u8,
-    /// The rule text of the feed's zone.
-    pub zone: &'a str,
-    /// The most rides of a journey.
-    pub rides: u8,
-    /// The seconds of a walk or change whose row gives none.
-    pub default_walk: u32,
+    pub settings: Settings<'a>,
     pub task: Task<'a>,
-    pub ghost rides_in: { IsInRange 1 8 rides },
-    pub ghost walk_in: { default_walk ≤ 86_400 },
 }

@@ -1,4 +1,6 @@
 //! Moments as the program prints them.
+ghost use Rattle.std.specs.Prelude.{Some};
+ghost use Rattle.tp.specs.Printed.{day_time_text};
 
 use jiff::civil::Date;
 use std::fmt;
@@ -12,8 +14,12 @@ pub struct DayTime {
 }
 
 impl fmt::Display for DayTime {
+    ghost output = { λ t. Some (day_time_text t) };
+
     fn fmt<W: fmt::Write>(&self, f: &mut fmt::Formatter<W>) -> fmt::Result {
-        let (year, month, day) = (self.date.year(), self.date.month(), self.date.day());
+        let year = self.date.year().unsigned_abs();
+        let month = self.date.month().unsigned_abs();
+        let day = self.date.day().unsigned_abs();
         let hours = self.seconds / 3600;
         let minutes = self.seconds / 60 % 60;
         let seconds = self.seconds % 60;

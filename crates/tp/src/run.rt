@@ -3,7 +3,8 @@
 ghost use Rattle.std.specs.Prelude.{◌≡◌, ◌⊎◌, IfOk, IfErr, length};
 ghost use Rattle.gtfs_tables.specs.Feed.{Feed, AreReaders};
 ghost use Rattle.tp.specs.Answers.{IsAnswer, IsRefusal};
-ghost use Rattle.tp.specs.Feeds.{IsFeedAnswer};
+ghost use Rattle.tp.specs.Feeds.{AreDateTime, IsWordFault, IsFeedAnswer, IsFeedFault};
+ghost use Rattle.tp.specs.Runs.{IsRun};
 ghost use Rattle.timetable.specs.Table.{stops_of};
 
 use crate::answer::{Answer, direct, scan, stop_of};
@@ -11,6 +12,7 @@ use crate::fault::Fault;
 use crate::job::{Job, Question, Task};
 use gtfs_tables::{FaultKind, FeedFault, FeedFile, Files, read_tables};
 use gtfs_text::{date, time};
+use jiff::civil::Date;
 use rounds::Rides;
 use service_days::Cover;
 use std::alloc::Global;
@@ -50,10 +52,24 @@ fn perform<'a>(
     match job.task {
         Task::Direct(_) => Ok(direct(timetable, cover, from, to, depart)),
         Task::Scan(_) => {
-            let rides = Rides::new(job.rides);
+            let rides = Rides::new(job.settings.rides);
             Ok(scan(alloc, timetable, cover, from, to, depart, rides)?)
         }
     }
+}
+
+// The date and the time that the job's words say.
+fn date_time<'a>(job: &Job<'a>) -> Result<(Date, u32), Fault<'a>>
+    ensures ok { IfOk result (λ words. AreDateTime job.now words.0 words.1) }
+    ensures err { IfErr result (IsWordFault job.now) }
+{
+    let Some(first) = date(job.settings.date) else {
+        return Err(Fault::BadDate);
+    };
+    let Some(at) = time(job.task.question().at) else {
+        return Err(Fault::BadTime);
+    };
+    Ok((first, at))
 }
 
 /// Answers a job over the feed's files. An answer is given only where the job's date, time and zone are ones, and every test
@@ -64,14 +80,17 @@ pub fn answer<'a, R: Read + Drop>(
     job: &Job<'a>,
     files: Files<R>,
 ) -> Result<Answer, Fault<'a>>
-    ensures { (feed : Feed) → AreReaders R.remaining files feed → IfOk result (IsFeedAnswer feed job.now) }
+    ensures answer { (feed : Feed) → AreReaders R.remaining files feed → IfOk result (IsFeedAnswer feed job.now) }
+    ensures fault { (feed : Feed) → AreReaders R.remaining files feed → IfErr result (IsFeedFault feed job.now) }
 {
-    let first = date(job.date).ok_or(Fault::BadDate)?;
-    let at = time(job.task.question().at).ok_or(Fault::BadTime)?;
-    let keys = keys.ok_or(Fault::Feed(NO_KEYS))?;
+    let settings = &job.settings;
+    let (first, at) = date_time(job)?;
+    let Some(keys) = keys else {
+        return Err(Fault::Feed(NO_KEYS));
+    };
     let tables = read_tables(alloc, keys, files)?;
-    let cover = Cover::new(first, job.days, job.zone)?;
-    let timetable = assemble(alloc, &tables, &cover, job.default_walk)?;
+    let cover = Cover::new(first, settings.days, settings.zone)?;
+    let timetable = assemble(alloc, &tables, &cover, settings.default_walk)?;
     let names = Names::of(alloc, keys, &tables)?;
     let depart = cover.moment(first, at).unwrap_or(NEVER);
     perform(alloc, &timetable, &names, &cover, job, depart)
@@ -88,7 +107,8 @@ pub fn run<R: Read + Drop, W: Write, E: Write>(
     out: &mut W,
     err: &mut E,
 ) -> u8
-    ensures { (result ≡ 0) ⊎ ((result ≡ 1) ⊎ ((result ≡ 2) ⊎ ((result ≡ 6) ⊎ ((result ≡ 7) ⊎ (result ≡ 8))))) }
+    ensures run { (feed : Feed) → AreReaders R.remaining files feed → IsRun feed job.now (W.contents out.old) (W.contents out.new) result }
+    ensures statuses { (result ≡ 0) ⊎ ((result ≡ 1) ⊎ ((result ≡ 2) ⊎ ((result ≡ 6) ⊎ ((result ≡ 7) ⊎ (result ≡ 8))))) }
 {
     match answer(alloc, keys, job, files) {
         Ok(answer) => {

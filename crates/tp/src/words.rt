@@ -1,35 +1,17 @@
 //! From the program's words to a job.
 
 ghost use Rattle.std.specs.Prelude.{◌≡◌, IfOk, IfErr, IfSome, map};
-ghost use Rattle.clap.specs.Words.{subcommand_rows_of, subcommand_of, rows_of, found_of, fault_of, kind_of};
+ghost use Rattle.clap.specs.Words.{subcommand_rows_of, subcommand_of, rows_of, found_of, fault_of};
+ghost use Rattle.programs.specs.Statuses.{IsStatus};
 ghost use Rattle.tp.specs.CommandLine.{program_app};
-ghost use Rattle.tp.specs.Jobs.{HasText, HasNumber, IsJob, IsJobOf, IsQuestion, IsTask, IsStatus, kind_status};
+ghost use Rattle.tp.specs.Jobs.{IsJob, IsJobOf, IsQuestion, IsTask};
 
 use crate::command_line::matches_of;
 use crate::job::{Job, Question, Task};
-use clap::error::ErrorKind;
-use clap::{ArgMatches, Error};
+use clap::ArgMatches;
+use programs::{refuse, settings_of, text_of};
 use std::alloc::Global;
 use std::io::Write;
-
-fn text_of<'a>(found: &ArgMatches<'a>, option: &str) -> Option<&'a str>
-    ensures { IfSome result (λ text. HasText (rows_of (found_of found.now)) option.now text.now) }
-{
-    found.get_str(option)
-}
-
-fn number_of(found: &ArgMatches<'_>, option: &str) -> Option<u32>
-    ensures { IfSome result (HasNumber (rows_of (found_of found.now)) option.now) }
-{
-    found.get_one::<u32>(option)
-}
-
-fn byte_of(found: &ArgMatches<'_>, option: &str) -> Option<u8>
-    ensures { IfSome result (HasNumber (rows_of (found_of found.now)) option.now) }
-{
-    let number = number_of(found, option)?;
-    u8::try_from(number).ok()
-}
 
 fn question_of<'a>(found: &ArgMatches<'a>) -> Option<Question<'a>>
     ensures { IfSome result (IsQuestion (rows_of (found_of found.now))) }
@@ -54,25 +36,9 @@ fn task_of<'a>(name: &str, found: &ArgMatches<'a>) -> Option<Task<'a>>
 fn command_job<'a>(name: &str, found: &ArgMatches<'a>) -> Option<Job<'a>>
     ensures { IfSome result (IsJobOf name.now (rows_of (found_of found.now))) }
 {
-    let feed = text_of(found, "feed")?;
-    let date = text_of(found, "date")?;
-    let days = byte_of(found, "days")?;
-    let zone = text_of(found, "zone")?;
-    let rides = byte_of(found, "rides")?;
-    let default_walk = number_of(found, "default-walk")?;
+    let settings = settings_of(found)?;
     let task = task_of(name, found)?;
-    if rides < 1 || rides > 8 || default_walk > 86_400 {
-        return None;
-    }
-    Some(Job {
-        feed,
-        date,
-        days,
-        zone,
-        rides,
-        default_walk,
-        task,
-    })
+    Some(Job { settings, task })
 }
 
 // The job of the command that was met: none where a word isn't there.
@@ -81,17 +47,6 @@ fn job_of<'a>(matches: &ArgMatches<'a>) -> Option<Job<'a>>
 {
     let (name, found) = matches.subcommand()?;
     command_job(name, found)
-}
-
-// The status of words that `clap` refuses, or that ask for help.
-fn status_of(error: &Error) -> u8
-    ensures { result ≡ kind_status (kind_of error.now) }
-{
-    match error.kind() {
-        ErrorKind::OutOfMemory => 7,
-        ErrorKind::DisplayHelp | ErrorKind::DisplayVersion => 0,
-        _ => 2,
-    }
 }
 
 /// Reads the words of the program, the first of which is its name. An `Err` is the status to end with, and what the
@@ -107,14 +62,6 @@ pub fn read_words<'a, E: Write>(
 {
     match matches_of(alloc, words) {
         Ok(matches) => job_of(&matches).ok_or(2),
-        Err(error) => {
-            let status = status_of(&error);
-            let _ = if status == 7 {
-                writeln!(err, "tp: Memory")
-            } else {
-                write!(err, "{error}")
-            };
-            Err(status)
-        }
+        Err(error) => Err(refuse("tp", &error, err)),
     }
 }

@@ -1,0 +1,20 @@
+//! What the programs share: the options that all of them have, what is told of words at fault, and the files of a feed in
+//! a folder.
+#![tactic(auto)]
+
+mod feed;
+mod options;
+mod refusal;
+mod settings;
+mod start;
+mod values;
+
+pub use feed::{FeedReader, open_feed};
+pub use options::{common, defaulted, number, required};
+pub use refusal::refuse;
+pub use settings::Settings;
+pub use start::{given_words, out_of_memory, show, texts};
+pub use values::{byte_of, number_of, settings_of, text_of};
+
+#[cfg(test)]
+mod tests;

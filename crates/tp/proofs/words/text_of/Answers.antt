@@ -1,6 +1,0 @@
-use Rattle.clap.specs.Words.{found_of}
-use Rattle.tp.proofs.WordFacts.{has_text}
-use Rattle.tp.proofs.words.text_of.Goals as goal
-
-pub returns : goal.returns
-returns c = has_text (found_of c.args.found.now) c.args.option.now c.get_str.result c.get_str.ensures
