@@ -1,0 +1,44 @@
+//! Times the parts of the planner on a feed.
+#![tactic(auto)]
+
+mod asking;
+mod fault;
+mod measuring;
+mod questions;
+mod total;
+mod words;
+
+use crate::measuring::measure;
+use crate::words::read_words;
+use programs::{given_words, out_of_memory, show, texts};
+use std::io::Write;
+use std::process::ExitCode;
+
+fn status(rt: &HostRuntime) -> u8 {
+    let alloc = rt.alloc();
+    let Ok(words) = given_words(rt) else {
+        return out_of_memory("bench", &mut rt.stderr());
+    };
+    let Ok(texts) = texts(alloc, words.as_slice()) else {
+        return out_of_memory("bench", &mut rt.stderr());
+    };
+    let mut shown = Vec::new(alloc);
+    let job = match read_words(alloc, texts.as_slice(), &mut shown) {
+        Ok(job) => job,
+        Err(status) => return show(rt, shown.as_slice(), status),
+    };
+    match measure(rt, &job) {
+        Ok(()) => 0,
+        Err(fault) => {
+            let _ = writeln!(rt.stderr(), "bench: {fault}");
+            fault.status()
+        }
+    }
+}
+
+fn main(rt: HostRuntime) -> ExitCode {
+    ExitCode::from(status(&rt))
+}
+
+#[cfg(test)]
+mod tests;

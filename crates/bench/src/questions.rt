@@ -1,0 +1,68 @@
+//! Random questions.
+
+ghost use Rattle.std.specs.Prelude.{◌≡◌, ◌≢◌, ◌<◌, ◌≤◌};
+
+use rand::RngExt;
+use rand_core::SeedableRng;
+use rand_pcg::Pcg32;
+use timetable::StopId;
+
+/// The earliest moment to leave at: 05:00:00 of the first covered day.
+const EARLIEST: u32 = 18_000;
+
+/// The end of the moments to leave at: 22:00:00 of the first covered day.
+const LATEST: u32 = 79_200;
+
+/// From which stop to which other one, and at which moment, in seconds from the start of the first covered day.
+#[derive(Clone, Copy, Debug, PartialEq, Eq)]
+pub struct Question {
+    pub from: StopId,
+    pub to: StopId,
+    pub depart: u32,
+}
+
+/// Questions without an end. The same seed gives the same questions.
+#[derive(Drop)]
+pub struct Questions {
+    random: Pcg32,
+    stops: u16,
+    ghost some: { 2 ≤ stops },
+    ghost few: { stops ≤ 65_534 },
+}
+
+impl Questions {
+    ghost use Rattle.std.specs.Prelude.{IfSome, IfNone};
+    ghost use Rattle.bench.specs.Asked.{stops_of};
+
+    /// Questions between so many stops; none where there are fewer than two.
+    pub fn new(seed: u32, stops: usize) -> Option<Questions>
+        ensures made { IfSome result (λ questions. stops_of questions ≡ stops) }
+    {
+        if stops < 2 || stops > 65_534 {
+            return None;
+        }
+        Some(Questions {
+            random: Pcg32::seed_from_u64(u64::from(seed)),
+            stops: stops as u16,
+        })
+    }
+
+    /// The next question: two different stops, and a moment from 05:00:00 to before 22:00:00.
+    pub fn ask(&mut self) -> Question
+        ensures stops { stops_of self.new ≡ stops_of self.old }
+        ensures from { result.from < stops_of self.old }
+        ensures to { result.to < stops_of self.old }
+        ensures different { result.from ≢ result.to }
+        ensures early { 18_000 ≤ result.depart }
+        ensures late { result.depart < 79_200 }
+    {
+        let from = self.random.random_range(0..self.stops);
+        let other = self.random.random_range(0..self.stops - 1);
+        let to = if other < from { other } else { other + 1 };
+        Question {
+            from: StopId::new(from),
+            to: StopId::new(to),
+            depart: self.random.random_range(EARLIEST..LATEST),
+        }
+    }
+}

@@ -1,0 +1,93 @@
+//! What the benchmark's words say.
+
+ghost use Rattle.std.specs.Prelude.{◌≡◌, false, IfOk, IfErr, IfSome, map};
+ghost use Rattle.clap.specs.Words.{app_of, rows_of, found_of, matches_of, fault_of, kind_of, FailsBy};
+ghost use Rattle.clap.specs.declared.error.kind.ErrorKind.TheVariants.{OutOfMemory};
+ghost use Rattle.clap.specs.declared.builder.command.Command.TheViews.{out-Command as fields_of};
+ghost use Rattle.programs.specs.Statuses.{IsStatus};
+ghost use Rattle.bench.specs.CommandLine.{bench_app, IsMeasure};
+
+use clap::{ArgMatches, Command, Error};
+use programs::{Settings, common, number, number_of, refuse, settings_of};
+use std::alloc::Global;
+use std::io::Write;
+
+const ABOUT: &str =
+    "Reads a feed, asks it random questions, and says how long each part takes: on standard error a line \
+NAME COUNT SECONDS for each part, on standard output how many questions had an answer and the sum of their arrivals.";
+
+/// What to measure.
+#[derive(Clone, Copy, Debug, PartialEq, Eq)]
+pub struct Measure<'a> {
+    pub settings: Settings<'a>,
+    /// How many questions of each kind are asked.
+    pub queries: u32,
+    /// Where the random numbers begin.
+    pub seed: u32,
+}
+
+// The benchmark's command line.
+fn command<'a>(alloc: Global) -> Result<Command<'a>, Error>
+    ensures shape { IfOk result (λ c. app_of c ≡ bench_app) }
+    ensures local { IfOk result (λ c. (fields_of c).has_globals ≡ false) }
+    ensures err { IfErr result (λ e. kind_of e ≡ OutOfMemory) }
+{
+    let queries = number(
+        alloc,
+        "queries",
+        "N",
+        "1000",
+        0,
+        1_000_000,
+        "How many questions of each kind are asked, up to 1000000",
+    );
+    let seed = number(
+        alloc,
+        "seed",
+        "S",
+        "1",
+        0,
+        u32::MAX,
+        "Where the random numbers begin: the same seed asks the same questions",
+    );
+    let command = common(alloc, "bench", ABOUT)?.arg(queries)?.arg(seed)?;
+    Ok(command)
+}
+
+// What the words match of the command line.
+fn found<'a>(alloc: Global, words: &'a [&'a str]) -> Result<ArgMatches<'a>, Error>
+    ensures rows { IfOk result (λ m. rows_of (found_of m) ≡ matches_of bench_app (map (λ w. w.now) words.entry.now)) }
+    ensures faults { FailsBy (fault_of bench_app (map (λ w. w.now) words.entry.now)) result }
+{
+    command(alloc)?.try_get_matches_from(words)
+}
+
+fn measure_of<'a>(found: &ArgMatches<'a>) -> Option<Measure<'a>>
+    ensures { IfSome result (IsMeasure (rows_of (found_of found.now))) }
+{
+    let settings = settings_of(found)?;
+    let queries = number_of(found, "queries")?;
+    let seed = number_of(found, "seed")?;
+    Some(Measure {
+        settings,
+        queries,
+        seed,
+    })
+}
+
+/// Reads the words of the benchmark, the first of which is its name. An `Err` is the status to end with, and what the
+/// user is to be told stands in `err`: the help that was asked for with status 0, a fault of words with 2, want of
+/// memory with 7.
+pub fn read_words<'a, E: Write>(
+    alloc: Global,
+    words: &'a [&'a str],
+    err: &mut E,
+) -> Result<Measure<'a>, u8>
+    ensures measure { IfOk result (IsMeasure (matches_of bench_app (map (λ w. w.now) words.entry.now))) }
+    ensures status { IfErr result (IsStatus (fault_of bench_app (map (λ w. w.now) words.entry.now))) }
+{
+    match found(alloc, words) {
+        Ok(found) => measure_of(&found).ok_or(2),
+        Err(error) => Err(refuse("bench", &error, err)),
+    }
+}
