@@ -15,6 +15,17 @@ const ABOUT: &str = "Plans journeys over a GTFS Schedule feed.";
 const EXAMPLES: &str = "\
 Example: tp scan --feed demo/feed-m --date 20240102 --from A --to D --at 08:00:00
 
+A fault is one line on standard error, its code and name; for a fault of the feed with the file and the row:
+  F1 MissingFile    DIR lacks the file: unpack a zipped feed first
+  F2 to F8, F10     the row is at fault; row 0 is the header or the whole file
+  F9 ReadFailed     the file can't be read, or DIR is no folder: unpack a zipped feed first
+  S1 BadRange       --days is 1 to 14
+  S2 BadZone        --zone is a POSIX rule, as CET-1CEST,M3.5.0,M10.5.0/3
+  A1 BadDate        --date is a day of the calendar, as 20240102
+  A2 BadTime        --at is a time up to 167:59:59, as 08:00:00
+  Q1 UnknownStop    stops.txt has no stop with that stop_id; a station is no stop
+  Q2 NotCovered     the time isn't within the covered days
+
 Statuses: 0 done, 1 the feed or its days are at fault, 2 the words are, 6 the question is (an unknown stop,
 a day that isn't covered), 7 memory ran out, 8 standard output refused a write.";
 
