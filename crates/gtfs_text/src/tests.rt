@@ -67,6 +67,7 @@ fn short_long_and_blank_records(rt: HostRuntime) -> Result<(), Fail> {
 #[test]
 fn fields_of_rows(rt: HostRuntime) -> Result<(), Fail> {
     let sheet = sheet_of(rt.alloc(), b" id ,name\n1,\"a, b\" , x\n\n2\n ,\n")?;
+    assert!(rt; sheet.rows() == 3);
     let mut fields = Vec::new(rt.alloc());
     sheet.fields(0, &mut fields)?;
     assert!(rt; fields.as_slice() == ["id", "name"].as_slice());
