@@ -58,15 +58,13 @@ fn the_same_seed_asks_the_same_questions(rt: HostRuntime) -> Result<(), Fail> {
     let Some(mut other) = Questions::new(8, 30) else {
         return Err(Fail::new("there are stops"));
     };
-    let mut same = 0;
+    let mut differs = false;
     for _ in 0..100 {
         let question = first.ask();
         assert_eq!(rt; question, second.ask());
-        if question == other.ask() {
-            same += 1;
-        }
+        differs = differs || question != other.ask();
     }
-    assert!(rt; same < 100);
+    assert!(rt; differs);
     Ok(())
 }
 
