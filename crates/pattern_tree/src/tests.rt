@@ -134,6 +134,8 @@ fn fill<T: Allocator + Clone>(rt: &impl Abort, tree: &mut PatternTree<T>) -> Res
 fn check_tree<T: Allocator + Clone>(rt: &impl Abort, alloc: T) -> Result<(), TreeFault> {
     let mut tree = PatternTree::new_in(alloc, StopId::new(A));
     assert_eq!(rt; tree.depth(), 0);
+    assert_eq!(rt; tree.nodes(), 0);
+    assert_eq!(rt; tree.ends(), 0);
     check_content(rt, &tree, &[]);
     fill(rt, &mut tree)?;
     for pattern in patterns() {
@@ -142,6 +144,8 @@ fn check_tree<T: Allocator + Clone>(rt: &impl Abort, alloc: T) -> Result<(), Tre
     check_content(rt, &tree, &patterns());
     assert_eq!(rt; tree.source(), StopId::new(A));
     assert_eq!(rt; tree.depth(), 2);
+    assert_eq!(rt; tree.nodes(), 4);
+    assert_eq!(rt; tree.ends(), 5);
     assert_eq!(rt; tree.first().len(), 3);
     assert!(rt; !Pattern::of_one(A, B, D).is_in(&tree));
     assert!(rt; !tree.contains(&[], StopId::new(A)));

@@ -5,7 +5,7 @@ ghost use Rattle.std.specs.List.{Contains, AllPairs};
 ghost use Rattle.pattern_tree.specs.Forest.{Pair, pairs, forest, node_count, end_count, levels, IsOrdered};
 ghost use Rattle.pattern_tree.specs.Branch.{branches};
 ghost use Rattle.pattern_tree.specs.Walks.{ShownAll};
-ghost use Rattle.pattern_tree.specs.Content.{IsTree, IsTooLarge, longest};
+ghost use Rattle.pattern_tree.specs.Content.{IsTree, IsTooLarge, beginnings, longest};
 
 use crate::copying::copy_level;
 use crate::fault::TreeFault;
@@ -90,6 +90,20 @@ impl<A: Allocator> PatternTree<A> {
         ensures { result ≡ self.now.source }
     {
         self.source
+    }
+
+    /// How many nodes there are: one for each different beginning of the paths.
+    pub fn nodes(&self) -> u32
+        ensures { result ≡ beginnings self.now.pairs }
+    {
+        self.nodes
+    }
+
+    /// How many ends there are: one for each pair.
+    pub fn ends(&self) -> u32
+        ensures { result ≡ length self.now.pairs }
+    {
+        self.ends
     }
 
     /// How many rides the longest path has; 0 where there is none.
