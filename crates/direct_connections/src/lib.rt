@@ -1,0 +1,11 @@
+//! Rides from a stop to a stop: of all of them one that arrives as early as any. These are the direct connections of Transfer
+//! Patterns (Bast and others, "Fast Routing in Very Large Public Transportation Networks Using Transfer Patterns", ESA 2010).
+#![tactic(auto)]
+
+mod direct;
+mod places;
+
+pub use direct::Direct;
+
+#[cfg(test)]
+mod tests;
