@@ -1,6 +1,6 @@
 -- What is kept for rides from a stop to a stop.
--- Transfer Patterns (Bast and others, ESA 2010), section 2: a direct connection query intersects, for two stops, the lists of the
--- lines that call there with the places at which they do.
+-- Transfer Patterns (Bast and others, ESA 2010), direct connections: a query intersects, for two stops, the lists of the lines that
+-- call there with the places at which they do.
 use Rattle.std.specs.Prelude.{◌≡◌, ℕ, Bool, IsTrue, List, [], slice_index_or, slice_get, IsSomeAnd}
 use Rattle.std.specs.List.{All, AllPairs, Contains}
 use Rattle.timetable.specs.Table.{Table, IsTable}

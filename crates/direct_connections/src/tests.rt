@@ -248,8 +248,8 @@ fn write_town(alloc: Global, trips: &mut String, calls: &mut String) -> Result<(
     Ok(())
 }
 
-// From every stop of the town to every other and to itself, from before the first trip until after the last: the arrival is
-// that of the plain search.
+// From every stop of the town to every other and to itself, from before the first trip until after the last on each of two days:
+// the arrival is that of the plain search.
 #[test]
 fn as_the_plain_search(rt: HostRuntime) -> Result<(), Fail> {
     let keys = RandomState::new(&rt)?;
@@ -263,8 +263,8 @@ fn as_the_plain_search(rt: HostRuntime) -> Result<(), Fail> {
     let (mut found, mut missed) = (0u32, 0u32);
     for from in 0u16..TOWN {
         for to in 0u16..TOWN {
-            for step in 0u32..16 {
-                let ready = 21_000 + step * 700;
+            for step in 0u32..24 {
+                let ready = 21_000 + step / 12 * 86_400 + step % 12 * 1_000;
                 let from = StopId::new(from);
                 let to = StopId::new(to);
                 let plain = plain_direct(&table, from, to, ready);
