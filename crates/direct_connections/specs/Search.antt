@@ -16,6 +16,7 @@ IsPlaceOf lines at = IsSomeAnd (slice_get lines at.line) (λ line. at.place < le
 
 -- of the places from `start` on those before this one aren't behind `at`; this one is, if it is there
 pub record IsFirstBehind (places : List LinePlace) (start : ℕ) (at : LinePlace) (first : ℕ) : Type 0 where
+  pub from : start ≤ first
   pub within : first ≤ length places
   pub passed : (k : ℕ) (d : LinePlace) → start ≤ k → k < first → ¬ IsBefore at (slice_index_or places k d)
   pub behind : (d : LinePlace) → first < length places → IsBefore at (slice_index_or places first d)
