@@ -1,50 +1,117 @@
 //! Asking many questions.
 
-ghost use Rattle.std.specs.Prelude.{◌≡◌};
+ghost use Rattle.std.specs.Prelude.{◌≡◌, ◌≤◌, ◌<◌, IfOk};
+ghost use Rattle.timetable.specs.Table.{stops_of};
+ghost use Rattle.direct_connections.specs.Direct.{IsMadeFor};
+ghost use Rattle.bench.specs.Asked.{IsAsked, IsJourneyAnswer, IsRideAnswer};
+ghost use Rattle.bench.specs.Totals.{IsTotal, no_answers};
 
-use crate::questions::Questions;
+use crate::questions::{Question, Questions};
 use crate::total::Total;
+use direct_connections::Direct;
+use lines::Lines;
 use rounds::{Rides, scan};
 use std::alloc::{AllocError, Global};
 use timetable::{Timetable, plain_direct};
 
-/// Asks for the least arrival of one ride, so many times.
-pub fn ask_direct(timetable: &Timetable, queries: u32, seed: u32) -> Total {
+// When the best ride that answers the question arrives, by the lines.
+fn ride_arrival(
+    timetable: &Timetable,
+    lines: &Lines,
+    connections: &Direct,
+    question: Question,
+) -> Option<u32>
+    requires { IsMadeFor timetable.now lines.now connections.now }
+    ensures { IsRideAnswer timetable.now question result }
+{
+    let Question { from, to, depart } = question;
+    let leg = connections.earliest(timetable, lines, from, to, depart)?;
+    Some(timetable.arrival_of(leg))
+}
+
+// When the best ride that answers the question arrives, looking at each trip.
+fn plain_arrival(timetable: &Timetable, question: Question) -> Option<u32>
+    ensures { IsRideAnswer timetable.now question result }
+{
+    let leg = plain_direct(timetable, question.from, question.to, question.depart)?;
+    Some(timetable.arrival_of(leg))
+}
+
+// When the last of the best journeys that answer the question arrives.
+fn journey_arrival(
+    alloc: Global,
+    timetable: &Timetable,
+    rides: Rides,
+    question: Question,
+) -> Result<Option<u32>, AllocError>
+    requires { IsAsked (stops_of timetable.now) question }
+    ensures { IfOk result (IsJourneyAnswer timetable.now rides question) }
+{
+    let Question { from, to, depart } = question;
+    let points = scan(alloc, timetable, from, to, depart, rides)?;
+    match points.last() {
+        Some(point) => Ok(Some(point.arrival)),
+        None => Ok(None),
+    }
+}
+
+/// Asks for the least arrival of one ride, so many times: by the lines. Between fewer than two stops nothing is asked.
+pub fn ask_direct(
+    timetable: &Timetable,
+    lines: &Lines,
+    connections: &Direct,
+    queries: u32,
+    seed: u32,
+) -> Total
+    requires { IsMadeFor timetable.now lines.now connections.now }
+    ensures asked { 2 ≤ stops_of timetable.now → IsTotal (stops_of timetable.now) queries (IsRideAnswer timetable.now) result }
+    ensures few { stops_of timetable.now < 2 → result ≡ no_answers }
+{
     let mut total = Total::default();
     let Some(mut questions) = Questions::new(seed, timetable.stops()) else {
         return total;
     };
     for _ in 0..queries {
         let question = questions.ask();
-        let leg = plain_direct(timetable, question.from, question.to, question.depart);
-        total.add(leg.map(|leg| timetable.arrival_of(leg)));
+        total.add(ride_arrival(timetable, lines, connections, question));
     }
     total
 }
 
-/// Asks for the best journeys of at most so many rides, so many times. The arrival that counts is the earliest one.
+/// Asks for the least arrival of one ride, so many times: looking at each trip. Between fewer than two stops nothing is asked.
+pub fn ask_plain(timetable: &Timetable, queries: u32, seed: u32) -> Total
+    ensures asked { 2 ≤ stops_of timetable.now → IsTotal (stops_of timetable.now) queries (IsRideAnswer timetable.now) result }
+    ensures few { stops_of timetable.now < 2 → result ≡ no_answers }
+{
+    let mut total = Total::default();
+    let Some(mut questions) = Questions::new(seed, timetable.stops()) else {
+        return total;
+    };
+    for _ in 0..queries {
+        total.add(plain_arrival(timetable, questions.ask()));
+    }
+    total
+}
+
+/// Asks for the best journeys of at most so many rides, so many times. The arrival that counts is the earliest one. Between fewer
+/// than two stops nothing is asked. It fails only where memory runs out.
 pub fn ask_scan(
     alloc: Global,
     timetable: &Timetable,
     rides: Rides,
     queries: u32,
     seed: u32,
-) -> Result<Total, AllocError> {
+) -> Result<Total, AllocError>
+    ensures asked { IfOk result (λ total. 2 ≤ stops_of timetable.now
+        → IsTotal (stops_of timetable.now) queries (IsJourneyAnswer timetable.now rides) total) }
+    ensures few { IfOk result (λ total. stops_of timetable.now < 2 → total ≡ no_answers) }
+{
     let mut total = Total::default();
     let Some(mut questions) = Questions::new(seed, timetable.stops()) else {
         return Ok(total);
     };
     for _ in 0..queries {
-        let question = questions.ask();
-        let points = scan(
-            alloc,
-            timetable,
-            question.from,
-            question.to,
-            question.depart,
-            rides,
-        )?;
-        total.add(points.last().map(|point| point.arrival));
+        total.add(journey_arrival(alloc, timetable, rides, questions.ask())?);
     }
     Ok(total)
 }

@@ -2,6 +2,7 @@
 #![tactic(auto)]
 
 mod asking;
+mod building;
 mod fault;
 mod measuring;
 mod questions;
@@ -10,14 +11,15 @@ mod words;
 
 use crate::measuring::measure;
 use crate::words::read_words;
-use programs::{given_words, out_of_memory, show, texts};
+use programs::{given_words, out_of_memory, show, texts, unread};
 use std::io::Write;
 use std::process::ExitCode;
 
 fn status(rt: &HostRuntime) -> u8 {
     let alloc = rt.alloc();
-    let Ok(words) = given_words(rt) else {
-        return out_of_memory("bench", &mut rt.stderr());
+    let words = match given_words(rt) {
+        Ok(words) => words,
+        Err(error) => return unread("bench", &error, &mut rt.stderr()),
     };
     let Ok(texts) = texts(alloc, words.as_slice()) else {
         return out_of_memory("bench", &mut rt.stderr());

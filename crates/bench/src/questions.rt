@@ -1,6 +1,6 @@
 //! Random questions.
 
-ghost use Rattle.std.specs.Prelude.{◌≡◌, ◌≢◌, ◌<◌, ◌≤◌};
+ghost use Rattle.std.specs.Prelude.{◌≡◌, ◌<◌, ◌≤◌, ◌⊎◌};
 
 use rand::RngExt;
 use rand_core::SeedableRng;
@@ -32,11 +32,12 @@ pub struct Questions {
 
 impl Questions {
     ghost use Rattle.std.specs.Prelude.{IfSome, IfNone};
-    ghost use Rattle.bench.specs.Asked.{stops_of};
+    ghost use Rattle.bench.specs.Asked.{stops_of, IsAsked};
 
-    /// Questions between so many stops; none where there are fewer than two.
+    /// Questions between so many stops; none where there are fewer than two, or more than a timetable has.
     pub fn new(seed: u32, stops: usize) -> Option<Questions>
         ensures made { IfSome result (λ questions. stops_of questions ≡ stops) }
+        ensures none { IfNone result ((stops < 2) ⊎ (65_534 < stops)) }
     {
         if stops < 2 || stops > 65_534 {
             return None;
@@ -50,11 +51,7 @@ impl Questions {
     /// The next question: two different stops, and a moment from 05:00:00 to before 22:00:00.
     pub fn ask(&mut self) -> Question
         ensures stops { stops_of self.new ≡ stops_of self.old }
-        ensures from { result.from < stops_of self.old }
-        ensures to { result.to < stops_of self.old }
-        ensures different { result.from ≢ result.to }
-        ensures early { 18_000 ≤ result.depart }
-        ensures late { result.depart < 79_200 }
+        ensures asked { IsAsked (stops_of self.old) result }
     {
         let from = self.random.random_range(0..self.stops);
         let other = self.random.random_range(0..self.stops - 1);

@@ -1,5 +1,5 @@
 use crate::questions::Questions;
-use crate::total::Total;
+use crate::total::{Total, times_faster};
 use crate::words::read_words;
 use std::test::Fail;
 
@@ -9,8 +9,11 @@ fn words_that_are_left_out_have_their_defaults(rt: HostRuntime) -> Result<(), Fa
     let mut told = Vec::new(rt.alloc());
     match read_words(rt.alloc(), &words, &mut told) {
         Ok(measure) => {
+            assert_eq!(rt; measure.direct, 100_000);
+            assert_eq!(rt; measure.plain, 100);
             assert_eq!(rt; measure.queries, 1000);
             assert_eq!(rt; measure.seed, 1);
+            assert_eq!(rt; measure.sources, 0);
             assert_eq!(rt; measure.settings.feed, "demo");
             assert_eq!(rt; measure.settings.date, "20240102");
             assert_eq!(rt; measure.settings.days, 1);
@@ -76,4 +79,12 @@ fn totals_count_the_answers_alone(rt: HostRuntime) {
     total.add(Some(12));
     assert_eq!(rt; total.answered, 2);
     assert_eq!(rt; total.arrivals, 42);
+}
+
+// A question of the one kind took 6,400 nanoseconds, and a thousand of the other 100,000 together.
+#[test]
+fn times_are_those_of_one_question(rt: HostRuntime) {
+    assert_eq!(rt; times_faster(6_400, 1, 100_000, 1_000), 64);
+    assert_eq!(rt; times_faster(100_000, 1_000, 6_400, 1), 0);
+    assert_eq!(rt; times_faster(7, 1, 0, 1), 7);
 }

@@ -1,6 +1,7 @@
 //! What the answers add up to.
 
 ghost use Rattle.std.specs.Prelude.{◌≡◌};
+ghost use Rattle.bench.specs.Totals.{times_faster as times_faster_of};
 
 use std::fmt;
 
@@ -27,7 +28,22 @@ impl Total {
 }
 
 impl fmt::Display for Total {
+    ghost use Rattle.std.specs.Prelude.{Some};
+    ghost use Rattle.bench.specs.Totals.{total_text};
+
+    ghost output = { λ total. Some (total_text total) };
+
     fn fmt<W: fmt::Write>(&self, f: &mut fmt::Formatter<W>) -> fmt::Result {
         write!(f, "{} {}", self.answered, self.arrivals)
     }
+}
+
+/// How many times as long one of the slow questions took as one of the fast ones, in whole times: `slow_count` questions took
+/// `slow` nanoseconds, and `fast_count` questions `fast`. No time counts as one nanosecond.
+pub fn times_faster(slow: u64, slow_count: u32, fast: u64, fast_count: u32) -> u64
+    ensures { result ≡ times_faster_of slow slow_count fast fast_count }
+{
+    let slow_times = slow.saturating_mul(u64::from(fast_count));
+    let fast_times = fast.saturating_mul(u64::from(slow_count));
+    slow_times / fast_times.max(1)
 }

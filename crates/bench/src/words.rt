@@ -1,11 +1,11 @@
 //! What the benchmark's words say.
 
-ghost use Rattle.std.specs.Prelude.{◌≡◌, false, IfOk, IfErr, IfSome, map};
+ghost use Rattle.std.specs.Prelude.{◌≡◌, false, [], IfOk, IfErr, IfSome, IfNone, OnOk, map};
 ghost use Rattle.clap.specs.Words.{app_of, rows_of, found_of, matches_of, fault_of, kind_of, FailsBy};
 ghost use Rattle.clap.specs.declared.error.kind.ErrorKind.TheVariants.{OutOfMemory};
 ghost use Rattle.clap.specs.declared.builder.command.Command.TheViews.{out-Command as fields_of};
 ghost use Rattle.programs.specs.Statuses.{IsStatus};
-ghost use Rattle.bench.specs.CommandLine.{bench_app, IsMeasure};
+ghost use Rattle.bench.specs.CommandLine.{bench_app, IsMeasure, NamesNothing};
 
 use clap::{ArgMatches, Command, Error};
 use programs::{Settings, common, number, number_of, refuse, settings_of};
@@ -14,16 +14,23 @@ use std::io::Write;
 
 const ABOUT: &str =
     "Reads a feed, asks it random questions, and says how long each part takes: on standard error a line \
-NAME COUNT SECONDS for each part, on standard output how many questions had an answer and the sum of their arrivals.";
+NAME COUNT SECONDS for each part, on standard output how many questions had an answer and the sum of their arrivals, and the nodes \
+and ends of each tree.";
 
 /// What to measure.
 #[derive(Clone, Copy, Debug, PartialEq, Eq)]
 pub struct Measure<'a> {
     pub settings: Settings<'a>,
-    /// How many questions of each kind are asked.
+    /// How many questions for one ride are asked.
+    pub direct: u32,
+    /// How many of these are answered by looking at each trip, too.
+    pub plain: u32,
+    /// How many questions for the best journeys are asked.
     pub queries: u32,
     /// Where the random numbers begin.
     pub seed: u32,
+    /// The trees of how many sources are built.
+    pub sources: u32,
 }
 
 // The benchmark's command line.
@@ -32,6 +39,24 @@ fn command<'a>(alloc: Global) -> Result<Command<'a>, Error>
     ensures local { IfOk result (λ c. (fields_of c).has_globals ≡ false) }
     ensures err { IfErr result (λ e. kind_of e ≡ OutOfMemory) }
 {
+    let direct = number(
+        alloc,
+        "direct",
+        "N",
+        "100000",
+        0,
+        10_000_000,
+        "How many questions for one ride are asked, up to 10000000",
+    );
+    let plain = number(
+        alloc,
+        "plain",
+        "N",
+        "100",
+        0,
+        1_000_000,
+        "How many of these are answered by looking at each trip, too, up to 1000000",
+    );
     let queries = number(
         alloc,
         "queries",
@@ -39,7 +64,7 @@ fn command<'a>(alloc: Global) -> Result<Command<'a>, Error>
         "1000",
         0,
         1_000_000,
-        "How many questions of each kind are asked, up to 1000000",
+        "How many questions for the best journeys are asked, up to 1000000",
     );
     let seed = number(
         alloc,
@@ -50,7 +75,21 @@ fn command<'a>(alloc: Global) -> Result<Command<'a>, Error>
         u32::MAX,
         "Where the random numbers begin: the same seed asks the same questions",
     );
-    let command = common(alloc, "bench", ABOUT)?.arg(queries)?.arg(seed)?;
+    let sources = number(
+        alloc,
+        "sources",
+        "N",
+        "0",
+        0,
+        65_534,
+        "The trees of how many sources are built, from the first stop on, up to 65534",
+    );
+    let command = common(alloc, "bench", ABOUT)?
+        .arg(direct)?
+        .arg(plain)?
+        .arg(queries)?
+        .arg(seed)?
+        .arg(sources)?;
     Ok(command)
 }
 
@@ -62,29 +101,39 @@ fn found<'a>(alloc: Global, words: &'a [&'a str]) -> Result<ArgMatches<'a>, Erro
     command(alloc)?.try_get_matches_from(words)
 }
 
+// What the words say to measure: none where a word isn't there, or is out of its range.
 fn measure_of<'a>(found: &ArgMatches<'a>) -> Option<Measure<'a>>
-    ensures { IfSome result (IsMeasure (rows_of (found_of found.now))) }
+    ensures measure { IfSome result (IsMeasure (rows_of (found_of found.now))) }
+    ensures none { IfNone result (NamesNothing (rows_of (found_of found.now))) }
 {
     let settings = settings_of(found)?;
+    let direct = number_of(found, "direct")?;
+    let plain = number_of(found, "plain")?;
     let queries = number_of(found, "queries")?;
     let seed = number_of(found, "seed")?;
+    let sources = number_of(found, "sources")?;
     Some(Measure {
         settings,
+        direct,
+        plain,
         queries,
         seed,
+        sources,
     })
 }
 
-/// Reads the words of the benchmark, the first of which is its name. An `Err` is the status to end with, and what the
-/// user is to be told stands in `err`: the help that was asked for with status 0, a fault of words with 2, want of
-/// memory with 7.
+/// Reads the words of the benchmark, the first of which is its name: what they say to measure, with exactly their values. An `Err`
+/// is the status to end with, and what the user is to be told stands in `err`: the help that was asked for with status 0, a fault
+/// of words with 2, want of memory with 7.
 pub fn read_words<'a, E: Write>(
     alloc: Global,
     words: &'a [&'a str],
     err: &mut E,
 ) -> Result<Measure<'a>, u8>
     ensures measure { IfOk result (IsMeasure (matches_of bench_app (map (λ w. w.now) words.entry.now))) }
-    ensures status { IfErr result (IsStatus (fault_of bench_app (map (λ w. w.now) words.entry.now))) }
+    ensures faultless { OnOk result (fault_of bench_app (map (λ w. w.now) words.entry.now) ≡ []) }
+    ensures status { IfErr result (IsStatus (fault_of bench_app (map (λ w. w.now) words.entry.now))
+        (NamesNothing (matches_of bench_app (map (λ w. w.now) words.entry.now)))) }
 {
     match found(alloc, words) {
         Ok(found) => measure_of(&found).ok_or(2),

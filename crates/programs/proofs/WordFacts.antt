@@ -1,24 +1,22 @@
 -- What the getters of matches give, by the rows.
-use Rattle.std.proofs.Common.{◌≡◌, ◌∙◌, sym, ap, refl, ℕ, List, Option, None, Some, option_map, Bor, Result, Ok}
-use Rattle.std.specs.Prelude.{IfSome}
-use Rattle.std.proofs.lemmas.Option.{none-some}
-use Rattle.clap.specs.Words.{Text, one_of, rows_of, first_value, ReadsOne}
+use Rattle.std.proofs.Common.{◌≡◌, ◌^◌, refl, ℕ, Option, None, Some, Result, Ok, Err, MatchOption}
+use Rattle.std.specs.Str.Parse.{ParsesUnsigned}
+use Rattle.clap.specs.Words.{Text, one_of, one_text, rows_of, ReadsOne}
 use Rattle.clap.specs.declared.parser.matches.Found.{Found}
-use Rattle.clap.specs.Matches.{one_text}
-use Rattle.clap.proofs.WalkLemmas.{first_value-rows, one_text-rows}
-use Rattle.programs.specs.Values.{HasText, HasNumber, Spells}
+use Rattle.clap.proofs.WalkLemmas.{one_text-rows}
+use Rattle.programs.specs.Values.{HasNumber, Spells}
 
-pub has_text : (f : Found) (id : Text) (s : Option (Bor Text)) → option_map (λ x. x.now) s ≡ first_value f id → IfSome s (λ x. HasText (rows_of f) id x.now)
-has_text f id None e = tt
-has_text f id (Some s) e = sym (e ∙ first_value-rows f id)
-
-pub has_number : {E : Type 0} (f : Found) (id : Text) (n : Option ℕ) (Gives : List ℕ → Result ℕ E → Type 0)
-    → ((t : List ℕ) (k : ℕ) → Gives t (Ok k) → Spells (Some t) k)
-    → (one_text f id ≡ None → n ≡ None) → ((t : List ℕ) → one_text f id ≡ Some t → ReadsOne Gives t n)
-    → IfSome n (HasNumber (rows_of f) id)
-has_number f id None Gives spells none value = tt
-has_number {E} f id (Some k) Gives spells none value = go (one_text f id) refl
+-- what a getter reads by a type's own reading is the number that the rows have
+pub has_number : {E : Type 0} (k : ℕ) (f : Found) (id : Text) (n : Option ℕ) (Gives : Text → Result ℕ E → Type 0)
+    → ((t : Text) (r : Result ℕ E) → Gives t r → ParsesUnsigned k 10 t r)
+    → (one_text f id ≡ None → n ≡ None) → ((t : Text) → one_text f id ≡ Some t → ReadsOne Gives t n)
+    → HasNumber (2 ^ k) (rows_of f) id n
+has_number {E} k f id n Gives parses none value = rw (← one_text-rows f id) (go (one_text f id) refl)
   where
-    go : (o : Option (List ℕ)) → one_text f id ≡ o → Spells (one_of id (rows_of f)) k
-    go None e = absurd (none-some k (sym (none e)))
-    go (Some t) e = rw (sym (one_text-rows f id) ∙ e) (spells t k (value t e))
+    spells : (t : Text) (m : Option ℕ) → ReadsOne Gives t m → Spells (2 ^ k) t m
+    spells t None given = parses t (Err given.0) given.1
+    spells t (Some v) given = parses t (Ok v) given
+
+    go : (o : Option Text) → one_text f id ≡ o → MatchOption o (n ≡ None) (λ t. Spells (2 ^ k) t n)
+    go None e = none e
+    go (Some t) e = spells t n (value t e)

@@ -1,5 +1,9 @@
 //! The files of a feed, from a folder.
 
+ghost use Rattle.std.specs.Prelude.{◌≡◌, IfErr};
+ghost use Rattle.std.specs.IoError.{error_kind};
+ghost use Rattle.std.specs.declared.io.ErrorKind.TheVariants.{OutOfMemory};
+
 use gtfs_tables::Files;
 use std::alloc::Global;
 use std::fs::File;
@@ -14,7 +18,16 @@ pub enum FeedReader {
 }
 
 impl Read for FeedReader {
-    fn read(&mut self, buf: &mut [u8]) -> io::Result<usize> {
+    ghost use Rattle.std.specs.Prelude.{◌≡◌, None, IsErr};
+    ghost use Rattle.std.specs.Io.{ReadsAtMost};
+    ghost use Rattle.std.specs.Io.KnownBytes.{ReadConsumes};
+
+    /// Reads from the file. One that couldn't be opened fails each time.
+    fn read(&mut self, buf: &mut [u8]) -> io::Result<usize>
+        ensures bound { ReadsAtMost result buf.new }
+        ensures bytes { ReadConsumes None None result buf.new }
+        ensures refused { self.old ≡ FeedReader.Refused → IsErr result }
+    {
         match self {
             FeedReader::Opened(file) => file.read(buf),
             FeedReader::Refused => Err(io::Error::from(ErrorKind::Other)),
@@ -23,12 +36,9 @@ impl Read for FeedReader {
 }
 
 // The file of that name in the folder: none where it isn't there. An error is want of memory.
-fn open(
-    rt: &HostRuntime,
-    alloc: Global,
-    folder: &str,
-    name: &str,
-) -> io::Result<Option<FeedReader>> {
+fn open(rt: &HostRuntime, alloc: Global, folder: &str, name: &str) -> io::Result<Option<FeedReader>>
+    ensures { IfErr result (λ error. error_kind error ≡ OutOfMemory) }
+{
     let path = format!(in alloc; "{folder}/{name}")?;
     match fs::open(rt, path.as_str()) {
         Ok(file) => Ok(Some(FeedReader::Opened(file))),
@@ -40,8 +50,11 @@ fn open(
     }
 }
 
-/// The files of the feed in a folder. An error is want of memory.
-pub fn open_feed(rt: &HostRuntime, alloc: Global, folder: &str) -> io::Result<Files<FeedReader>> {
+/// The files of the feed in a folder: those that are there, under their names. An error is want of memory. No contract says which
+/// files a system has.
+pub fn open_feed(rt: &HostRuntime, alloc: Global, folder: &str) -> io::Result<Files<FeedReader>>
+    ensures { IfErr result (λ error. error_kind error ≡ OutOfMemory) }
+{
     Ok(Files {
         stops: open(rt, alloc, folder, "stops.txt")?,
         trips: open(rt, alloc, folder, "trips.txt")?,

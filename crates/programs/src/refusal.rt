@@ -1,8 +1,8 @@
 //! What a program tells of words that it doesn't take.
 
-ghost use Rattle.std.specs.Prelude.{◌≡◌};
+ghost use Rattle.std.specs.Prelude.{◌≡◌, ◌⊎◌};
 ghost use Rattle.clap.specs.Words.{Kinds, HasKind, kind_of};
-ghost use Rattle.programs.specs.Statuses.{IsStatus, kind_status};
+ghost use Rattle.programs.specs.Statuses.{IsFaultStatus, kind_status};
 
 use clap::Error;
 use clap::error::ErrorKind;
@@ -23,7 +23,7 @@ fn status_of(error: &Error) -> u8
 /// fault of words, 7 for want of memory, of which the program's name and `Memory` are told.
 pub fn refuse<E: Write>(program: &str, error: &Error, err: &mut E) -> u8
     ensures status { result ≡ kind_status (kind_of error.now) }
-    ensures among { (kinds : Kinds) → HasKind kinds error.now → IsStatus kinds result }
+    ensures among { (kinds : Kinds) → HasKind kinds error.now → (result ≡ 7) ⊎ IsFaultStatus kinds result }
 {
     let status = status_of(error);
     let _ = if status == 7 {

@@ -1,8 +1,9 @@
 use crate::feed::FeedReader;
-use crate::{open_feed, out_of_memory, texts};
-use std::fs;
-use std::io::Read;
+use crate::{Fault, NO_KEYS, open_feed, out_of_memory, texts, unread};
+use service_days::DayFault;
+use std::io::{ErrorKind, Read, Write};
 use std::test::Fail;
+use std::{fs, io};
 
 #[test]
 fn a_folder_that_is_not_there_has_no_files(rt: HostRuntime) -> Result<(), Fail> {
@@ -60,5 +61,32 @@ fn words_and_what_is_told_without_memory(rt: HostRuntime) -> Result<(), Fail> {
     let mut told = Vec::new(rt.alloc());
     assert_eq!(rt; out_of_memory("tp", &mut told), 7);
     assert_eq!(rt; told.as_slice(), b"tp: Memory\n".as_slice());
+    Ok(())
+}
+
+#[test]
+fn why_there_are_no_words(rt: HostRuntime) -> Result<(), Fail> {
+    let rows = [
+        (ErrorKind::OutOfMemory, 7, "tp: Memory\n"),
+        (ErrorKind::InvalidData, 2, "tp: a word isn't UTF-8\n"),
+    ];
+    for (kind, status, line) in rows {
+        let mut told = Vec::new(rt.alloc());
+        assert_eq!(rt; unread("tp", &io::Error::from(kind), &mut told), status);
+        assert_eq!(rt; std::str::from_utf8(told.as_slice())?, line);
+    }
+    Ok(())
+}
+
+#[test]
+fn faults_as_they_are_told(rt: HostRuntime) -> Result<(), Fail> {
+    let mut told = Vec::new(rt.alloc());
+    writeln!(&mut told, "{}", Fault::Feed(NO_KEYS))?;
+    writeln!(&mut told, "{}", Fault::Days(DayFault::BadZone))?;
+    writeln!(&mut told, "{}", Fault::UnknownStop("X"))?;
+    assert_eq!(rt;
+        std::str::from_utf8(told.as_slice())?,
+        "F9 ReadFailed stops.txt row 0\nS2 BadZone\nQ1 UnknownStop X\n"
+    );
     Ok(())
 }

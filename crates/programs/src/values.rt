@@ -1,39 +1,41 @@
 //! What the words say of the options.
 
-ghost use Rattle.std.specs.Prelude.{IfSome};
-ghost use Rattle.clap.specs.Words.{rows_of, found_of};
-ghost use Rattle.programs.specs.Settings.{HasSettings};
-ghost use Rattle.programs.specs.Values.{HasText, HasNumber};
+ghost use Rattle.std.specs.Prelude.{◌≡◌, ◌^◌, IfSome, IfNone, option_map};
+ghost use Rattle.clap.specs.Words.{rows_of, found_of, first_of};
+ghost use Rattle.programs.specs.Settings.{HasSettings, LacksSettings};
+ghost use Rattle.programs.specs.Values.{HasNumber};
 
 use crate::settings::Settings;
 use clap::ArgMatches;
 
-/// The text that the words have for an option, if any.
+/// The text that the words have for an option; none where they have none.
 pub fn text_of<'a>(found: &ArgMatches<'a>, option: &str) -> Option<&'a str>
-    ensures { IfSome result (λ text. HasText (rows_of (found_of found.now)) option.now text.now) }
+    ensures { option_map (λ text. text.now) result ≡ first_of option.now (rows_of (found_of found.now)) }
 {
     found.get_str(option)
 }
 
-/// The number that the words have for an option, if any.
+/// The number below 2^32 that the words have for an option; none where they have no text for it, or one that spells no such
+/// number.
 pub fn number_of(found: &ArgMatches<'_>, option: &str) -> Option<u32>
-    ensures { IfSome result (HasNumber (rows_of (found_of found.now)) option.now) }
+    ensures { HasNumber (2 ^ 32) (rows_of (found_of found.now)) option.now result }
 {
     found.get_one::<u32>(option)
 }
 
-/// The number below 256 that the words have for an option, if any.
+/// The number below 256 that the words have for an option; none where they have no text for it, or one that spells no such
+/// number.
 pub fn byte_of(found: &ArgMatches<'_>, option: &str) -> Option<u8>
-    ensures { IfSome result (HasNumber (rows_of (found_of found.now)) option.now) }
+    ensures { HasNumber 256 (rows_of (found_of found.now)) option.now result }
 {
-    let number = number_of(found, option)?;
-    u8::try_from(number).ok()
+    found.get_one::<u8>(option)
 }
 
-/// The settings among the words of a command that has the options of `common`. None where a word isn't there, or is out of
-/// its range.
+/// The settings among the words of a command that has the options of `common`. None only where a word isn't there, or is out
+/// of its range.
 pub fn settings_of<'a>(found: &ArgMatches<'a>) -> Option<Settings<'a>>
-    ensures { IfSome result (HasSettings (rows_of (found_of found.now))) }
+    ensures settings { IfSome result (HasSettings (rows_of (found_of found.now))) }
+    ensures none { IfNone result (LacksSettings (rows_of (found_of found.now))) }
 {
     let feed = text_of(found, "feed")?;
     let date = text_of(found, "date")?;

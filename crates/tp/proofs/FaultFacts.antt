@@ -13,9 +13,9 @@ use Rattle.timetable.specs.NameLists.{NameLists}
 use Rattle.timetable.specs.Table.{Table}
 use Rattle.tp.specs.Answers.{IsRefusal}
 use Rattle.tp.specs.Feeds.{AreDateTime, IsWordFault, IsFeedFault, IsFeedRefusal, IsRowFault}
-use Rattle.tp.specs.Statuses.{of_days, of_feed, of_kind}
-use Rattle.tp.specs.declared.fault.Fault.{Fault}
-use Rattle.tp.specs.declared.fault.Fault.TheVariants as faults
+use Rattle.programs.specs.Faults.{of_days, of_feed, of_kind}
+use Rattle.programs.specs.declared.fault.Fault.{Fault}
+use Rattle.programs.specs.declared.fault.Fault.TheVariants as faults
 use Rattle.tp.specs.declared.job.Job.{Job}
 
 pub of_words : (feed : Feed) (job : Job) (f : Fault) → IsWordFault job f → IsFeedFault feed job f

@@ -14,8 +14,8 @@ use Rattle.timetable.specs.Names.{stop_named}
 use Rattle.tp.specs.declared.answer.Answer.{Answer}
 use Rattle.tp.specs.declared.answer.Answer.TheVariants as answers
 use Rattle.tp.specs.declared.answer.Point.{Point}
-use Rattle.tp.specs.declared.fault.Fault.{Fault}
-use Rattle.tp.specs.declared.fault.Fault.TheVariants as faults
+use Rattle.programs.specs.declared.fault.Fault.{Fault}
+use Rattle.programs.specs.declared.fault.Fault.TheVariants as faults
 use Rattle.tp.specs.declared.job.Job.{Job}
 use Rattle.tp.specs.declared.job.Task.{Task}
 use Rattle.tp.specs.declared.job.Task.TheVariants as tasks

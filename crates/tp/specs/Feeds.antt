@@ -15,8 +15,8 @@ use Rattle.timetable.specs.Table.{Table}
 use Rattle.tp.specs.Answers.{IsAnswer, IsRefusal}
 use Rattle.tp.specs.Tasks.{question_of}
 use Rattle.tp.specs.declared.answer.Answer.{Answer}
-use Rattle.tp.specs.declared.fault.Fault.{Fault}
-use Rattle.tp.specs.declared.fault.Fault.TheVariants as faults
+use Rattle.programs.specs.declared.fault.Fault.{Fault}
+use Rattle.programs.specs.declared.fault.Fault.TheVariants as faults
 use Rattle.tp.specs.declared.job.Job.{Job}
 
 -- the job's words are that date and that time

@@ -14,10 +14,18 @@ pub record IsQuestion (rows : List Row) (question : Question) : Type 0 where
   pub to : HasText rows (codes "to") question.to.now
   pub at : HasText rows (codes "at") question.at.now
 
+-- an own word of the command has no value
+abbrev pub LacksQuestion : List Row → Type 0
+LacksQuestion rows = (question : Question) → ¬ IsQuestion rows question
+
 -- the command, and its own words
 abbrev pub IsTask : Text → List Row → Task → Type 0
 IsTask name rows (task.Direct question) = (name ≡ codes "direct") × IsQuestion rows question
 IsTask name rows (task.Scan question) = (name ≡ codes "scan") × IsQuestion rows question
+
+-- no task has this name and these rows
+abbrev pub NamesNoTask : Text → List Row → Type 0
+NamesNoTask name rows = (task : Task) → ¬ IsTask name rows task
 
 -- a command's name and rows give this job
 pub record IsJobOf (name : Text) (rows : List Row) (job : Job) : Type 0 where
@@ -27,3 +35,11 @@ pub record IsJobOf (name : Text) (rows : List Row) (job : Job) : Type 0 where
 abbrev pub IsJob : Option (Text × List Row) → Job → Type 0
 IsJob None job = ⊥
 IsJob (Some met) job = IsJobOf met.0 met.1 job
+
+-- no job has this name and these rows
+abbrev pub NamesNoJobOf : Text → List Row → Type 0
+NamesNoJobOf name rows = (job : Job) → ¬ IsJobOf name rows job
+
+-- there is no command, or one without a value for each of its words
+abbrev pub NamesNoJob : Option (Text × List Row) → Type 0
+NamesNoJob met = (job : Job) → ¬ IsJob met job

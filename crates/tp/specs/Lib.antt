@@ -4,5 +4,4 @@ pub mod Feeds
 pub mod Jobs
 pub mod Printed
 pub mod Runs
-pub mod Statuses
 pub mod Tasks

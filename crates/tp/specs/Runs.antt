@@ -4,9 +4,9 @@ use Rattle.std.specs.Io.KnownBytes.{Appends, Keeps}
 use Rattle.gtfs_tables.specs.Feed.{Feed}
 use Rattle.tp.specs.Feeds.{IsFeedAnswer, IsFeedFault}
 use Rattle.tp.specs.Printed.{answer_text}
-use Rattle.tp.specs.Statuses.{status_of}
+use Rattle.programs.specs.Faults.{status_of}
 use Rattle.tp.specs.declared.answer.Answer.{Answer}
-use Rattle.tp.specs.declared.fault.Fault.{Fault}
+use Rattle.programs.specs.declared.fault.Fault.{Fault}
 use Rattle.tp.specs.declared.job.Job.{Job}
 
 -- the answer stands on standard output, as lines

@@ -8,13 +8,15 @@ ghost use Rattle.timetable.specs.Names.{stop_named};
 ghost use Rattle.tp.specs.Printed.{answer_text, point_text, points_text};
 ghost use Rattle.tp.specs.Answers.{IsDirect, IsScan, IsUnknown, Says, Shows};
 
-use crate::fault::Fault;
 use crate::moment::DayTime;
+use direct_connections::Direct;
+use lines::Lines;
+use programs::Fault;
 use rounds::Rides;
 use service_days::Cover;
 use std::alloc::{AllocError, Global};
 use std::fmt;
-use timetable::{Names, Numbers, StopId, Timetable, plain_direct};
+use timetable::{Names, Numbers, StopId, Timetable};
 
 /// The numbers of a best journey: how many rides, and when it arrives. Shown as `rides N arrive DATE TIME`.
 #[derive(Clone, Copy, Debug, PartialEq, Eq)]
@@ -86,14 +88,24 @@ fn day_time(cover: &Cover, moment: u32) -> DayTime
     DayTime { date, seconds }
 }
 
-/// The least arrival of one ride from a stop to a stop that departs at the moment or later.
-pub fn direct(timetable: &Timetable, cover: &Cover, from: StopId, to: StopId, depart: u32) -> Answer
-    ensures { IsDirect timetable.now cover.now from to depart result }
+/// The least arrival of one ride from a stop to a stop that departs at the moment or later. It fails only where memory runs out.
+pub fn direct(
+    alloc: Global,
+    timetable: &Timetable,
+    cover: &Cover,
+    from: StopId,
+    to: StopId,
+    depart: u32,
+) -> Result<Answer, AllocError>
+    ensures { IfOk result (IsDirect timetable.now cover.now from to depart) }
 {
-    match plain_direct(timetable, from, to, depart) {
+    let lines = Lines::of(alloc, timetable)?;
+    let connections = Direct::of(alloc, timetable, &lines)?;
+    let answer = match connections.earliest(timetable, &lines, from, to, depart) {
         None => Answer::NoRide,
         Some(leg) => Answer::Arrive(day_time(cover, timetable.arrival_of(leg))),
-    }
+    };
+    Ok(answer)
 }
 
 // Each of these numbers, as a point.

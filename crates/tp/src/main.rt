@@ -3,7 +3,6 @@
 
 mod answer;
 mod command_line;
-mod fault;
 mod job;
 mod moment;
 mod run;
@@ -12,7 +11,7 @@ mod words;
 use crate::job::Job;
 use crate::run::run;
 use crate::words::read_words;
-use programs::{given_words, open_feed, out_of_memory, show, texts};
+use programs::{given_words, open_feed, out_of_memory, show, texts, unread};
 use std::hash::RandomState;
 use std::process::ExitCode;
 
@@ -32,8 +31,9 @@ fn perform(rt: &HostRuntime, job: &Job<'_>) -> u8 {
 
 fn status(rt: &HostRuntime) -> u8 {
     let alloc = rt.alloc();
-    let Ok(words) = given_words(rt) else {
-        return out_of_memory("tp", &mut rt.stderr());
+    let words = match given_words(rt) {
+        Ok(words) => words,
+        Err(error) => return unread("tp", &error, &mut rt.stderr()),
     };
     let Ok(texts) = texts(alloc, words.as_slice()) else {
         return out_of_memory("tp", &mut rt.stderr());

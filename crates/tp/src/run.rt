@@ -8,24 +8,17 @@ ghost use Rattle.tp.specs.Runs.{IsRun};
 ghost use Rattle.timetable.specs.Table.{stops_of};
 
 use crate::answer::{Answer, direct, scan, stop_of};
-use crate::fault::Fault;
 use crate::job::{Job, Question, Task};
-use gtfs_tables::{FaultKind, FeedFault, FeedFile, Files, read_tables};
+use gtfs_tables::{Files, read_tables};
 use gtfs_text::{date, time};
 use jiff::civil::Date;
+use programs::{Fault, NO_KEYS};
 use rounds::Rides;
 use service_days::Cover;
 use std::alloc::Global;
 use std::hash::RandomState;
 use std::io::{Read, Write};
 use timetable::{Names, Timetable, assemble};
-
-// No seed for the look-up of ids could be had: nothing of the feed is read.
-const NO_KEYS: FeedFault = FeedFault {
-    kind: FaultKind::ReadFailed,
-    file: FeedFile::Stops,
-    row: 0,
-};
 
 // A moment that no timetable covers.
 const NEVER: u32 = u32::MAX;
@@ -50,7 +43,7 @@ fn perform<'a>(
         return Err(Fault::NotCovered);
     }
     match job.task {
-        Task::Direct(_) => Ok(direct(timetable, cover, from, to, depart)),
+        Task::Direct(_) => Ok(direct(alloc, timetable, cover, from, to, depart)?),
         Task::Scan(_) => {
             let rides = Rides::new(job.settings.rides);
             Ok(scan(alloc, timetable, cover, from, to, depart, rides)?)

@@ -1,6 +1,7 @@
+use Rattle.std.proofs.Common.{◌∙◌}
 use Rattle.clap.specs.Words.{found_of}
-use Rattle.programs.proofs.WordFacts.{has_text}
+use Rattle.clap.proofs.WalkLemmas.{first_value-rows}
 use Rattle.programs.proofs.values.text_of.Goals as goal
 
 pub returns : goal.returns
-returns c = has_text (found_of c.args.found.now) c.args.option.now c.get_str.result c.get_str.ensures
+returns c = c.get_str.ensures ∙ first_value-rows (found_of c.args.found.now) c.args.option.now

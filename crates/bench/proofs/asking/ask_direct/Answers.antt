@@ -1,0 +1,29 @@
+use Rattle.std.proofs.Common.{◌≡◌, ◌∙◌, ◌+◌, rules, subst, sym}
+use Rattle.timetable.specs.Table.{stops_of}
+use Rattle.bench.specs.declared.total.Total.{Total}
+use Rattle.bench.specs.Asked.{IsAsked, IsRideAnswer}
+use Rattle.bench.specs.Totals.{IsTotal, no_answers}
+use Rattle.bench.proofs.TotalFacts.{none_asked, one_more}
+use Rattle.bench.proofs.asking.ask_direct.Goals as goal
+
+pub loop-init : goal.loop-init
+loop-init c =
+    let stops = stops_of c.args.timetable.now in
+    let answers = IsRideAnswer c.args.timetable.now in
+    let nothing : c.default-total.result ≡ no_answers = search rules in
+    record {
+      stops = c.in-Some.ensures.made ∙ c.stops.ensures.value;
+      total = subst (λ (t : Total). IsTotal stops 0 answers t) (sym nothing) (none_asked stops answers);
+    }
+
+pub loop-preserved : goal.loop-preserved
+loop-preserved c =
+    let stops = stops_of c.args.timetable.now in
+    let answers = IsRideAnswer c.args.timetable.now in
+    let question = c.ask-question.result in
+    let asked = subst (λ n. IsAsked n question) c.loop.invariant.stops c.ask-question.ensures.asked in
+    let more = one_more stops c.loop.counter answers c.loop.total question c.ride_arrival.result c.loop.invariant.total asked c.ride_arrival.ensures in
+    record {
+      stops = c.ask-question.ensures.stops ∙ c.loop.invariant.stops;
+      total = subst (λ (t : Total). IsTotal stops (c.loop.counter + 1) answers t) (sym c.add.ensures) more;
+    }
