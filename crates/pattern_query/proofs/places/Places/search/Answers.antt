@@ -1,0 +1,20 @@
+use Rattle.std.proofs.Common.{subst, ◌∙◌}
+use Rattle.pattern_tree.specs.Forest.{forest}
+use Rattle.pattern_tree.specs.Branch.{branches}
+use Rattle.pattern_query.specs.Places.{Searched}
+use Rattle.pattern_query.specs.Way.{EmptyOrIn}
+use Rattle.pattern_query.proofs.TreeSteps.{tree_added, counted_still}
+use Rattle.pattern_query.proofs.places.Places.search.Goals as goal
+
+pub invariant_of-self : goal.invariant_of-self
+invariant_of-self g c =
+    counted_still c.args.table.now c.source.result c.args.to c.args.depart (EmptyOrIn c.args.to (forest (branches c.first.result.now))) c.self.inside.points c.run.new.points
+    c.run.ensures c.run.auto.points c.self.invariant
+
+pub returns : goal.returns
+returns g c =
+    let f = forest (branches c.first.result.now) in
+    let searched : Searched c.args.table.now c.args.tree.now.source c.args.to c.args.depart (EmptyOrIn c.args.to f) c.self.inside.points c.run.new.points =
+    subst (λ s. Searched c.args.table.now s c.args.to c.args.depart (EmptyOrIn c.args.to f) c.self.inside.points c.run.new.points) c.source.ensures c.run.ensures in
+    rw (← c.self.view_is) (tree_added c.args.table.now c.args.tree.now c.args.to c.args.depart f c.first.ensures.content c.self.inside.points c.run.new.points
+    (c.run.auto.points ∙ c.self.invariant.nine) searched)

@@ -1,0 +1,37 @@
+//! The best journeys from a tree's source to a stop.
+
+ghost use Rattle.std.specs.Prelude.{◌≤◌, map};
+ghost use Rattle.std.specs.List.{All};
+ghost use Rattle.direct_connections.specs.Direct.{IsMadeFor};
+ghost use Rattle.pattern_query.specs.Answer.{numbers, TreeReaches, IsPoint, AreBest, IsExact};
+
+use crate::answer::Answer;
+use crate::places::Places;
+use direct_connections::Direct;
+use lines::Lines;
+use pattern_tree::PatternTree;
+use std::alloc::Allocator;
+use timetable::{StopId, Timetable};
+
+/// The best journeys from the tree's source to `to` at a moment of at most 4,000,000,000 seconds, by rising rides: of those on foot
+/// and those along the tree's patterns that end at `to`, one for each of the numbers that no other's beat. Where the tree is
+/// complete, these are the best numbers of all journeys. The connections are those of the timetable and its lines; the tree may
+/// be any. It takes no memory.
+pub fn ask<A: Allocator>(
+    table: &Timetable,
+    lines: &Lines,
+    direct: &Direct,
+    tree: &PatternTree<A>,
+    to: StopId,
+    depart: u32,
+) -> Answer
+    requires tables { IsMadeFor table.now lines.now direct.now }
+    requires early { depart ≤ 4_000_000_000 }
+    ensures points { All (IsPoint table.now tree.now to depart) result }
+    ensures best { AreBest (TreeReaches table.now tree.now to depart) (map numbers result) }
+    ensures exact { IsExact table.now tree.now to depart (map numbers result) }
+{
+    let mut places = Places::new();
+    places.search(table, lines, direct, tree, to, depart);
+    places.answer()
+}

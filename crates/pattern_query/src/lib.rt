@@ -1,0 +1,15 @@
+//! The best journeys from a source's pattern tree: the query of Transfer Patterns (Bast and others, "Fast Routing in Very Large
+//! Public Transportation Networks Using Transfer Patterns", ESA 2010).
+#![tactic(auto)]
+
+mod answer;
+mod asking;
+mod places;
+mod search;
+
+pub use answer::{Answer, Point};
+pub use asking::ask;
+pub use places::Places;
+
+#[cfg(test)]
+mod tests;

@@ -1,0 +1,111 @@
+//! The best journeys found so far.
+
+ghost use Rattle.std.specs.Prelude.{◌≡◌, ℕ, suc, ◌≤◌, ◌<◌, ◌↔◌, IsTrue, None, length};
+ghost use Rattle.direct_connections.specs.Direct.{IsMadeFor};
+ghost use Rattle.pattern_query.specs.Places.{at, ThereBy, AddsTree, AreChosen, Offered};
+
+use crate::answer::{Answer, Point};
+use crate::search::Search;
+use arrayvec::ArrayVec;
+use direct_connections::Direct;
+use lines::Lines;
+use pattern_tree::PatternTree;
+use std::alloc::Allocator;
+use std::marker::Model;
+use timetable::{StopId, Timetable};
+
+/// The best journeys found so far: a place for each number of rides, from 0 to 8.
+#[derive(Debug, Drop)]
+pub struct Places {
+    points: [Option<Point>; 9],
+}
+
+impl Model for Places {
+    ghost use Rattle.std.specs.Prelude.{List, Option};
+    ghost use Rattle.pattern_query.specs.Answer.{PointData};
+    ghost use Rattle.pattern_query.specs.Places.{ArePlaces};
+
+    ghost Value = { List (Option PointData) };
+
+    ghost view = { λ a. a.points };
+
+    ghost invariant = { λ a. ArePlaces a.points };
+}
+
+// Whether a point of fewer than `rides` rides arrives by the moment.
+pub(crate) fn is_there_by(points: &[Option<Point>], rides: usize, moment: u32) -> bool
+    requires { rides ≤ length points.now }
+    ensures { IsTrue result ↔ ThereBy points.now rides moment }
+{
+    for place in &points[..rides] {
+        if let Some(point) = place {
+            if point.arrival() <= moment {
+                return true;
+            }
+        }
+    }
+    false
+}
+
+// Puts the point in its place, unless one with as few rides arrives as early.
+pub(crate) fn offer(points: &mut [Option<Point>], point: Point)
+    requires { point.rides < length points.old }
+    ensures { Offered points.old point points.new }
+{
+    let rides = point.rides() as usize;
+    if !is_there_by(points, rides + 1, point.arrival()) {
+        points[rides] = Some(point);
+    }
+}
+
+impl Places {
+    /// No journeys.
+    pub fn new() -> Places
+        ensures { (r : ℕ) → at result r ≡ None }
+    {
+        Places {
+            points: [None, None, None, None, None, None, None, None, None],
+        }
+    }
+
+    /// Puts in the journeys of the tree from its source to `to` at the moment, where none with as few rides arrives as early. The
+    /// connections are those of the timetable and its lines; the moment is at most 4,000,000,000 seconds. It takes no memory.
+    pub fn search<A: Allocator>(
+        &mut self,
+        table: &Timetable,
+        lines: &Lines,
+        direct: &Direct,
+        tree: &PatternTree<A>,
+        to: StopId,
+        depart: u32,
+    )
+        requires tables { IsMadeFor table.now lines.now direct.now }
+        requires early { depart ≤ 4_000_000_000 }
+        ensures { AddsTree table.now tree.now to depart self.old self.new }
+    {
+        let search = Search {
+            table,
+            lines,
+            direct,
+            source: tree.source(),
+            to,
+            depart,
+        };
+        search.run(tree.first(), &mut self.points);
+    }
+
+    /// The journeys that arrive before each one of fewer rides.
+    pub fn answer(&self) -> Answer
+        ensures { AreChosen self.now result }
+    {
+        let mut points = ArrayVec::new();
+        for (rides, place) in self.points.iter().enumerate() {
+            if let Some(point) = place {
+                if !is_there_by(&self.points, rides, point.arrival()) {
+                    points.push(point.copy());
+                }
+            }
+        }
+        Answer::new(points)
+    }
+}
