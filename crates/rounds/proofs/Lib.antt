@@ -2,7 +2,10 @@ pub mod Low
 pub mod Steps
 pub mod WalkSteps
 pub mod RideSteps
+pub mod MemberFacts
+pub mod LineSteps
 pub mod MarkSteps
+pub mod ServeSteps
 pub mod PointSteps
 pub mod EventSteps
 pub mod EventLaws

@@ -1,7 +1,8 @@
 -- The marks of all stops after some rides.
-use Rattle.std.proofs.Common.{take, drop, take_at, Option, ◌≡◌, ℕ, suc, zero, ◌-◌, ◌<◌, ◌≤◌, List, [], ◌∷◌, ◌++◌, length, replicate, Some, None, All, arith, refl, sym, ◌∙◌, subst, inl, inr, slice_index_or, option_map, unwrap_or, eq-or-lt_of_le, length-append}
-use Rattle.std.proofs.lemmas.List.{get_or_push, get_or_append_left}
-use Rattle.std.proofs.lemmas.List.Elements.{All-push}
+use Rattle.std.proofs.Common.{take, drop, take_at, Option, ◌≡◌, ℕ, suc, zero, ◌-◌, ◌<◌, ◌≤◌, List, [], ◌∷◌, ◌++◌, length, replicate, Some, None, All, arith, refl, sym, ◌∙◌, subst, inl, inr, slice_index_or, slice_set, option_map, unwrap_or, eq-or-lt_of_le, length-append}
+use Rattle.std.proofs.lemmas.List.{get_or_push, get_or_append_left, take_all}
+use Rattle.std.proofs.lemmas.List.Elements.{All-nil, All-push, All-set}
+use Rattle.std.proofs.Math.Seq.{take-suc-set}
 use Rattle.timetable.specs.declared.parts.Leg.{Leg}
 use Rattle.timetable.specs.declared.parts.Call.{Call}
 use Rattle.timetable.specs.Table.{Table, IsTable, stops_of}
@@ -79,20 +80,39 @@ walked_ready table s d r rode old new valid same rides olds walk = record {
 }
 
 -- the walks at the end
-pub walked_journeys : (table : Table) (s d r n : ℕ) (rode new : List (Option Mark)) → IsTable table
-    → AreRides table s d r rode → Walked (foot table) (λ _. Unit {0}) rode (replicate {A = Option Mark} n None) new
+pub walked_journeys : (table : Table) (s d r : ℕ) (rode old new : List (Option Mark)) → IsTable table
+    → AreRides table s d r rode → ((q : ℕ) → at old q ≡ None) → Walked (foot table) (λ _. Unit {0}) rode old new
     → (t : ℕ) → IsMark table (JourneySet table s d r t) (at new t)
-walked_journeys table s d r n rode new valid rides walk =
-    journey_step table s d r rode (replicate {A = Option Mark} n None) new (λ p q w l e g. known_of table rode rides.size p l e)
-    (λ legs p a h. (rides_end table s d legs p a valid h).0) rides.marks_are (empty_at n) walk
+walked_journeys table s d r rode old new valid rides none walk =
+    journey_step table s d r rode old new (λ p q w l e g. known_of table rode rides.size p l e)
+    (λ legs p a h. (rides_end table s d legs p a valid h).0) rides.marks_are none walk
 
 -- the start
-pub begun : (table : Table) (s d n : ℕ) (new : List (Option Mark)) → n ≡ stops_of table → length new ≡ n
-    → Spread (foot table s) (λ _. Unit {0}) (record { arrival = d; path = [] }) (replicate {A = Option Mark} n None) new
+pub begun : (table : Table) (s d : ℕ) (old new : List (Option Mark)) → length new ≡ stops_of table → ((q : ℕ) → at old q ≡ None)
+    → Spread (foot table s) (λ _. Unit {0}) (record { arrival = d; path = [] }) old new
     → AreReady table s d 0 new
-begun table s d n new size same ways = record {
-  size = same ∙ size;
-  marks_are = λ q _. start_step table s d (replicate {A = Option Mark} n None) new (empty_at n) ways q;
+begun table s d old new size none ways = record {
+  size = size;
+  marks_are = λ q _. start_step table s d old new none ways q;
+}
+
+-- nobody alights before the first ride
+pub nobody_rode : (table : Table) (s d : ℕ) (marks : List (Option Mark)) → length marks ≡ stops_of table → ((q : ℕ) → at marks q ≡ None) → AreRides table s d 0 marks
+nobody_rode table s d marks size none = record {
+  size = size;
+  marks_are = λ p in'. record {
+    attained = λ m e. absurd (none_some m (sym (none p) ∙ e));
+    least = λ legs a h. (let some = rides_some table s d legs p a h.0 in let few = h.1 in absurd (let b : ⊥ = omega (arith, some, few) in b));
+  };
+}
+
+-- walks from marks alone, where there were none before
+pub walked_fresh : (gap : ℕ → ℕ → Option ℕ) (start old new : List (Option Mark)) → ((q : ℕ) → at old q ≡ None)
+    → Walked gap (λ _. Unit {0}) start old new → Walked gap (λ _. Unit {0}) start [] new
+walked_fresh gap start old new none is = record {
+  attained = λ q m e. elim (is.attained q m e) [ inl was ↦ absurd (none_some m (sym (none q) ∙ was)) | inr way ↦ inr way ];
+  kept = λ q a h. absurd h;
+  least = is.least;
 }
 
 -- the rounds so far
@@ -104,25 +124,25 @@ pub record Filled (table : Table) (s d r : ℕ) (ready rode : List (Option Mark)
   pub journeys : (i t : ℕ) → i < r → IsMark table (JourneySet table s d (suc i) t) (at (slice_index_or rounds i []) t)
 
 -- one more round
-pub filled_more : (table : Table) (s d r n : ℕ) (ready rode rode' ready' labels : List (Option Mark)) (rounds : List (List (Option Mark))) → IsTable table
-    → n ≡ stops_of table → length rode' ≡ length rode → length ready' ≡ length ready → length labels ≡ n
+pub filled_more : (table : Table) (s d r : ℕ) (ready rode rode' ready' none labels : List (Option Mark)) (rounds : List (List (Option Mark))) → IsTable table
+    → length rode' ≡ length rode → length ready' ≡ length ready → length labels ≡ stops_of table → ((q : ℕ) → at none q ≡ None)
     → Scanned table (λ _. Unit {0}) ready rode rode'
-    → Walked (foot table) (λ _. Unit {0}) rode' (replicate {A = Option Mark} n None) labels
+    → Walked (foot table) (λ _. Unit {0}) rode' none labels
     → Walked (link table) (λ _. Unit {0}) rode' ready ready'
     → Filled table s d r ready rode rounds
     → Filled table s d (suc r) ready' rode' (rounds ++ labels ∷ [])
-filled_more table s d r n ready rode rode' ready' labels rounds valid size e1 e2 e3 scan ends links is =
+filled_more table s d r ready rode rode' ready' none labels rounds valid e1 e2 e3 empty scan ends links is =
     let rides = scanned_rides table s d r ready rode rode' valid e1 is.readies is.rides scan in
     record {
       readies = walked_ready table s d r rode' ready ready' valid e2 rides is.readies links;
       rides = rides;
       count = (let l = length-append rounds (labels ∷ []) in let c = is.count in let k : length (rounds ++ labels ∷ []) ≡ suc r = omega (arith, l, c) in k);
-      sizes = All-push (λ marks. length marks ≡ stops_of table) rounds labels is.sizes (e3 ∙ size);
+      sizes = All-push (λ marks. length marks ≡ stops_of table) rounds labels is.sizes e3;
       journeys = λ i t in'. elim (eq-or-lt_of_le (let k : i ≤ r = omega (arith, in') in k)) [
         | inl same ↦
             subst (λ x. IsMark table (JourneySet table s d (suc x) t) (at (slice_index_or (rounds ++ labels ∷ []) x []) t)) (sym same)
             (subst (λ x. IsMark table (JourneySet table s d (suc r) t) (at x t)) (sym (last_read rounds labels r is.count))
-            (walked_journeys table s d (suc r) n rode' labels valid rides ends t))
+            (walked_journeys table s d (suc r) rode' none labels valid rides empty ends t))
         | inr before ↦
             subst (λ x. IsMark table (JourneySet table s d (suc i) t) (at x t)) (sym (front_read rounds labels i (let c = is.count in let k : i < length rounds = omega (arith, before, c) in k)))
             (is.journeys i t before)
@@ -134,8 +154,45 @@ filled_more table s d r n ready rode rode' ready' labels rounds valid size e1 e2
       front_read : (xs : List (List (Option Mark))) (x : List (Option Mark)) (i : ℕ) → i < length xs → slice_index_or (xs ++ x ∷ []) i [] ≡ slice_index_or xs i []
       front_read xs x i in' = get_or_append_left xs (x ∷ []) [] i in'
 
+-- the first of some rounds, written over in turn
+pub record FilledTo (table : Table) (s d r : ℕ) (ready rode : List (Option Mark)) (rounds : List (List (Option Mark))) : Type 0 where
+  pub filled : Filled table s d r ready rode (take r rounds)
+  pub sizes : All (λ marks. length marks ≡ stops_of table) rounds
+
+pub filled_none : (table : Table) (s d : ℕ) (ready rode : List (Option Mark)) (rounds : List (List (Option Mark)))
+    → AreReady table s d 0 ready → length rode ≡ stops_of table → ((q : ℕ) → at rode q ≡ None) → All (λ marks. length marks ≡ stops_of table) rounds
+    → FilledTo table s d 0 ready rode rounds
+filled_none table s d ready rode rounds readies size none sizes = record {
+  filled = record {
+    readies = readies;
+    rides = nobody_rode table s d rode size none;
+    count = refl;
+    sizes = All-nil (λ (marks : List (Option Mark)). length marks ≡ stops_of table);
+    journeys = λ i t lt. absurd (omega arith);
+  };
+  sizes = sizes;
+}
+
+pub filled_next : (table : Table) (s d r : ℕ) (ready rode rode' ready' labels : List (Option Mark)) (rounds : List (List (Option Mark))) → IsTable table
+    → r < length rounds → length rode' ≡ length rode → length ready' ≡ length ready → length labels ≡ stops_of table
+    → Scanned table (λ _. Unit {0}) ready rode rode'
+    → Walked (foot table) (λ _. Unit {0}) rode' [] labels
+    → Walked (link table) (λ _. Unit {0}) rode' ready ready'
+    → FilledTo table s d r ready rode rounds
+    → FilledTo table s d (suc r) ready' rode' (slice_set rounds r labels)
+filled_next table s d r ready rode rode' ready' labels rounds valid in' e1 e2 e3 scan ends links is = record {
+  filled = subst (λ (xs : List (List (Option Mark))). Filled table s d (suc r) ready' rode' xs) (sym (take-suc-set rounds r labels in'))
+      (filled_more table s d r ready rode rode' ready' [] labels (take r rounds) valid e1 e2 e3 (λ q. refl) scan ends links is.filled);
+  sizes = All-set (λ (marks : List (Option Mark)). length marks ≡ stops_of table) rounds r labels e3 is.sizes;
+}
+
+pub filled_all : (table : Table) (s d r : ℕ) (ready rode : List (Option Mark)) (rounds : List (List (Option Mark))) → r ≡ length rounds
+    → FilledTo table s d r ready rode rounds → Filled table s d r ready rode rounds
+filled_all table s d r ready rode rounds same is =
+    subst (λ (xs : List (List (Option Mark))). Filled table s d r ready rode xs) (take_all r rounds (let e : length rounds ≤ r = omega (arith, same) in e)) is.filled
+
 -- a vector after its slice was written to
-pub whole : (len : ℕ) (new items : List (Option Mark)) → length items ≡ len → length new ≡ length items → take len (new ++ drop (length new) items) ≡ new
+pub whole : {X : Type 0} (len : ℕ) (new items : List X) → length items ≡ len → length new ≡ length items → take len (new ++ drop (length new) items) ≡ new
 whole len new items e same = take_at new (drop (length new) items) len (same ∙ e)
 
 least_of : (table : Table) (s d rides t : ℕ) (o : Option Mark) → IsMark table (JourneySet table s d rides t) o

@@ -1,5 +1,7 @@
 pub mod Mark
 pub mod Moves
+pub mod Boarding
+pub mod Serving
 pub mod Marks
 pub mod Answers
 pub mod Scratch

@@ -1,7 +1,8 @@
 //! Labels: when one is at a stop, and by which rides.
 
-ghost use Rattle.std.specs.Prelude.{◌≡◌, ℕ, ◌+◌, ◌<◌, ◌≤◌, ◌^◌, ◌++◌, ◌∷◌, [], length, Some, None, Option, replicate, IfOk};
-ghost use Rattle.rounds.specs.Mark.{Mark, lowered};
+ghost use Rattle.std.specs.Prelude.{◌≡◌, ℕ, ◌+◌, ◌<◌, ◌≤◌, ◌^◌, ◌++◌, ◌∷◌, [], ◌↔◌, length, Some, None, Option, replicate, IfOk, IsTrue};
+ghost use Rattle.rounds.specs.Mark.{Mark, By, at, is_by, lowered};
+ghost use Rattle.rounds.specs.Moves.{ridden_to};
 
 use crate::parts::Path;
 use std::alloc::{AllocError, Global};
@@ -92,15 +93,52 @@ pub fn no_labels(alloc: Global, stops: usize) -> Result<Vec<Option<Label>>, Allo
     Ok(labels)
 }
 
-/// Puts the label at the stop, unless one there is as early.
-pub fn lower(labels: &mut [Option<Label>], stop: StopId, label: Label)
-    requires { stop < length labels.old }
-    ensures { labels.new ≡ lowered labels.old stop label }
+/// Takes all labels away.
+pub fn clear(labels: &mut [Option<Label>])
+    ensures { (stop : ℕ) → at labels.new stop ≡ None }
 {
-    if let Some(there) = &labels[stop.number()] {
-        if there.arrival() <= label.arrival() {
-            return;
-        }
+    for label in labels.iter_mut() {
+        *label = None;
     }
-    labels[stop.number()] = Some(label);
+}
+
+/// Whether there is a label of the moment or an earlier one.
+pub fn is_by(label: &Option<Label>, moment: u32) -> bool
+    ensures value { result ≡ is_by label.now moment }
+    ensures by { IsTrue result ↔ By label.now moment }
+{
+    match label {
+        Some(label) => label.arrival() <= moment,
+        None => false,
+    }
+}
+
+/// Puts the label at the stop, so many seconds later, unless one there is as early. Nothing is copied where one is.
+pub fn lower_later(labels: &mut [Option<Label>], stop: StopId, label: &Label, seconds: u32)
+    requires known { stop < length labels.old }
+    requires early { label.now.arrival + seconds < 2 ^ 32 }
+    ensures { labels.new ≡ lowered labels.old stop (record { arrival = label.now.arrival + seconds; path = label.now.path }) }
+{
+    let arrival = label.arrival() + seconds;
+    if !is_by(&labels[stop.number()], arrival) {
+        labels[stop.number()] = Some(label.later(seconds));
+    }
+}
+
+/// Puts the label at `to` of one who boards at `from` with the label there and is at `to` at the moment of arrival, unless
+/// one there is as early. Nothing is copied where one is.
+pub fn lower_ridden(
+    labels: &mut [Option<Label>],
+    from: StopId,
+    label: &Label,
+    to: StopId,
+    arrival: u32,
+)
+    requires known { to < length labels.old }
+    requires short { length label.now.path ≤ 7 }
+    ensures { labels.new ≡ lowered labels.old to (ridden_to from label.now to arrival) }
+{
+    if !is_by(&labels[to.number()], arrival) {
+        labels[to.number()] = Some(label.ridden(from, to, arrival));
+    }
 }

@@ -3,6 +3,8 @@
 #![tactic(auto)]
 
 mod best;
+mod boarding;
+mod by_lines;
 mod events;
 mod label;
 pub mod laws;
@@ -10,6 +12,7 @@ mod parts;
 mod plain;
 mod riding;
 mod scratch;
+mod serving;
 mod view;
 mod walking;
 

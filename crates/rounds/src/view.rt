@@ -1,15 +1,16 @@
 //! What a run of the rounds found.
 
-ghost use Rattle.std.specs.Prelude.{◌≡◌, ℕ, ◌≤◌, ◌-◌, ◌↔◌, length, IsNone, IsSome, IfSome, IsSomeAnd, None, Some};
+ghost use Rattle.std.specs.Prelude.{◌≡◌, ℕ, ◌≤◌, ◌-◌, ◌↔◌, length, IsNone, IsSome, IfOk, IfSome, IsSomeAnd, None, Some};
 ghost use Rattle.timetable.specs.Front.{IsSooner};
 ghost use Rattle.rounds.specs.Mark.{mark_in, arrival_in};
 ghost use Rattle.rounds.specs.Scratch.{rounds_of};
 
-use crate::label::Label;
+use crate::label::{Label, clear, no_labels};
 use crate::parts::Path;
-use std::alloc::{AllocFailed, Global};
+use crate::walking::{Stay, walk_on};
+use std::alloc::{AllocError, AllocFailed, Global};
 use std::marker::Model;
-use timetable::StopId;
+use timetable::{StopId, Timetable};
 
 /// The labels of all stops after some number of rides.
 #[derive(Debug, Drop)]
@@ -24,6 +25,35 @@ impl Model for Round {
     ghost Value = { List (Option Mark) };
 
     ghost view = { λ a. a.labels.items };
+}
+
+impl Round {
+    ghost use Rattle.std.specs.Prelude.{[], ◌∷◌, ◌++◌, OnOk};
+    ghost use Rattle.timetable.specs.Table.{stops_of};
+    ghost use Rattle.timetable.specs.Journeys.{foot};
+    ghost use Rattle.rounds.specs.Mark.{AllEarly};
+    ghost use Rattle.rounds.specs.Moves.{Walked};
+
+    /// No labels, at so many stops.
+    pub(crate) fn empty(alloc: Global, stops: usize) -> Result<Self, AllocError>
+        ensures { IfOk result (λ round. length round ≡ stops) }
+    {
+        Ok(Round {
+            labels: no_labels(alloc, stops)?,
+        })
+    }
+
+    /// The labels that come of these by the ways on foot at the end of a journey, in place of those that were there.
+    pub(crate) fn fill(&mut self, table: &Timetable, rode: &[Option<Label>])
+        requires starts { length rode.now ≡ stops_of table.now }
+        requires size { length self.old ≡ stops_of table.now }
+        requires early { AllEarly 4_000_000_000 rode.now }
+        ensures size { length self.new ≡ stops_of table.now }
+        ensures walked { Walked (foot table.now) (λ _. Unit {0}) rode.now [] self.new }
+    {
+        clear(&mut self.labels);
+        walk_on(table, Stay::Free, rode, &mut self.labels);
+    }
 }
 
 /// What a run found, kept by its owner.
@@ -62,9 +92,7 @@ impl Rounds {
     pub fn view(&self) -> RoundView<'_>
         ensures { rounds_of result ≡ self.now }
     {
-        RoundView {
-            rounds: &self.rounds,
-        }
+        RoundView::of(&self.rounds)
     }
 }
 
@@ -72,6 +100,14 @@ impl Rounds {
 #[derive(Clone, Copy, Debug)]
 pub struct RoundView<'a> {
     rounds: &'a [Round],
+}
+
+impl<'a> RoundView<'a> {
+    pub(crate) fn of(rounds: &'a [Round]) -> RoundView<'a>
+        ensures { rounds_of result ≡ rounds.now }
+    {
+        RoundView { rounds }
+    }
 }
 
 impl RoundView<'_> {

@@ -1,12 +1,12 @@
 //! Ways on foot.
 
 ghost use Rattle.std.specs.Prelude.{◌≡◌, ℕ, ◌<◌, ◌≤◌, length, IfOk};
-ghost use Rattle.timetable.specs.Table.{stops_of};
+ghost use Rattle.timetable.specs.Table.{IsTable, stops_of};
 ghost use Rattle.rounds.specs.Mark.{AllEarly};
 ghost use Rattle.rounds.specs.Marks.{AreReady};
 ghost use Rattle.rounds.specs.Moves.{gap, Spread, Walked};
 
-use crate::label::{Label, lower, no_labels};
+use crate::label::{Label, clear, lower_later, no_labels};
 use std::alloc::{AllocError, Global};
 use timetable::{StopId, Timetable};
 
@@ -29,7 +29,7 @@ fn stay_at(table: &Timetable, stay: Stay, p: StopId, label: &Label, marks: &mut 
         Stay::Change => table.change(p),
     };
     if let Some(seconds) = seconds {
-        lower(marks, p, label.later(seconds));
+        lower_later(marks, p, label, seconds);
     }
 }
 
@@ -38,12 +38,25 @@ fn walk_from(table: &Timetable, stay: Stay, p: StopId, label: &Label, marks: &mu
     requires known { p < stops_of table.now }
     requires size { length marks.old ≡ stops_of table.now }
     requires early { label.now.arrival ≤ 4000000000 }
-    ensures { Spread (gap table.now stay p) (λ _. Unit {0}) label.now marks.old marks.new }
+    ensures spread { Spread (gap table.now stay p) (λ _. Unit {0}) label.now marks.old marks.new }
+    ensures valid { IsTable table.now }
 {
     stay_at(table, stay, p, label, marks);
     for walk in table.walks_from(p) {
-        lower(marks, walk.to, label.later(walk.seconds));
+        lower_later(marks, walk.to, label, walk.seconds);
     }
+}
+
+/// Where one may board before any ride who leaves the stop at the moment, in place of the labels that were there.
+pub fn begin_again(table: &Timetable, source: StopId, depart: u32, ready: &mut [Option<Label>])
+    requires source { source < stops_of table.now }
+    requires early { depart ≤ 4_000_000_000 }
+    requires size { length ready.old ≡ stops_of table.now }
+    ensures ready { AreReady table.now source depart 0 ready.new }
+    ensures valid { IsTable table.now }
+{
+    clear(ready);
+    walk_from(table, Stay::Free, source, &Label::start(depart), ready);
 }
 
 /// Where one may board before any ride who leaves the stop at the moment.
@@ -58,7 +71,7 @@ pub fn begin(
     ensures { IfOk result (λ ready. AreReady table.now source depart 0 ready.items) }
 {
     let mut ready = no_labels(alloc, table.stops())?;
-    walk_from(table, Stay::Free, source, &Label::start(depart), &mut ready);
+    begin_again(table, source, depart, &mut ready);
     Ok(ready)
 }
 

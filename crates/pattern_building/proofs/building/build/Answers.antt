@@ -19,7 +19,7 @@ loop-moment-preserved g c =
     let i = c.loop-moment.moment-index in
     let at = λ (j : ℕ). get_or c.deref-moment-items.result.now j 0 in
     record {
-      same = record { rides = new.same.rides ∙ inv.same.rides; stops = new.same.stops ∙ inv.same.stops };
+      same = record { rides = new.same.rides ∙ inv.same.rides; made = λ t is. new.same.made t (inv.same.made t is) };
       source = new.source ∙ inv.source;
       once = new.once;
       earned = subst (λ (k : ℕ). Earned T k s c.add_event.new.tree.pairs) inv.same.rides new.earned;
@@ -56,3 +56,12 @@ returns-in_err-add_event-clause-large g c = λ is.
     let fault = same_fault c.from_residual-in_err-add_event.result c.in_err-add_event.field-0.0 c.from_residual-in_err-add_event.ensures.1 is in
     let large = c.add_event.ensures.large (c.in_err-add_event.was ∙ ap (λ (e : TreeFault). Err e) fault) in
     subst (λ (k : ℕ). TooManyAreEarned c.args.table.now k c.args.source) c.loop-moment.invariant.same.rides large
+
+pub add_event-requires-clause-table : goal.add_event-requires-clause-table
+add_event-requires-clause-table g c = c.loop-moment.invariant.same.made c.args.table.now c.requires.table
+
+pub returns-in_err-add_event-clause-same : goal.returns-in_err-add_event-clause-same
+returns-in_err-add_event-clause-same g c =
+    let before = c.loop-moment.invariant.same in
+    let after = c.add_event.ensures.same in
+    record { rides = after.rides ∙ before.rides; made = λ t is. after.made t (before.made t is) }
