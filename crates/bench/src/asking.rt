@@ -2,6 +2,7 @@
 
 ghost use Rattle.std.specs.Prelude.{◌≡◌, ◌≤◌, ◌<◌, IfOk};
 ghost use Rattle.timetable.specs.Table.{stops_of};
+ghost use Rattle.rounds.specs.Scratch.{IsAlike, IsMadeFor as IsScratchFor, rides_of};
 ghost use Rattle.direct_connections.specs.Direct.{IsMadeFor};
 ghost use Rattle.bench.specs.Asked.{IsAsked, IsJourneyAnswer, IsRideAnswer};
 ghost use Rattle.bench.specs.Totals.{IsTotal, no_answers};
@@ -10,7 +11,7 @@ use crate::questions::{Question, Questions};
 use crate::total::Total;
 use direct_connections::Direct;
 use lines::Lines;
-use rounds::{Rides, scan};
+use rounds::{Rides, Scratch};
 use std::alloc::{AllocError, Global};
 use timetable::{Timetable, plain_direct};
 
@@ -39,16 +40,17 @@ fn plain_arrival(timetable: &Timetable, question: Question) -> Option<u32>
 
 // When the last of the best journeys that answer the question arrives.
 fn journey_arrival(
-    alloc: Global,
     timetable: &Timetable,
-    rides: Rides,
+    scratch: &mut Scratch,
     question: Question,
 ) -> Result<Option<u32>, AllocError>
-    requires { IsAsked (stops_of timetable.now) question }
-    ensures { IfOk result (IsJourneyAnswer timetable.now rides question) }
+    requires table { IsScratchFor scratch.old timetable.now }
+    requires asked { IsAsked (stops_of timetable.now) question }
+    ensures same { IsAlike scratch.old scratch.new }
+    ensures right { IfOk result (IsJourneyAnswer timetable.now (rides_of scratch.old) question) }
 {
     let Question { from, to, depart } = question;
-    let points = scan(alloc, timetable, from, to, depart, rides)?;
+    let points = scratch.scan(timetable, from, to, depart)?;
     match points.last() {
         Some(point) => Ok(Some(point.arrival)),
         None => Ok(None),
@@ -110,8 +112,9 @@ pub fn ask_scan(
     let Some(mut questions) = Questions::new(seed, timetable.stops()) else {
         return Ok(total);
     };
+    let mut scratch = Scratch::new(alloc, timetable, rides)?;
     for _ in 0..queries {
-        total.add(journey_arrival(alloc, timetable, rides, questions.ask())?);
+        total.add(journey_arrival(timetable, &mut scratch, questions.ask())?);
     }
     Ok(total)
 }

@@ -1,7 +1,7 @@
 -- What the getters of matches give, by the rows.
 use Rattle.std.proofs.Common.{◌≡◌, ◌^◌, refl, ℕ, Option, None, Some, Result, Ok, Err, MatchOption}
 use Rattle.std.specs.Str.Parse.{ParsesUnsigned}
-use Rattle.clap.specs.Words.{Text, one_of, one_text, rows_of, ReadsOne}
+use Rattle.clap.specs.Words.{Text, one_text, rows_of, ReadsOne}
 use Rattle.clap.specs.declared.parser.matches.Found.{Found}
 use Rattle.clap.proofs.WalkLemmas.{one_text-rows}
 use Rattle.programs.specs.Values.{HasNumber, Spells}
