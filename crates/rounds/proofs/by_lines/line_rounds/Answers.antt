@@ -1,5 +1,4 @@
-use Rattle.std.proofs.Common.{◌≡◌, suc, List, Option, [], length, arith, add-one, ◌∙◌, subst}
-use Rattle.rounds.specs.Mark.{Mark}
+use Rattle.std.proofs.Common.{suc, length, arith, add-one, ◌∙◌, subst}
 use Rattle.rounds.specs.Answers.{AreRounds}
 use Rattle.rounds.proofs.MarkSteps.{filled_none, filled_next, filled_all, rounds_are, rode_early, scanned_rides}
 use Rattle.rounds.proofs.ServeSteps.{never_served}
