@@ -1,0 +1,4 @@
+pub mod PlaceFacts
+pub mod GatherSteps
+pub mod AnswerSteps
+pub mod ForestSteps

@@ -1,0 +1,96 @@
+use Rattle.std.proofs.Common.{◌≡◌, ℕ, ◌+◌, ◌<◌, ◌≤◌, List, length, take, Some, All, Bool, true, false, true≢false, arith, refl, sym, ◌∙◌, ap, subst, inl, inr}
+use Rattle.std.proofs.lemmas.Bool.{cases_lt}
+use Rattle.std.proofs.lemmas.List.{take_all}
+use Rattle.pattern_tree.specs.Content.{Content}
+use Rattle.planner.specs.Places.{stops_at, stops_in}
+use Rattle.planner.specs.Questions.{Held, IsStored, IsAsked, AskedReaches, AreComplete}
+use Rattle.planner.specs.Gathered.{IsTo, AddsAsked}
+use Rattle.planner.proofs.PlaceFacts.{place_is, no_place, stops_known}
+use Rattle.planner.proofs.GatherSteps.{source_more}
+use Rattle.planner.proofs.AnswerSteps.{stored_more, points_are, best_are, exact_are}
+use Rattle.planner.proofs.asking.ask_on.Goals as goal
+
+pub returns-in_default-place : goal.returns-in_default-place
+returns-in_default-place g c = (
+  no_place c.args.names.now c.args.to.now c.in_default-place.ensures,
+  inr ((stops_in c.in-Some.start, place_is c.args.names.now c.args.from.now c.in-Some.start c.in-Some.ensures), refl),
+)
+
+pub returns-then-not-covers : goal.returns-then-not-covers
+returns-then-not-covers g c = (
+  (stops_in c.in-Some.start, place_is c.args.names.now c.args.from.now c.in-Some.start c.in-Some.ensures),
+  (stops_in c.in-Some-place.end, place_is c.args.names.now c.args.to.now c.in-Some-place.end c.in-Some-place.ensures),
+  elim (cases_lt c.args.table.now.horizon c.args.depart) [
+    | inl lt ↦ lt
+    | inr le ↦ absurd (true≢false (sym (c.covers.ensures.1 le) ∙ c.if-not-covers.true))
+  ],
+)
+
+pub stop-requires : goal.stop-requires
+stop-requires g c =
+    let names = c.args.names.now in
+    let items = c.stops_of-source-items.result.now in
+    let known : All (λ s. s < length names.stops) items =
+    subst (λ l. All (λ s. s < length names.stops) l) (sym c.stops_of-source-items.ensures)
+    (stops_known names c.args.from.now c.in-Some.start c.requires.names c.in-Some.ensures) in
+    subst (λ x. x < length names.stops) (sym c.source-item.is) (known c.loop-source.source-index c.source-item.result c.loop-source-test.true)
+
+pub returns-in_default-tree : goal.returns-in_default-tree
+returns-in_default-tree g c =
+    let items = c.stops_of-source-items.result.now in
+    let froms = place_is c.args.names.now c.args.from.now c.in-Some.start c.in-Some.ensures ∙ ap (λ (l : List ℕ). Some l) (sym c.stops_of-source-items.ensures) in (
+      (stops_in c.in-Some-place.end, place_is c.args.names.now c.args.to.now c.in-Some-place.end c.in-Some-place.ensures),
+      c.covers.ensures.0 c.if-not-covers.false,
+      items,
+      c.source-item.result,
+      froms,
+      record {
+        index = c.loop-source.source-index;
+        within = c.loop-source-test.true;
+        here = sym c.source-item.is;
+        missing = sym c.in_default-tree.ensures.value;
+        before = c.loop-source.invariant.stored;
+      },
+      c.stop.ensures,
+    )
+
+pub loop-source-preserved : goal.loop-source-preserved
+loop-source-preserved g c =
+    let held : Held = g.T.Trees.held c.args.trees.now in
+    let items = c.stops_of-source-items.result.now in
+    let tos = stops_in c.in-Some-place.end in
+    let i = c.loop-source.source-index in
+    let s = c.source-item.result in
+    let tree : Content = c.in-Some-tree.tree.now in
+    let holds : held s ≡ Some tree = sym c.in-Some-tree.ensures.value in
+    let source : tree.source ≡ s = c.in-Some-tree.ensures.source in
+    let second : AddsAsked c.args.table.now (IsTo tree tos) c.args.depart c.loop-source.places c.search_to.new.places =
+    subst (λ l. AddsAsked c.args.table.now (IsTo tree l) c.args.depart c.loop-source.places c.search_to.new.places) c.stops_of.ensures c.search_to.ensures in
+    record {
+      stored = stored_more held items i s tree c.loop-source-test.true c.source-item.is holds source c.loop-source.invariant.stored;
+      added = source_more c.args.table.now c.args.depart held items tos i s tree c.new-places.result c.loop-source.places c.search_to.new.places
+          c.loop-source-test.true c.source-item.is holds source c.loop-source.invariant.added second;
+    }
+
+pub returns : goal.returns
+returns g c =
+    let table = c.args.table.now in
+    let held : Held = g.T.Trees.held c.args.trees.now in
+    let items = c.stops_of-source-items.result.now in
+    let tos = stops_in c.in-Some-place.end in
+    let all : take c.loop-source.source-index items ≡ items = take_all c.loop-source.source-index items c.loop-source-test.false in
+    let stored : All (IsStored held) items = subst (λ l. All (IsStored held) l) all c.loop-source.invariant.stored in
+    let added : AddsAsked table (IsAsked held items tos) c.args.depart c.new-places.result c.loop-source.places =
+    subst (λ l. AddsAsked table (IsAsked held l tos) c.args.depart c.new-places.result c.loop-source.places) all c.loop-source.invariant.added in
+    let best = best_are table held items tos c.args.depart c.new-places.result c.loop-source.places c.answer.result c.new-places.ensures added c.answer.ensures in
+    record {
+      froms = items;
+      tos = tos;
+      leaves = place_is c.args.names.now c.args.from.now c.in-Some.start c.in-Some.ensures ∙ ap (λ (l : List ℕ). Some l) (sym c.stops_of-source-items.ensures);
+      arrives = place_is c.args.names.now c.args.to.now c.in-Some-place.end c.in-Some-place.ensures;
+      covered = c.covers.ensures.0 c.if-not-covers.false;
+      stored = stored;
+      points_are = points_are table held items tos c.args.depart c.new-places.result c.loop-source.places c.answer.result c.new-places.ensures added c.answer.ensures;
+      best = best;
+      exact = λ k complete. exact_are table held items tos c.args.depart _ best stored k complete;
+    }

@@ -1,0 +1,12 @@
+use Rattle.std.proofs.Common.{take}
+use Rattle.std.specs.List.{All}
+use Rattle.planner.specs.Places.{stops_in}
+use Rattle.planner.specs.Questions.{IsStored, IsAsked}
+use Rattle.planner.specs.Gathered.{AddsAsked}
+use Rattle.planner.proofs.asking.ask_on.Given as goal
+
+abbrev pub invariant-loop-source : goal.invariant-loop-source
+invariant-loop-source g l = record {
+  stored : All (IsStored (g.T.Trees.held l.trees)) (take l.source-index l.source-items);
+  added : AddsAsked l.table (IsAsked (g.T.Trees.held l.trees) (take l.source-index l.source-items) (stops_in l.end)) l.depart l.initial.places l.places;
+}

@@ -1,0 +1,4 @@
+pub mod Places
+pub mod Questions
+pub mod Gathered
+pub mod Forest

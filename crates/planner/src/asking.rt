@@ -1,0 +1,94 @@
+//! Answers to questions between two places.
+
+ghost use Rattle.std.specs.Prelude.{◌≡◌, ◌≤◌, MatchResult};
+ghost use Rattle.direct_connections.specs.Direct.{IsMadeFor};
+ghost use Rattle.planner.specs.Places.{stops_in, AreNames};
+ghost use Rattle.planner.specs.Questions.{IsAnswer, IsRefusal};
+ghost use Rattle.planner.specs.Gathered.{IsTo, AddsAsked};
+
+use crate::fault::AskFault;
+use crate::trees::Trees;
+use direct_connections::Direct;
+use lines::Lines;
+use pattern_query::{Answer, Places};
+use pattern_tree::PatternTree;
+use std::slice;
+use timetable::{Names, Place, StopId, Timetable};
+
+// The stops of a place.
+fn stops_of<'a>(place: &'a Place<'a>) -> &'a [StopId]
+    ensures { result.now ≡ stops_in place.now }
+{
+    match place {
+        Place::Stop(stop) => slice::from_ref(stop),
+        Place::Station(stops) => stops,
+    }
+}
+
+// Puts in the journeys of the tree to each of the stops.
+fn search_to(
+    table: &Timetable,
+    lines: &Lines,
+    direct: &Direct,
+    tree: &PatternTree,
+    tos: &[StopId],
+    depart: u32,
+    places: &mut Places,
+)
+    requires tables { IsMadeFor table.now lines.now direct.now }
+    requires early { depart ≤ 4_000_000_000 }
+    ensures { AddsAsked table.now (IsTo tree.now tos.now) depart places.old places.new }
+{
+    for to in tos {
+        places.search(table, lines, direct, tree, *to, depart);
+    }
+}
+
+/// The best journeys between two places, each a stop or a station by its id, at a moment: of all journeys of the trees of the first
+/// place's stops to the second place's stops, one for each of the numbers that no other's beat, by rising rides. Where the trees are
+/// complete, these are the best numbers of all journeys between these stops. A station without stops gives no journeys.
+///
+/// It is refused where an id names nothing, the first before the second; else where the moment isn't covered; else where a tree isn't
+/// there, with the id of the first stop that lacks one. The names are those of the timetable's feed, and the connections those of the
+/// timetable and its lines. It takes no memory.
+pub fn ask_on<'a, T: Trees>(
+    table: &Timetable,
+    lines: &Lines,
+    direct: &Direct,
+    names: &'a Names,
+    trees: &T,
+    from: &'a str,
+    to: &'a str,
+    depart: u32,
+) -> Result<Answer, AskFault<'a>>
+    requires tables { IsMadeFor table.now lines.now direct.now }
+    requires names { AreNames names.now }
+    ensures { MatchResult result (IsAnswer table.now names.now (T.held trees.now) from.now to.now depart)
+        (IsRefusal table.now names.now (T.held trees.now) from.now to.now depart) }
+{
+    let Some(start) = names.place(from) else {
+        return Err(AskFault::UnknownStop(from));
+    };
+    let Some(end) = names.place(to) else {
+        return Err(AskFault::UnknownStop(to));
+    };
+    if !table.covers(depart) {
+        return Err(AskFault::NotCovered);
+    }
+    let mut places = Places::new();
+    for source in stops_of(&start) {
+        let Some(tree) = trees.tree(*source) else {
+            return Err(AskFault::NotStored(names.stop(*source)));
+        };
+        search_to(
+            table,
+            lines,
+            direct,
+            tree,
+            stops_of(&end),
+            depart,
+            &mut places,
+        );
+    }
+    Ok(places.answer())
+}

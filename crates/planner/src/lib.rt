@@ -1,0 +1,15 @@
+//! Questions between two places, answered from the trees of sources.
+#![tactic(auto)]
+
+mod asking;
+mod fault;
+mod forest;
+mod trees;
+
+pub use asking::ask_on;
+pub use fault::AskFault;
+pub use forest::Forest;
+pub use trees::Trees;
+
+#[cfg(test)]
+mod tests;
