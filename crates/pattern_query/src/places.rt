@@ -1,6 +1,6 @@
 //! The best journeys found so far.
 
-ghost use Rattle.std.specs.Prelude.{◌≡◌, ℕ, suc, ◌≤◌, ◌<◌, ◌↔◌, IsTrue, None, length};
+ghost use Rattle.std.specs.Prelude.{◌≡◌, ℕ, ◌≤◌, ◌<◌, ◌↔◌, IsTrue, None, length};
 ghost use Rattle.direct_connections.specs.Direct.{IsMadeFor};
 ghost use Rattle.pattern_query.specs.Places.{at, ThereBy, AddsTree, AreChosen, Offered};
 

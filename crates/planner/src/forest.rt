@@ -1,8 +1,7 @@
 //! The trees of all stops in memory.
 
-ghost use Rattle.std.specs.Prelude.{◌≡◌, ℕ, ◌<◌, ◌≤◌, Err, IfOk, slice_get};
+ghost use Rattle.std.specs.Prelude.{◌≡◌, ℕ, ◌<◌, Err, IfOk, slice_get};
 ghost use Rattle.timetable.specs.Table.{stops_of};
-ghost use Rattle.rounds.specs.Scratch.{IsMadeFor, rides_of};
 ghost use Rattle.pattern_tree.specs.Completeness.{TooManyAreEarned};
 ghost use Rattle.planner.specs.Forest.{AreAllTrees};
 
