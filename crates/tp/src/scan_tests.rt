@@ -140,6 +140,28 @@ Y,A,1,08:05:00,08:05:00\nY,B,2,08:20:00,08:20:00\n",
     )
 }
 
+// Nobody boards T1 at A, or nobody alights from it at B: T3 is left.
+#[test]
+fn where_nobody_may_board_or_alight(rt: HostRuntime) -> Result<(), Fail> {
+    let one = "rides 1 arrive 20240102 09:00:00\n";
+    let mut files = demo();
+    files.stop_times = Some(
+        b"trip_id,stop_id,stop_sequence,arrival_time,departure_time,pickup_type\n\
+T1,A,1,08:00:00,08:00:00,1\nT1,B,2,08:10:00,08:12:00,\nT1,C,3,08:30:00,08:30:00,\n\
+T2,B,1,08:15:00,08:15:00,\nT2,D,2,08:40:00,08:40:00,\n\
+T3,A,1,08:05:00,08:05:00,\nT3,D,2,09:00:00,09:00:00,\n",
+    );
+    shows(&rt, files, "A", "D", "08:00:00", one)?;
+    let mut files = demo();
+    files.stop_times = Some(
+        b"trip_id,stop_id,stop_sequence,arrival_time,departure_time,drop_off_type\n\
+T1,A,1,08:00:00,08:00:00,\nT1,B,2,08:10:00,08:12:00,1\nT1,C,3,08:30:00,08:30:00,\n\
+T2,B,1,08:15:00,08:15:00,\nT2,D,2,08:40:00,08:40:00,\n\
+T3,A,1,08:05:00,08:05:00,\nT3,D,2,09:00:00,09:00:00,\n",
+    );
+    shows(&rt, files, "A", "D", "08:00:00", one)
+}
+
 #[test]
 fn transfers_of_a_station(rt: HostRuntime) -> Result<(), Fail> {
     let transfers =

@@ -96,6 +96,21 @@ fn least_arrivals(rt: HostRuntime) -> Result<(), Fail> {
     Ok(())
 }
 
+// One trip that comes back to where it began.
+#[test]
+fn a_trip_that_comes_back(rt: HostRuntime) -> Result<(), Fail> {
+    let calls = b"trip_id,stop_id,stop_sequence,arrival_time,departure_time\n\
+T1,A,1,08:00:00,08:00:00\nT1,B,2,08:10:00,08:10:00\nT1,A,3,08:20:00,08:20:00\nT1,C,4,08:30:00,08:30:00\n";
+    expect(
+        &rt,
+        feed(STOPS, calls),
+        direct("A", "A", "08:00:00").as_slice(),
+        0,
+        "arrive 20240102 08:20:00\n",
+        "",
+    )
+}
+
 #[test]
 fn faults(rt: HostRuntime) -> Result<(), Fail> {
     let asked = direct("A", "D", "08:00:00");
