@@ -10,3 +10,6 @@ pub use asking::ask_on;
 pub use fault::AskFault;
 pub use forest::Forest;
 pub use trees::Trees;
+
+#[cfg(test)]
+mod tests;
