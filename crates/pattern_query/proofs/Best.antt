@@ -8,7 +8,7 @@ use Rattle.timetable.specs.Journeys.{Unbeaten}
 use Rattle.pattern_tree.specs.Paths.{IsIn}
 use Rattle.pattern_tree.proofs.PairFacts.{contains_in, in_contains, in_map}
 use Rattle.pattern_query.specs.Answer.{PointData, numbers, AreBest}
-use Rattle.pattern_query.specs.Places.{at, ThereBy, IsKept, AreChosen}
+use Rattle.pattern_query.specs.BestSoFar.{at, ThereBy, IsKept, AreChosen}
 use Rattle.pattern_query.proofs.PlaceSteps.{the_point, by_of}
 
 pub contains_point : (points : List PointData) (n : Numbers) → Contains (map numbers points) n → (P : PointData → Type 0) → All P points → (p : PointData) × P p × (numbers p ≡ n)

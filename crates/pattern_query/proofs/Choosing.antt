@@ -5,7 +5,7 @@ use Rattle.std.proofs.lemmas.List.Elements.{Contains-push, Contains-append_left,
 use Rattle.std.proofs.lemmas.List.Quantifiers.{all_pairs_push}
 use Rattle.std.proofs.lemmas.Option.{same_Some}
 use Rattle.pattern_query.specs.Answer.{PointData}
-use Rattle.pattern_query.specs.Places.{at, ArePlaces, IsKept, AreChosen, AreChosenBelow}
+use Rattle.pattern_query.specs.BestSoFar.{at, ArePlaces, IsKept, AreChosen, AreChosenBelow}
 use Rattle.pattern_query.proofs.PlaceSteps.{at_within}
 
 module _ (places : List (Option PointData)) where

@@ -1,9 +1,9 @@
 -- The paths of a level, branch by branch.
-use Rattle.std.proofs.Common.{◌≡◌, ℕ, suc, ◌⊎◌, List, [], ◌∷◌, ◌++◌, take, refl, sym, ◌∙◌, ap, subst, inl, inr, append_assoc}
+use Rattle.std.proofs.Common.{◌≡◌, ℕ, suc, ◌<◌, ◌⊎◌, List, [], ◌∷◌, ◌++◌, length, get_or, take, refl, sym, ◌∙◌, ap, subst, inl, inr, append_assoc}
 use Rattle.pattern_tree.specs.Forest.{Branch, none, node, forest, Step, step_of}
 use Rattle.pattern_tree.specs.Paths.{Has, HasFrom, IsIn}
-use Rattle.pattern_tree.proofs.SiblingFacts.{has_node, node_has}
-use Rattle.pattern_query.specs.Way.{Beyond, Through}
+use Rattle.pattern_tree.proofs.SiblingFacts.{has_node, node_has, has_at, has_somewhere}
+use Rattle.pattern_query.specs.Way.{Beyond, Through, LeadsTo}
 
 -- the path is that of the legs up to the branch, and ends there
 abbrev pub Ending : List Step → ℕ → List ℕ → List Step → Type 0
@@ -81,3 +81,15 @@ module _ (front : List Step) (t : ℕ) where
   -- every path through a branch begins with its step
   pub through_front : (b : Branch) (path : List Step) → Through front t b path → (rest : List Step) × (path ≡ (front ++ step_of b ∷ []) ++ rest)
   through_front b path h = (h.0, h.1 ∙ sym (append_assoc front (step_of b ∷ []) h.0))
+
+-- a branch leads to a stop by its own ends, or by one of the branches that go on from it
+module _ (t : ℕ) (b : Branch) (bs : List Branch) (is : b.next ≡ forest bs) where
+  pub leads_on : (i : ℕ) (d : Branch) → i < length bs → LeadsTo t (get_or bs i d) → LeadsTo t b
+  leads_on i d lt h =
+      (step_of (get_or bs i d) ∷ h.0, subst (λ f. Has (step_of (get_or bs i d) ∷ h.0) t f) (sym is) (has_at bs (step_of (get_or bs i d)) h.0 t i d lt refl h.1))
+
+  pub leads_nowhere : ¬ IsIn t b.ends → ((i : ℕ) (d : Branch) → i < length bs → ¬ LeadsTo t (get_or bs i d)) → ¬ LeadsTo t b
+  leads_nowhere here later h = go h.0 h.1 where
+    go : (rest : List Step) → HasFrom rest t b.ends b.next → ⊥
+    go [] in' = here in'
+    go (s ∷ q) on = let w = has_somewhere bs s q t b (subst (λ f. Has (s ∷ q) t f) is on) in later w.index b w.in_range (q, w.has)

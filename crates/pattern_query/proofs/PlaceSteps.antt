@@ -8,7 +8,7 @@ use Rattle.timetable.specs.Table.{Table}
 use Rattle.timetable.specs.Journeys.{Journey, pattern}
 use Rattle.pattern_tree.specs.Forest.{Step}
 use Rattle.pattern_query.specs.Answer.{PointData}
-use Rattle.pattern_query.specs.Places.{at, By, ThereBy, Offered, IsAlong, AreThere, Searched}
+use Rattle.pattern_query.specs.BestSoFar.{at, By, ThereBy, Offered, IsAlong, AreThere, Searched}
 
 pub none_some : {A : Type 0} (x : A) → None ≡ Some x → ⊥
 none_some x e = cc

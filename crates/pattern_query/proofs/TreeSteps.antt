@@ -10,7 +10,7 @@ use Rattle.pattern_tree.specs.Content.{Content, longest}
 use Rattle.pattern_tree.specs.Completeness.{Complete}
 use Rattle.pattern_tree.proofs.PairFacts.{has_in, in_has, contains_in, in_contains}
 use Rattle.pattern_query.specs.Answer.{PointData, numbers, TreeReaches, IsPoint, AreBest, IsExact}
-use Rattle.pattern_query.specs.Places.{at, ThereBy, ArePlaces, AddsTree, AreChosen, IsAlong, Searched}
+use Rattle.pattern_query.specs.BestSoFar.{at, ThereBy, ArePlaces, AddsTree, AreChosen, IsAlong, Searched}
 use Rattle.pattern_query.specs.Way.{Exactly, EmptyOrIn, Beyond}
 use Rattle.pattern_query.proofs.PlaceSteps.{none_some, at_within, searched_both}
 use Rattle.pattern_query.proofs.WaySteps.{pattern_length}

@@ -7,8 +7,8 @@ use Rattle.timetable.specs.Journeys.{Serves, to, arrives, foot, pattern}
 use Rattle.pattern_tree.specs.Forest.{Branch, Forest, forest, Step, step_of}
 use Rattle.pattern_tree.specs.Paths.{IsIn, Has}
 use Rattle.pattern_query.specs.Answer.{PointData}
-use Rattle.pattern_query.specs.Places.{ThereBy, Offered, AreThere, Searched}
-use Rattle.pattern_query.specs.Way.{Earliest, Boards, is_some, hop, Exactly, Begins, Beyond, Through}
+use Rattle.pattern_query.specs.BestSoFar.{ThereBy, Offered, AreThere, Searched}
+use Rattle.pattern_query.specs.Way.{Earliest, Boards, is_some, hop, Exactly, Begins, Beyond, Through, LeadsTo}
 use Rattle.pattern_query.proofs.WaySteps.{earliest_more, earliest_journey, none_earlier, no_journey, no_journey_on, late_hop, late_legs, pattern_more, pattern_length}
 use Rattle.pattern_query.proofs.PlaceSteps.{none_there, late_there, searched_none, searched_both, searched_as, searched_offer}
 use Rattle.pattern_query.proofs.PathSteps.{Ending, beyond_split, beyond_was, beyond_new, through_split, ending_through, beyond_through, through_front}
@@ -122,3 +122,10 @@ searched_start table s t d front places =
       nothing : (q : List Step) → Has q t Forest.none → ⊥
       nothing [] h = h
       nothing (x ∷ q) h = h
+
+-- a branch that leads to no path to the stop
+pub searched_nowhere : (table : Table) (s t d : ℕ) (front : List Step) (b : Branch) (places : List (Option PointData)) → ¬ LeadsTo t b
+    → Searched table s t d (Through front t b) places places
+searched_nowhere table s t d front b places none =
+    searched_none table s t d (Through front t b) places
+    (none_there table s t d (Through front t b) places (λ others z through j. none (through.0, through.2)))

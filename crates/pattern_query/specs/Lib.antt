@@ -1,3 +1,3 @@
 pub mod Answer
-pub mod Places
+pub mod BestSoFar
 pub mod Way

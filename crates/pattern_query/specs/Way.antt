@@ -51,3 +51,7 @@ Beyond front t f path = (rest : List Step) × (path ≡ front ++ rest) × Has re
 -- the path begins with `front`, and goes on with the branch's step and from there to its end t
 abbrev pub Through : List Step → ℕ → Branch → List Step → Type 0
 Through front t b path = (rest : List Step) × (path ≡ front ++ step_of b ∷ rest) × HasFrom rest t b.ends b.next
+
+-- the branch's path, or one that goes on from it, has the end t
+abbrev pub LeadsTo : ℕ → Branch → Type 0
+LeadsTo t b = (rest : List Step) × HasFrom rest t b.ends b.next

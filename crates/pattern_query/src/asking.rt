@@ -6,7 +6,7 @@ ghost use Rattle.direct_connections.specs.Direct.{IsMadeFor};
 ghost use Rattle.pattern_query.specs.Answer.{numbers, TreeReaches, IsPoint, AreBest, IsExact};
 
 use crate::answer::Answer;
-use crate::places::Places;
+use crate::best_so_far::BestSoFar;
 use direct_connections::Direct;
 use lines::Lines;
 use pattern_tree::PatternTree;
@@ -31,7 +31,7 @@ pub fn ask<A: Allocator>(
     ensures best { AreBest (TreeReaches table.now tree.now to depart) (map numbers result) }
     ensures exact { IsExact table.now tree.now to depart (map numbers result) }
 {
-    let mut places = Places::new();
-    places.search(table, lines, direct, tree, to, depart);
-    places.answer()
+    let mut best = BestSoFar::new();
+    best.search(table, lines, direct, tree, to, depart);
+    best.answer()
 }

@@ -4,12 +4,12 @@
 
 mod answer;
 mod asking;
-mod places;
+mod best_so_far;
 mod search;
 
 pub use answer::{Answer, Point};
 pub use asking::ask;
-pub use places::Places;
+pub use best_so_far::BestSoFar;
 
 #[cfg(test)]
 mod tests;

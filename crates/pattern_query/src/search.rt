@@ -5,12 +5,12 @@ ghost use Rattle.timetable.specs.Journeys.{pattern};
 ghost use Rattle.direct_connections.specs.Direct.{IsMadeFor};
 ghost use Rattle.pattern_tree.specs.Forest.{forest, levels, Rises, IsOrdered};
 ghost use Rattle.pattern_tree.specs.Paths.{IsIn};
-ghost use Rattle.pattern_tree.specs.Branch.{branches};
-ghost use Rattle.pattern_query.specs.Way.{Earliest, Boards, Exactly, EmptyOrIn, Begins, Beyond, hop, is_some};
-ghost use Rattle.pattern_query.specs.Places.{Searched, AreThere};
+ghost use Rattle.pattern_tree.specs.Branch.{branch, branches};
+ghost use Rattle.pattern_query.specs.Way.{Earliest, Boards, Exactly, EmptyOrIn, Begins, Beyond, LeadsTo, hop, is_some};
+ghost use Rattle.pattern_query.specs.BestSoFar.{Searched, AreThere};
 
 use crate::answer::{Legs, Point};
-use crate::places::{is_there_by, offer};
+use crate::best_so_far::{is_there_by, offer};
 use direct_connections::Direct;
 use lines::Lines;
 use pattern_tree::Node;
@@ -34,6 +34,22 @@ fn has_end(ends: &[StopId], end: StopId) -> bool
     ensures { IsTrue result ↔ IsIn end ends.now }
 {
     ends.binary_search(&end).is_ok()
+}
+
+// Whether the pattern of the node, or one that goes on from it, ends at the stop.
+fn leads_to<A: Allocator>(node: &Node<A>, end: StopId) -> bool
+    requires { IsOrdered (forest (branch node.now ∷ [])) }
+    ensures { IsTrue result ↔ LeadsTo end (branch node.now) }
+{
+    if has_end(&node.ends, end) {
+        return true;
+    }
+    for later in &node.next {
+        if leads_to(later, end) {
+            return true;
+        }
+    }
+    false
 }
 
 // The seconds between being at a stop and boarding at another, before any ride or after one.
@@ -98,7 +114,7 @@ impl Search<'_> {
         }
     }
 
-    // Looks along each path of the level for better journeys, which begin with the legs. In the end the legs are as before.
+    // Looks along each path of the level to the stop for better journeys, which begin with the legs. In the end the legs are as before.
     fn descend<A: Allocator>(
         &self,
         level: &[Node<A>],
@@ -118,6 +134,9 @@ impl Search<'_> {
             (Beyond (pattern self.now.table.now legs.old.items) self.now.to (forest (branches level.now))) points.old points.new }
     {
         for node in level {
+            if !leads_to(node, self.to) {
+                continue;
+            }
             if let Some(leg) = self.ride(node.board, node.alight, at, since, legs, points) {
                 let arrival = self.table.arrival_of(leg);
                 legs.push(leg);

@@ -8,7 +8,7 @@ use Rattle.timetable.specs.Journeys.{Reaches, Unbeaten}
 use Rattle.pattern_tree.specs.Content.{Content, longest}
 use Rattle.pattern_tree.specs.Completeness.{Complete}
 use Rattle.pattern_query.specs.Answer.{PointData, numbers, TreeReaches, IsPoint, AreBest}
-use Rattle.pattern_query.specs.Places.{at, ThereBy, AreChosen}
+use Rattle.pattern_query.specs.BestSoFar.{at, ThereBy, AreChosen}
 use Rattle.pattern_query.proofs.PlaceSteps.{none_some}
 use Rattle.pattern_query.proofs.Best.{best_chosen, best_of_all}
 use Rattle.pattern_query.proofs.TreeSteps.{few_rides, has_best}

@@ -6,7 +6,7 @@ use Rattle.timetable.specs.declared.parts.Leg.{Leg}
 use Rattle.timetable.specs.Table.{Table}
 use Rattle.pattern_tree.specs.Content.{Content}
 use Rattle.pattern_query.specs.Answer.{PointData, TreeJourney, IsPoint}
-use Rattle.pattern_query.specs.Places.{at, ThereBy, AddsTree}
+use Rattle.pattern_query.specs.BestSoFar.{at, ThereBy, AddsTree}
 use Rattle.planner.specs.Gathered.{IsTo, AddsAsked}
 use Rattle.planner.specs.Questions.{Held, IsAsked}
 

@@ -5,7 +5,7 @@ use Rattle.timetable.specs.declared.parts.Leg.{Leg}
 use Rattle.timetable.specs.Table.{Table}
 use Rattle.pattern_tree.specs.Content.{Content}
 use Rattle.pattern_query.specs.Answer.{PointData, TreeJourney, IsPoint}
-use Rattle.pattern_query.specs.Places.{at, ThereBy}
+use Rattle.pattern_query.specs.BestSoFar.{at, ThereBy}
 
 -- the tree is this one, and the stop one of these
 abbrev pub IsTo : Content → List ℕ → Content → ℕ → Type 0

@@ -10,7 +10,7 @@ use crate::fault::AskFault;
 use crate::trees::Trees;
 use direct_connections::Direct;
 use lines::Lines;
-use pattern_query::{Answer, Places};
+use pattern_query::{Answer, BestSoFar};
 use pattern_tree::PatternTree;
 use std::slice;
 use timetable::{Names, Place, StopId, Timetable};
@@ -33,14 +33,14 @@ fn search_to(
     tree: &PatternTree,
     tos: &[StopId],
     depart: u32,
-    places: &mut Places,
+    best: &mut BestSoFar,
 )
     requires tables { IsMadeFor table.now lines.now direct.now }
     requires early { depart ≤ 4_000_000_000 }
-    ensures { AddsAsked table.now (IsTo tree.now tos.now) depart places.old places.new }
+    ensures { AddsAsked table.now (IsTo tree.now tos.now) depart best.old best.new }
 {
     for to in tos {
-        places.search(table, lines, direct, tree, *to, depart);
+        best.search(table, lines, direct, tree, *to, depart);
     }
 }
 
@@ -75,7 +75,7 @@ pub fn ask_on<'a, T: Trees>(
     if !table.covers(depart) {
         return Err(AskFault::NotCovered);
     }
-    let mut places = Places::new();
+    let mut best = BestSoFar::new();
     for source in stops_of(&start) {
         let Some(tree) = trees.tree(*source) else {
             return Err(AskFault::NotStored(names.stop(*source)));
@@ -87,8 +87,8 @@ pub fn ask_on<'a, T: Trees>(
             tree,
             stops_of(&end),
             depart,
-            &mut places,
+            &mut best,
         );
     }
-    Ok(places.answer())
+    Ok(best.answer())
 }

@@ -174,6 +174,8 @@ fn stations(rt: HostRuntime) -> Result<(), Fail> {
         &[
             ("A", "S", EIGHT, "1 in 1800;"),
             ("A", "D", EIGHT, "1 in 3600;2 in 2400;"),
+            ("A", "S", EIGHT + 1, "1 in 3600;"),
+            ("B", "S", EIGHT + 721, "1 in 2400;"),
             ("S", "S", EIGHT, "0 in 0;"),
             ("S", "E", EIGHT, "0 in 240;"),
             ("S", "A", EIGHT, ""),
@@ -200,6 +202,43 @@ fn refusals(rt: HostRuntime) -> Result<(), Fail> {
             ("S", "A", EIGHT, "Q3 NotStored C"),
             ("D", "N", EIGHT, "Q3 NotStored D"),
             ("B", "S", EIGHT, "1 in 1800;"),
+        ],
+    )
+}
+
+// The stop C is stored, and its sister D isn't.
+#[test]
+fn one_child_stored(rt: HostRuntime) -> Result<(), Fail> {
+    let alloc = rt.alloc();
+    let (table, names) = read(alloc, &rt, &STATIONS)?;
+    check_all(
+        &rt,
+        alloc,
+        &table,
+        &names,
+        3,
+        &[
+            ("S", "A", EIGHT, "Q3 NotStored D"),
+            ("C", "E", EIGHT, "0 in 240;"),
+        ],
+    )
+}
+
+// A station without stops lacks no tree.
+#[test]
+fn nothing_stored(rt: HostRuntime) -> Result<(), Fail> {
+    let alloc = rt.alloc();
+    let (table, names) = read(alloc, &rt, &STATIONS)?;
+    check_all(
+        &rt,
+        alloc,
+        &table,
+        &names,
+        0,
+        &[
+            ("N", "A", EIGHT, ""),
+            ("A", "N", EIGHT, "Q3 NotStored A"),
+            ("S", "E", EIGHT, "Q3 NotStored C"),
         ],
     )
 }
@@ -282,10 +321,15 @@ fn check_tree(
     Ok(changed)
 }
 
-// The answers from the trees of a town are those of the rounds, for all pairs of stops.
-#[test]
-fn as_the_rounds(rt: HostRuntime) -> Result<(), Fail> {
-    let alloc = rt.alloc();
+// The files of a town that was drawn, but for its stops.
+#[derive(Drop)]
+struct Drawn {
+    trips: String,
+    calls: String,
+    walks: String,
+}
+
+fn draw_files(alloc: Global) -> Result<Drawn, Fail> {
     let mut trips = String::from_str(alloc, "trip_id,service_id\n")?;
     let mut calls = String::from_str(
         alloc,
@@ -296,29 +340,62 @@ fn as_the_rounds(rt: HostRuntime) -> Result<(), Fail> {
         "from_stop_id,to_stop_id,transfer_type,min_transfer_time\n",
     )?;
     draw_town(alloc, &mut trips, &mut calls, &mut walks)?;
-    let feed = Feed {
-        stops: "stop_id\n0\n1\n2\n3\n4\n5\n6\n7\n",
-        trips: &trips,
-        stop_times: &calls,
-        transfers: &walks,
-    };
-    let (table, names) = read(alloc, &rt, &feed)?;
-    assert_eq!(rt; table.stops(), 8);
-    let lines = Lines::of(alloc, &table)?;
-    let direct = Direct::of(alloc, &table, &lines)?;
-    let forest = Forest::build(alloc, &table, Rides::new(3))?;
-    let town = Town {
-        table: &table,
-        lines: &lines,
-        direct: &direct,
-        names: &names,
-    };
+    Ok(Drawn {
+        trips,
+        calls,
+        walks,
+    })
+}
+
+// Asks the tree of each stop of a town of eight. How many answers had two points or more.
+fn check_trees(rt: &impl Abort, alloc: Global, town: Town<'_>, forest: &Forest) -> Result<u32, Fail>
+    requires tables { IsMadeFor town.table.now town.lines.now town.direct.now }
+    requires stops { stops_of town.table.now ≡ 8 }
+{
     let mut changed = 0u32;
     for source in 0u16..8 {
         let source = StopId::new(source);
         let tree = forest.tree(source).ok_or("no tree")?;
-        changed = changed.saturating_add(check_tree(&rt, alloc, town, source, tree)?);
+        changed = changed.saturating_add(check_tree(rt, alloc, town, source, tree)?);
     }
+    Ok(changed)
+}
+
+// Builds the trees of all stops of a town of eight, and asks them.
+fn check_forest(
+    rt: &impl Abort,
+    alloc: Global,
+    table: &Timetable,
+    names: &Names,
+) -> Result<u32, Fail>
+    requires { stops_of table.now ≡ 8 }
+{
+    let lines = Lines::of(alloc, table)?;
+    let direct = Direct::of(alloc, table, &lines)?;
+    let forest = Forest::build(alloc, table, Rides::new(3))?;
+    let town = Town {
+        table,
+        lines: &lines,
+        direct: &direct,
+        names,
+    };
+    check_trees(rt, alloc, town, &forest)
+}
+
+// The answers from the trees of a town are those of the rounds, for all pairs of stops.
+#[test]
+fn as_the_rounds(rt: HostRuntime) -> Result<(), Fail> {
+    let alloc = rt.alloc();
+    let town = draw_files(alloc)?;
+    let feed = Feed {
+        stops: "stop_id\n0\n1\n2\n3\n4\n5\n6\n7\n",
+        trips: &town.trips,
+        stop_times: &town.calls,
+        transfers: &town.walks,
+    };
+    let (table, names) = read(alloc, &rt, &feed)?;
+    assert_eq!(rt; table.stops(), 8);
+    let changed = check_forest(&rt, alloc, &table, &names)?;
     assert!(rt; changed > 30);
     Ok(())
 }

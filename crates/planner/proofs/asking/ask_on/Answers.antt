@@ -64,11 +64,11 @@ loop-source-preserved g c =
     let tree : Content = c.in-Some-tree.tree.now in
     let holds : held s ≡ Some tree = sym c.in-Some-tree.ensures.value in
     let source : tree.source ≡ s = c.in-Some-tree.ensures.source in
-    let second : AddsAsked c.args.table.now (IsTo tree tos) c.args.depart c.loop-source.places c.search_to.new.places =
-    subst (λ l. AddsAsked c.args.table.now (IsTo tree l) c.args.depart c.loop-source.places c.search_to.new.places) c.stops_of.ensures c.search_to.ensures in
+    let second : AddsAsked c.args.table.now (IsTo tree tos) c.args.depart c.loop-source.best c.search_to.new.best =
+    subst (λ l. AddsAsked c.args.table.now (IsTo tree l) c.args.depart c.loop-source.best c.search_to.new.best) c.stops_of.ensures c.search_to.ensures in
     record {
       stored = stored_more held items i s tree c.loop-source-test.true c.source-item.is holds source c.loop-source.invariant.stored;
-      added = source_more c.args.table.now c.args.depart held items tos i s tree c.new-places.result c.loop-source.places c.search_to.new.places
+      added = source_more c.args.table.now c.args.depart held items tos i s tree c.new-best.result c.loop-source.best c.search_to.new.best
           c.loop-source-test.true c.source-item.is holds source c.loop-source.invariant.added second;
     }
 
@@ -80,9 +80,9 @@ returns g c =
     let tos = stops_in c.in-Some-place.end in
     let all : take c.loop-source.source-index items ≡ items = take_all c.loop-source.source-index items c.loop-source-test.false in
     let stored : All (IsStored held) items = subst (λ l. All (IsStored held) l) all c.loop-source.invariant.stored in
-    let added : AddsAsked table (IsAsked held items tos) c.args.depart c.new-places.result c.loop-source.places =
-    subst (λ l. AddsAsked table (IsAsked held l tos) c.args.depart c.new-places.result c.loop-source.places) all c.loop-source.invariant.added in
-    let best = best_are table held items tos c.args.depart c.new-places.result c.loop-source.places c.answer.result c.new-places.ensures added c.answer.ensures in
+    let added : AddsAsked table (IsAsked held items tos) c.args.depart c.new-best.result c.loop-source.best =
+    subst (λ l. AddsAsked table (IsAsked held l tos) c.args.depart c.new-best.result c.loop-source.best) all c.loop-source.invariant.added in
+    let best = best_are table held items tos c.args.depart c.new-best.result c.loop-source.best c.answer.result c.new-best.ensures added c.answer.ensures in
     record {
       froms = items;
       tos = tos;
@@ -90,7 +90,7 @@ returns g c =
       arrives = place_is c.args.names.now c.args.to.now c.in-Some-place.end c.in-Some-place.ensures;
       covered = c.covers.ensures.0 c.if-not-covers.false;
       stored = stored;
-      points_are = points_are table held items tos c.args.depart c.new-places.result c.loop-source.places c.answer.result c.new-places.ensures added c.answer.ensures;
+      points_are = points_are table held items tos c.args.depart c.new-best.result c.loop-source.best c.answer.result c.new-best.ensures added c.answer.ensures;
       best = best;
       exact = λ k complete. exact_are table held items tos c.args.depart _ best stored k complete;
     }

@@ -1,6 +1,5 @@
-use Rattle.std.proofs.Common.{Option, ◌≡◌, ℕ, ◌+◌, ◌-◌, ◌<◌, ◌≤◌, ◌++◌, ◌∷◌, [], length, List, get_or, take, arith, refl, sym, ◌∙◌, ap, subst, add-one, true≢false, length-append}
+use Rattle.std.proofs.Common.{Option, ◌≡◌, ℕ, ◌+◌, ◌-◌, ◌<◌, ◌≤◌, ◌++◌, ◌∷◌, [], length, List, take, arith, refl, sym, ◌∙◌, ap, subst, add-one, true≢false, length-append}
 use Rattle.std.proofs.Math.Seq.{take-append_seam}
-use Rattle.std.proofs.lemmas.List.{length-map}
 use Rattle.timetable.specs.declared.parts.Leg.{Leg}
 use Rattle.timetable.specs.Table.{Table}
 use Rattle.timetable.specs.Journeys.{arrives, pattern}
@@ -10,34 +9,15 @@ use Rattle.pattern_tree.specs.Paths.{IsIn}
 use Rattle.pattern_tree.specs.Branch.{branch, branches}
 use Rattle.pattern_tree.specs.declared.node.Node.{Node}
 use Rattle.pattern_tree.specs.declared.node.Node.TheViews.{out-Node}
-use Rattle.pattern_tree.proofs.NodeFacts.{branch_at, branch_out, ends_out, next_out}
-use Rattle.pattern_tree.proofs.SiblingFacts.{OrderedAt, ordered_at}
-use Rattle.pattern_tree.proofs.WalkFacts.{levels_at}
+use Rattle.pattern_tree.proofs.NodeFacts.{branch_out, ends_out, next_out}
 use Rattle.pattern_query.specs.Answer.{PointData}
 use Rattle.pattern_query.specs.Way.{Earliest, Boards, is_some, Exactly, Begins, Beyond, Through}
-use Rattle.pattern_query.specs.Places.{Searched, AreThere}
+use Rattle.pattern_query.specs.BestSoFar.{Searched, AreThere}
+use Rattle.pattern_query.proofs.NodeSteps.{node_at}
 use Rattle.pattern_query.proofs.PathSteps.{Ending}
-use Rattle.pattern_query.proofs.VisitSteps.{passed, way_on, unended, ended, visited, searched_more, searched_start}
+use Rattle.pattern_query.proofs.VisitSteps.{passed, way_on, unended, ended, visited, searched_more, searched_start, searched_nowhere}
 use Rattle.pattern_query.proofs.search.Search.+descend.Goals as goal
 use Rattle.pattern_query.proofs.search.Search.+descend.Goals.{in-Some, then-has_end, else-has_end, in_default}
-
--- a node of a level, as a branch
-record At {A : Type 0} (level : List (Node A)) (i : ℕ) (n : Node A) : Type 0 where
-  same : get_or (branches level) i (branch n) ≡ branch n
-  ordered : OrderedAt (branch n)
-  less : levels (branch n).next + 1 ≤ levels (forest (branches level))
-  within : i < length (branches level)
-
-node_at : {A : Type 0} (level : List (Node A)) (i : ℕ) (n : Node A) → n ≡ get_or level i n → i < length level → IsOrdered (forest (branches level)) → At level i n
-node_at level i n is lt ordered =
-    let same = branch_at level i n (branch n) is lt in
-    let in' : i < length (branches level) = omega (arith, lt, length-map level branch) in
-    record {
-      same = same;
-      ordered = subst OrderedAt same (ordered_at (branches level) ordered i (branch n) in');
-      less = levels_at level i n is lt;
-      within = in';
-    }
 
 board_out : {A : Type 0} (n : Node A) → (out-Node A n).board ≡ (branch n).board
 board_out {A} n = sym (ap (λ (b : Branch). b.board) (branch_out A n))
@@ -81,6 +61,11 @@ loop-node-init g t c = record {
   legs = refl;
   searched = searched_start c.args.self.now.table.now c.args.self.now.source c.args.self.now.to c.args.self.now.depart (pattern c.args.self.now.table.now c.args.legs.now.items) c.args.points.now;
 }
+
+pub leads_to-requires : goal.leads_to-requires
+leads_to-requires g t c =
+    let o = (node_at c.args.level.now c.loop-node.node-index c.node-item.result c.node-item.is c.loop-node-test.true c.requires.ordered).ordered in
+    (o.ends, o.item, o.next, tt, tt)
 
 pub ride-requires-clause-room : goal.ride-requires-clause-room
 ride-requires-clause-room g t c =
@@ -146,6 +131,21 @@ descend-requires g t c κs within =
       subst (λ k. levels (forest (branches c.deref-in-Some.result.now)) < k) c.decreases falls,
       (within, (c.requires.tables, (here, (early, (subst IsOrdered below at.ordered.next, (room, nine)))))),
     )
+
+pub loop-node-preserved-then-not-leads_to : goal.loop-node-preserved-then-not-leads_to
+loop-node-preserved-then-not-leads_to g t c =
+    let table = c.args.self.now.table.now in
+    let s = c.args.self.now.source in
+    let d = c.args.self.now.depart in
+    let to = c.args.self.now.to in
+    let n = c.node-item.result in
+    let front = pattern table c.args.legs.now.items in
+    let at = node_at c.args.level.now c.loop-node.node-index n c.node-item.is c.loop-node-test.true c.requires.ordered in
+    rw add-one (record {
+      legs = c.loop-node.invariant.legs;
+      searched = searched_more table s to d front (branches c.args.level.now) c.loop-node.node-index (branch n) c.args.points.now c.loop-node.points c.loop-node.points
+          at.within at.same c.loop-node.invariant.searched (searched_nowhere table s to d front (branch n) c.loop-node.points (λ h. true≢false (sym (c.leads_to.ensures.1 h) ∙ c.if-not-leads_to.true)));
+    })
 
 pub loop-node-preserved : goal.loop-node-preserved
 loop-node-preserved g t c =

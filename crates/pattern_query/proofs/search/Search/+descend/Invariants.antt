@@ -3,7 +3,7 @@ use Rattle.timetable.specs.Journeys.{pattern}
 use Rattle.pattern_tree.specs.Forest.{forest, levels}
 use Rattle.pattern_tree.specs.Branch.{branches}
 use Rattle.pattern_query.specs.Way.{Beyond}
-use Rattle.pattern_query.specs.Places.{Searched}
+use Rattle.pattern_query.specs.BestSoFar.{Searched}
 use Rattle.pattern_query.proofs.search.Search.+descend.Given as goal
 
 abbrev pub invariant-loop-node : goal.invariant-loop-node

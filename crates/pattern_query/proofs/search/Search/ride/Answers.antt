@@ -2,7 +2,7 @@ use Rattle.std.proofs.Common.{Option, ◌≡◌, ◌+◌, ◌==◌, List, [], �
 use Rattle.std.proofs.lemmas.Option.{same_Some}
 use Rattle.timetable.specs.declared.parts.Leg.{Leg}
 use Rattle.timetable.specs.Journeys.{Serves, arrives}
-use Rattle.pattern_query.specs.Places.{ThereBy}
+use Rattle.pattern_query.specs.BestSoFar.{ThereBy}
 use Rattle.pattern_query.specs.Way.{Boards, hop, is_some}
 use Rattle.pattern_query.proofs.PlaceSteps.{none_some}
 use Rattle.pattern_query.proofs.VisitSteps.{unserved, boards_late, rides_late}

@@ -3,7 +3,7 @@ use Rattle.timetable.specs.Journeys.{pattern}
 use Rattle.pattern_tree.specs.Forest.{forest}
 use Rattle.pattern_tree.specs.Branch.{branches}
 use Rattle.pattern_query.specs.Way.{Exactly, Beyond}
-use Rattle.pattern_query.specs.Places.{Searched}
+use Rattle.pattern_query.specs.BestSoFar.{Searched}
 use Rattle.pattern_query.proofs.TreeSteps.{found_all}
 use Rattle.pattern_query.proofs.search.Search.run.Goals as goal
 

@@ -2,7 +2,7 @@
 
 ghost use Rattle.std.specs.Prelude.{◌≡◌, ℕ, ◌≤◌, ◌<◌, ◌↔◌, IsTrue, None, length};
 ghost use Rattle.direct_connections.specs.Direct.{IsMadeFor};
-ghost use Rattle.pattern_query.specs.Places.{at, ThereBy, AddsTree, AreChosen, Offered};
+ghost use Rattle.pattern_query.specs.BestSoFar.{at, ThereBy, AddsTree, AreChosen, Offered};
 
 use crate::answer::{Answer, Point};
 use crate::search::Search;
@@ -16,14 +16,14 @@ use timetable::{StopId, Timetable};
 
 /// The best journeys found so far: a place for each number of rides, from 0 to 8.
 #[derive(Debug, Drop)]
-pub struct Places {
+pub struct BestSoFar {
     points: [Option<Point>; 9],
 }
 
-impl Model for Places {
+impl Model for BestSoFar {
     ghost use Rattle.std.specs.Prelude.{List, Option};
     ghost use Rattle.pattern_query.specs.Answer.{PointData};
-    ghost use Rattle.pattern_query.specs.Places.{ArePlaces};
+    ghost use Rattle.pattern_query.specs.BestSoFar.{ArePlaces};
 
     ghost Value = { List (Option PointData) };
 
@@ -58,12 +58,12 @@ pub(crate) fn offer(points: &mut [Option<Point>], point: Point)
     }
 }
 
-impl Places {
+impl BestSoFar {
     /// No journeys.
-    pub fn new() -> Places
+    pub fn new() -> BestSoFar
         ensures { (r : ℕ) → at result r ≡ None }
     {
-        Places {
+        BestSoFar {
             points: [None, None, None, None, None, None, None, None, None],
         }
     }

@@ -1,10 +1,10 @@
 use Rattle.std.proofs.Common.{subst, ◌∙◌}
 use Rattle.pattern_tree.specs.Forest.{forest}
 use Rattle.pattern_tree.specs.Branch.{branches}
-use Rattle.pattern_query.specs.Places.{Searched}
+use Rattle.pattern_query.specs.BestSoFar.{Searched}
 use Rattle.pattern_query.specs.Way.{EmptyOrIn}
 use Rattle.pattern_query.proofs.TreeSteps.{tree_added, counted_still}
-use Rattle.pattern_query.proofs.places.Places.search.Goals as goal
+use Rattle.pattern_query.proofs.best_so_far.BestSoFar.search.Goals as goal
 
 pub invariant_of-self : goal.invariant_of-self
 invariant_of-self g c =

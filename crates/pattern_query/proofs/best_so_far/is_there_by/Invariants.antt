@@ -1,6 +1,6 @@
 use Rattle.std.proofs.Common.{ℕ, ◌<◌}
-use Rattle.pattern_query.specs.Places.{at, By}
-use Rattle.pattern_query.proofs.places.is_there_by.Given as goal
+use Rattle.pattern_query.specs.BestSoFar.{at, By}
+use Rattle.pattern_query.proofs.best_so_far.is_there_by.Given as goal
 
 abbrev pub invariant-loop-place : goal.invariant-loop-place
 invariant-loop-place l = (r : ℕ) → r < l.place-index → ¬ By (at l.place-items r) l.moment

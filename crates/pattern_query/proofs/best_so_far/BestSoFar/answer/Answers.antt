@@ -2,11 +2,11 @@ use Rattle.std.proofs.Common.{◌≡◌, ◌<◌, Some, None, length, get_or, ar
 use Rattle.std.proofs.lemmas.List.{get_or_default}
 use Rattle.std.proofs.lemmas.Option.{same_Some}
 use Rattle.pattern_query.specs.Answer.{PointData}
-use Rattle.pattern_query.specs.Places.{at, ThereBy, IsKept, AreChosenBelow}
+use Rattle.pattern_query.specs.BestSoFar.{at, ThereBy, IsKept, AreChosenBelow}
 use Rattle.pattern_query.proofs.PlaceSteps.{none_some}
 use Rattle.pattern_query.proofs.Choosing.{chosen_stay, chosen_more, chosen_all}
-use Rattle.pattern_query.proofs.places.Places.answer.Goals as goal
-use Rattle.pattern_query.proofs.places.Places.answer.Goals.{in-Some+then-not-is_there_by, in-Some+else-not-is_there_by, in_default}
+use Rattle.pattern_query.proofs.best_so_far.BestSoFar.answer.Goals as goal
+use Rattle.pattern_query.proofs.best_so_far.BestSoFar.answer.Goals.{in-Some+then-not-is_there_by, in-Some+else-not-is_there_by, in_default}
 
 pub loop-rides-preserved : goal.loop-rides-preserved
 loop-rides-preserved c =
