@@ -30,7 +30,7 @@ below n k d in' =
     let e = get_or-range_with_len 0 n k d lt in
     omega (arith, e, lt)
 
-children_known : (names : NameLists) (n : ℕ) → AreNames names → All (λ s. s < length names.stops) (group names.children n)
+pub children_known : (names : NameLists) (n : ℕ) → AreNames names → All (λ s. s < length names.stops) (group names.children n)
 children_known names n are =
     let t = are.0 in
     let count : length names.stops ≡ length t.stops = ap (λ l. length l) are.1.stops ∙ length-map t.stops (λ stop. stop.id) in

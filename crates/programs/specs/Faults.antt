@@ -5,6 +5,8 @@ use Rattle.gtfs_rows.specs.declared.fault.FaultKind.TheVariants as kinds
 use Rattle.gtfs_rows.specs.declared.fault.FeedFault.{FeedFault}
 use Rattle.service_days.specs.declared.fault.DayFault.{DayFault}
 use Rattle.service_days.specs.declared.fault.DayFault.TheVariants as days
+use Rattle.pattern_tree.specs.declared.fault.TreeFault.{TreeFault}
+use Rattle.pattern_tree.specs.declared.fault.TreeFault.TheVariants as trees
 use Rattle.programs.specs.declared.fault.Fault.{Fault}
 use Rattle.programs.specs.declared.fault.Fault.TheVariants as fault
 
@@ -15,6 +17,7 @@ status_of (fault.Feed f) = 1
 status_of (fault.Days f) = 1
 status_of (fault.UnknownStop id) = 6
 status_of fault.NotCovered = 6
+status_of fault.TooLarge = 3
 status_of fault.Memory = 7
 
 -- the fault of a feed, but for want of memory; and that of the days
@@ -39,3 +42,8 @@ of_days days.Memory = fault.Memory
 of_days days.BadRange = fault.Days days.BadRange
 of_days days.BadZone = fault.Days days.BadZone
 of_days days.ZoneJump = fault.Days days.ZoneJump
+
+-- the fault of a stop's tree
+abbrev pub of_tree : TreeFault → Fault
+of_tree trees.TooLarge = fault.TooLarge
+of_tree trees.Memory = fault.Memory

@@ -1,12 +1,20 @@
 -- The options that the programs have.
 use Rattle.std.specs.Prelude.{ℕ, [], ◌∷◌, Some, codes, true, pos}
 use Rattle.clap.specs.Words.{App, Rule, Text, new_app, new_rule, with_rule}
-use Rattle.clap.specs.declared.builder.action.ArgAction.TheVariants.{Set}
+use Rattle.clap.specs.declared.builder.action.ArgAction.TheVariants.{Set, SetTrue}
 use Rattle.clap.specs.declared.builder.value_parser.ValueParser.TheVariants as values
 
 -- an option that must be given
 abbrev pub required_rule : Text → Rule
 required_rule name = record (new_rule name) { long = Some name; action = Some Set; value_names = 1; required = true }
+
+-- an option that may be left out
+abbrev pub optional_rule : Text → Rule
+optional_rule name = record (new_rule name) { long = Some name; action = Some Set; value_names = 1 }
+
+-- an option without a value
+abbrev pub flag_rule : Text → Rule
+flag_rule name = record (new_rule name) { long = Some name; action = Some SetTrue }
 
 -- an option with a default
 abbrev pub defaulted_rule : Text → Text → Rule

@@ -4,6 +4,7 @@ ghost use Rattle.std.specs.Prelude.{◌≡◌};
 ghost use Rattle.programs.specs.Faults.{status_of};
 
 use gtfs_tables::{FaultKind, FeedFault, FeedFile};
+use pattern_tree::TreeFault;
 use service_days::DayFault;
 use std::alloc::AllocError;
 use thiserror::Error;
@@ -30,18 +31,22 @@ pub enum Fault<'a> {
     UnknownStop(&'a str),
     #[error("Q2 NotCovered")]
     NotCovered,
+    #[error("N1 TooLarge")]
+    TooLarge,
     #[error("Memory")]
     Memory,
 }
 
 impl<'a> Fault<'a> {
-    /// The status to end with: 1 for the feed and its days, 2 for the words, 6 for the question, 7 for want of memory.
+    /// The status to end with: 1 for the feed and its days, 2 for the words, 3 for a stop whose tree would be too large, 6 for the
+    /// question, 7 for want of memory.
     pub fn status(&self) -> u8
         ensures { result ≡ status_of self.now }
     {
         match self {
             Fault::Feed(_) | Fault::Days(_) => 1,
             Fault::BadDate | Fault::BadTime => 2,
+            Fault::TooLarge => 3,
             Fault::UnknownStop(_) | Fault::NotCovered => 6,
             Fault::Memory => 7,
         }
@@ -72,6 +77,20 @@ impl<'a> From<DayFault> for Fault<'a> {
         match fault {
             DayFault::Memory => Fault::Memory,
             _ => Fault::Days(fault),
+        }
+    }
+}
+
+impl<'a> From<TreeFault> for Fault<'a> {
+    ghost use Rattle.std.specs.Prelude.{◌≡◌};
+    ghost use Rattle.programs.specs.Faults.{of_tree};
+
+    ghost from_gives = { λ f e. e ≡ of_tree f };
+
+    fn from(fault: TreeFault) -> Fault<'a> {
+        match fault {
+            TreeFault::TooLarge => Fault::TooLarge,
+            TreeFault::Memory => Fault::Memory,
         }
     }
 }

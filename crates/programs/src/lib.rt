@@ -12,11 +12,11 @@ mod values;
 
 pub use fault::{Fault, NO_KEYS};
 pub use feed::{FeedReader, open_feed};
-pub use options::{common, defaulted, number, required};
+pub use options::{common, defaulted, flag, number, optional, required};
 pub use refusal::refuse;
 pub use settings::Settings;
 pub use start::{given_words, out_of_memory, show, texts, unread};
-pub use values::{byte_of, number_of, settings_of, text_of};
+pub use values::{byte_of, flag_of, number_of, settings_of, text_of};
 
 #[cfg(test)]
 mod tests;

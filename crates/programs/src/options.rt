@@ -4,23 +4,30 @@ ghost use Rattle.std.specs.Prelude.{◌≡◌, false, IfOk, IfErr};
 ghost use Rattle.clap.specs.Words.{app_of, rule_of, kind_of};
 ghost use Rattle.clap.specs.declared.error.kind.ErrorKind.TheVariants.{OutOfMemory};
 ghost use Rattle.clap.specs.declared.builder.command.Command.TheViews.{out-Command as fields_of};
-ghost use Rattle.programs.specs.Options.{required_rule, defaulted_rule, number_rule, common_app};
+ghost use Rattle.programs.specs.Options.{required_rule, optional_rule, flag_rule, defaulted_rule, number_rule, common_app};
 
 use clap::builder::ValueParser;
 use clap::{Arg, ArgAction, Command, Error};
 use std::alloc::Global;
+
+/// An option that may be left out: it has no value then. `shown` is how its value is shown in the help.
+pub fn optional<'a>(alloc: Global, name: &'a str, shown: &'a str, help: &'a str) -> Arg<'a>
+    ensures rule { rule_of result ≡ optional_rule name.entry.now }
+    ensures local { result.global ≡ false }
+{
+    Arg::new(alloc, name)
+        .long(name)
+        .value_name(shown)
+        .action(ArgAction::Set)
+        .help(help)
+}
 
 /// An option that must be given, with how its value is shown in the help, and the help itself.
 pub fn required<'a>(alloc: Global, name: &'a str, shown: &'a str, help: &'a str) -> Arg<'a>
     ensures rule { rule_of result ≡ required_rule name.entry.now }
     ensures local { result.global ≡ false }
 {
-    Arg::new(alloc, name)
-        .long(name)
-        .value_name(shown)
-        .required(true)
-        .action(ArgAction::Set)
-        .help(help)
+    optional(alloc, name, shown, help).required(true)
 }
 
 /// An option that may be left out: it has this value then.
@@ -34,11 +41,17 @@ pub fn defaulted<'a>(
     ensures rule { rule_of result ≡ defaulted_rule name.entry.now value.entry.now }
     ensures local { result.global ≡ false }
 {
+    optional(alloc, name, shown, help).default_value(value)
+}
+
+/// An option without a value: it is there, or it isn't.
+pub fn flag<'a>(alloc: Global, name: &'a str, help: &'a str) -> Arg<'a>
+    ensures rule { rule_of result ≡ flag_rule name.entry.now }
+    ensures local { result.global ≡ false }
+{
     Arg::new(alloc, name)
         .long(name)
-        .value_name(shown)
-        .action(ArgAction::Set)
-        .default_value(value)
+        .action(ArgAction::SetTrue)
         .help(help)
 }
 

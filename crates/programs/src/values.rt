@@ -1,9 +1,9 @@
 //! What the words say of the options.
 
-ghost use Rattle.std.specs.Prelude.{◌≡◌, ◌^◌, IfSome, IfNone, option_map};
+ghost use Rattle.std.specs.Prelude.{◌≡◌, ◌^◌, ◌↔◌, IsTrue, IfSome, IfNone, option_map};
 ghost use Rattle.clap.specs.Words.{rows_of, found_of, first_of};
 ghost use Rattle.programs.specs.Settings.{HasSettings, LacksSettings};
-ghost use Rattle.programs.specs.Values.{HasNumber};
+ghost use Rattle.programs.specs.Values.{HasFlag, HasNumber};
 
 use crate::settings::Settings;
 use clap::ArgMatches;
@@ -13,6 +13,13 @@ pub fn text_of<'a>(found: &ArgMatches<'a>, option: &str) -> Option<&'a str>
     ensures { option_map (λ text. text.now) result ≡ first_of option.now (rows_of (found_of found.now)) }
 {
     found.get_str(option)
+}
+
+/// Whether the words have an option that takes no value.
+pub fn flag_of(found: &ArgMatches<'_>, option: &str) -> bool
+    ensures { IsTrue result ↔ HasFlag (rows_of (found_of found.now)) option.now }
+{
+    text_of(found, option) == Some("true")
 }
 
 /// The number below 2^32 that the words have for an option; none where they have no text for it, or one that spells no such

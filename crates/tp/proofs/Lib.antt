@@ -1,3 +1,7 @@
+pub mod AnswerFacts
+pub mod BasisFacts
 pub mod FaultFacts
-pub mod MomentFacts
+pub mod LoopFacts
+pub mod PartFacts
 pub mod PrintedFacts
+pub mod RefusalFacts

@@ -1,87 +1,81 @@
 -- What the program answers to a question, by the timetable and the covered days.
 -- RAPTOR (Delling, Pajor, Werneck, ALENEX 2012), section 2: the Pareto set of arrival time and number of trips.
-use Rattle.std.specs.Prelude.{◌≡◌, ℕ, ◌<◌, ◌≤◌, ◌⊎◌, List, None, Some}
-use Rattle.std.specs.List.{AllZip}
-use Rattle.service_days.specs.Answers.{IsSplit}
-use Rattle.service_days.specs.Cover.{CoverDays}
+use Rattle.std.specs.Prelude.{◌≡◌, ℕ, ◌≤◌, Bool, true, false, List, [], length, Option, Some}
+use Rattle.std.specs.List.{AllZip, Contains}
 use Rattle.timetable.specs.declared.parts.Leg.{Leg}
 use Rattle.timetable.specs.declared.parts.Numbers.{Numbers}
-use Rattle.timetable.specs.Table.{Table}
-use Rattle.timetable.specs.Journeys.{Serves, arrives}
-use Rattle.timetable.specs.Front.{AreFront}
-use Rattle.timetable.specs.NameLists.{NameLists}
-use Rattle.timetable.specs.Names.{stop_named}
+use Rattle.timetable.specs.Journeys.{Journey, Serves, arrives}
+use Rattle.pattern_query.specs.Answer.{AreBest}
+use Rattle.planner.specs.Questions.{ReachesBetween}
 use Rattle.tp.specs.declared.answer.Answer.{Answer}
 use Rattle.tp.specs.declared.answer.Answer.TheVariants as answers
 use Rattle.tp.specs.declared.answer.Point.{Point}
-use Rattle.programs.specs.declared.fault.Fault.{Fault}
-use Rattle.programs.specs.declared.fault.Fault.TheVariants as faults
+use Rattle.tp.specs.declared.basis.Basis.{Basis}
 use Rattle.tp.specs.declared.job.Job.{Job}
+use Rattle.tp.specs.declared.job.Question.{Question}
 use Rattle.tp.specs.declared.job.Task.{Task}
 use Rattle.tp.specs.declared.job.Task.TheVariants as tasks
-use Rattle.tp.specs.declared.moment.DayTime.{DayTime}
-use Rattle.tp.specs.Tasks.{question_of}
+use Rattle.tp.specs.declared.stages.Stage.{Stage}
+use Rattle.tp.specs.Stages.{Says, ShowsPart, parts_of}
+use Rattle.tp.specs.Tasks.{question_of, stops_for}
 
--- the time of a service day is that of the moment, by the last covered day that has begun
-abbrev pub Says : CoverDays → ℕ → DayTime → Type 0
-Says c moment time = IsSplit c moment (time.date, time.seconds)
+-- the leg is a ride from one of the first stops to one of the others that departs at d or later
+abbrev pub IsRideBetween : Basis → List ℕ → List ℕ → ℕ → Leg → Type 0
+IsRideBetween basis froms tos d leg = (p : ℕ) × (q : ℕ) × Contains froms p × Contains tos q × Serves basis.timetable p q d leg
 
 -- no ride only where there is none, else the arrival of a ride that arrives as early as any
-abbrev pub IsDirect : Table → CoverDays → ℕ → ℕ → ℕ → Answer → Type 0
-IsDirect table c p q d answers.NoRide = (leg : Leg) → ¬ Serves table p q d leg
-IsDirect table c p q d (answers.Arrive time) =
-    (leg : Leg) × Serves table p q d leg × ((other : Leg) → Serves table p q d other → arrives table leg ≤ arrives table other)
-    × Says c (arrives table leg) time
-IsDirect table c p q d (answers.Points points) = ⊥
+abbrev pub IsDirect : Basis → List ℕ → List ℕ → ℕ → Answer → Type 0
+IsDirect basis froms tos d answers.NoRide = (leg : Leg) → ¬ IsRideBetween basis froms tos d leg
+IsDirect basis froms tos d (answers.Arrive time) =
+    (leg : Leg) × IsRideBetween basis froms tos d leg
+    × ((other : Leg) → IsRideBetween basis froms tos d other → arrives basis.timetable leg ≤ arrives basis.timetable other)
+    × Says basis.cover (arrives basis.timetable leg) time
+IsDirect basis froms tos d (answers.Points points) = ⊥
 
--- a point has the rides and the arrival of these numbers
-abbrev pub Shows : CoverDays → Numbers → Point → Type 0
-Shows c n point = (point.rides ≡ n.rides) × Says c n.arrival point.at
-
--- the best numbers over journeys of at most k rides, by rising rides
-abbrev pub IsScan : Table → CoverDays → ℕ → ℕ → ℕ → ℕ → Answer → Type 0
-IsScan table c k p q d answers.NoRide = ⊥
-IsScan table c k p q d (answers.Arrive time) = ⊥
-IsScan table c k p q d (answers.Points points) = (front : List Numbers) × AreFront table k p q d front × AllZip (Shows c) front points.items
-
--- the answer to a task of at most k rides, from the stop p to the stop q, for one who leaves at the moment d
-abbrev pub IsAnswerTo : Task → Table → CoverDays → ℕ → ℕ → ℕ → ℕ → Answer → Type 0
-IsAnswerTo (tasks.Direct question) table c k p q d answer = IsDirect table c p q d answer
-IsAnswerTo (tasks.Scan question) table c k p q d answer = IsScan table c k p q d answer
-
--- the answer to a job: between the stops of its ids, at a covered moment
-pub record IsAnswer (table : Table) (c : CoverDays) (names : NameLists) (job : Job) (d : ℕ) (answer : Answer) : Type 0 where
+-- the stages are the rides and walks of a journey from one of the first stops at d to one of the others, with these numbers
+pub record AreStagesOf (basis : Basis) (froms tos : List ℕ) (d : ℕ) (n : Numbers) (stages : List Stage) : Type 0 where
   pub from : ℕ
   pub to : ℕ
-  pub leaves : stop_named names (question_of job.task).from.now ≡ Some from
-  pub arrives : stop_named names (question_of job.task).to.now ≡ Some to
-  pub covered : d ≤ table.horizon
-  pub right : IsAnswerTo job.task table c job.settings.rides from to d answer
+  pub legs : List Leg
+  pub starts : Contains froms from
+  pub ends : Contains tos to
+  pub journey : Journey basis.timetable from d legs to n.arrival
+  pub rides : length legs ≡ n.rides
+  pub told : AllZip (ShowsPart basis) (parts_of basis.timetable from d legs to) stages
 
--- some stop has the id
-abbrev pub IsKnown : NameLists → List ℕ → Type 0
-IsKnown names id = (stop : ℕ) × (stop_named names id ≡ Some stop)
+-- a point has the rides and the arrival of these numbers, and the stages of such a journey where they are wanted
+pub record Shows (basis : Basis) (froms tos : List ℕ) (d : ℕ) (wanted : Bool) (n : Numbers) (point : Point) : Type 0 where
+  pub rides : point.rides ≡ n.rides
+  pub at : Says basis.cover n.arrival point.at
+  pub told : wanted ≡ true → AreStagesOf basis froms tos d n point.stages.items
+  pub untold : wanted ≡ false → point.stages.items ≡ []
 
--- A question that has no answer: no stop has the first id; or else the second; or else the moment isn't covered. Memory may run
--- out as well.
-abbrev pub IsRefusal : Table → NameLists → Job → ℕ → Fault → Type 0
-IsRefusal table names job d (faults.UnknownStop id) =
-    (stop_named names id.now ≡ None)
-    × ((id.now ≡ (question_of job.task).from.now) ⊎ (IsKnown names (question_of job.task).from.now × (id.now ≡ (question_of job.task).to.now)))
-IsRefusal table names job d faults.NotCovered =
-    IsKnown names (question_of job.task).from.now × IsKnown names (question_of job.task).to.now × (table.horizon < d)
-IsRefusal table names job d faults.Memory = Unit {0}
-IsRefusal table names job d faults.BadDate = ⊥
-IsRefusal table names job d faults.BadTime = ⊥
-IsRefusal table names job d (faults.Feed f) = ⊥
-IsRefusal table names job d (faults.Days f) = ⊥
+-- the best numbers over journeys of at most k rides between these stops, by rising rides
+abbrev pub ArePoints : Basis → ℕ → Bool → List ℕ → List ℕ → ℕ → Answer → Type 0
+ArePoints basis k wanted froms tos d answers.NoRide = ⊥
+ArePoints basis k wanted froms tos d (answers.Arrive time) = ⊥
+ArePoints basis k wanted froms tos d (answers.Points points) =
+    (front : List Numbers) × AreBest (ReachesBetween basis.timetable k froms tos d) front × AllZip (Shows basis froms tos d wanted) front points.items
 
--- the fault says that no stop has the id
-abbrev pub IsUnknown : NameLists → List ℕ → Fault → Type 0
-IsUnknown names id (faults.UnknownStop named) = (named.now ≡ id) × (stop_named names id ≡ None)
-IsUnknown names id faults.BadDate = ⊥
-IsUnknown names id faults.BadTime = ⊥
-IsUnknown names id (faults.Feed f) = ⊥
-IsUnknown names id (faults.Days f) = ⊥
-IsUnknown names id faults.NotCovered = ⊥
-IsUnknown names id faults.Memory = ⊥
+-- the answer to a task of at most k rides, from the first stops to the others, for one who leaves at the moment d
+abbrev pub IsAnswerTo : Task → ℕ → Basis → List ℕ → List ℕ → ℕ → Answer → Type 0
+IsAnswerTo (tasks.Direct question) k basis = IsDirect basis
+IsAnswerTo (tasks.Scan question) k basis = ArePoints basis k false
+IsAnswerTo (tasks.Ask question on legs) k basis = ArePoints basis k legs
+
+-- the question's ids stand for these stops, and its moment is this one, which is covered
+pub record IsAsked (stops : List ℕ → Option (List ℕ)) (basis : Basis) (question : Question) (froms tos : List ℕ) (depart : ℕ) : Type 0 where
+  pub leaves : stops question.from.now ≡ Some froms
+  pub reaches : stops question.to.now ≡ Some tos
+  pub moment : basis.moment ≡ Some depart
+  pub covered : depart ≤ basis.timetable.horizon
+
+-- the answer is right between the question's stops at its moment
+abbrev pub IsAnswered : (List ℕ → Option (List ℕ)) → (List ℕ → List ℕ → ℕ → Answer → Type 0) → Basis → Question → Answer → Type 0
+IsAnswered stops Right basis question answer =
+    (froms : List ℕ) × (tos : List ℕ) × (depart : ℕ) × IsAsked stops basis question froms tos depart × Right froms tos depart answer
+
+-- the answer to a job: between the stops of its ids, at a covered moment
+abbrev pub IsAnswer : Basis → Job → Answer → Type 0
+IsAnswer basis job answer =
+    IsAnswered (stops_for job.task basis.names) (IsAnswerTo job.task job.settings.rides basis) basis (question_of job.task) answer

@@ -1,8 +1,9 @@
 -- The job that words give, by the program's command line.
-use Rattle.std.specs.Prelude.{◌≡◌, List, Option, None, Some, codes}
-use Rattle.clap.specs.Words.{Row, Text}
+use Rattle.std.specs.Prelude.{◌≡◌, ◌↔◌, IsTrue, List, Option, None, Some, codes}
+use Rattle.std.specs.Option.{option_map}
+use Rattle.clap.specs.Words.{Row, Text, first_of}
 use Rattle.programs.specs.Settings.{HasSettings}
-use Rattle.programs.specs.Values.{HasText}
+use Rattle.programs.specs.Values.{HasFlag, HasText}
 use Rattle.tp.specs.declared.job.Job.{Job}
 use Rattle.tp.specs.declared.job.Question.{Question}
 use Rattle.tp.specs.declared.job.Task.{Task}
@@ -22,6 +23,9 @@ LacksQuestion rows = (question : Question) → ¬ IsQuestion rows question
 abbrev pub IsTask : Text → List Row → Task → Type 0
 IsTask name rows (task.Direct question) = (name ≡ codes "direct") × IsQuestion rows question
 IsTask name rows (task.Scan question) = (name ≡ codes "scan") × IsQuestion rows question
+IsTask name rows (task.Ask question on legs) =
+    (name ≡ codes "ask") × IsQuestion rows question × (option_map (λ text. text.now) on ≡ first_of (codes "on") rows)
+    × (IsTrue legs ↔ HasFlag rows (codes "legs"))
 
 -- no task has this name and these rows
 abbrev pub NamesNoTask : Text → List Row → Type 0

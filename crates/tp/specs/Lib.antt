@@ -1,7 +1,11 @@
 pub mod Answers
+pub mod Basis
 pub mod CommandLine
 pub mod Feeds
 pub mod Jobs
+pub mod Points
 pub mod Printed
+pub mod Refusals
 pub mod Runs
+pub mod Stages
 pub mod Tasks

@@ -1,4 +1,4 @@
--- How moments and answers are shown.
+-- How moments, journeys and answers are shown.
 use Rattle.std.specs.Prelude.{ℕ, ◌-◌, ◌/◌, ◌%◌, List, [], ◌∷◌, ◌++◌, length, replicate, unsigned_abs, codes}
 use Rattle.std.specs.Fmt.{decimal}
 use Rattle.std.specs.List.{flat_map}
@@ -6,6 +6,8 @@ use Rattle.tp.specs.declared.answer.Answer.{Answer}
 use Rattle.tp.specs.declared.answer.Answer.TheVariants as answers
 use Rattle.tp.specs.declared.answer.Point.{Point}
 use Rattle.tp.specs.declared.moment.DayTime.{DayTime}
+use Rattle.tp.specs.declared.stages.Stage.{Stage}
+use Rattle.tp.specs.declared.stages.Stage.TheVariants as stages
 
 -- a number in decimal digits, with zeros in front where it has fewer than so many
 abbrev pub with_zeros : ℕ → ℕ → List ℕ
@@ -24,10 +26,19 @@ time_text seconds =
 abbrev pub day_time_text : DayTime → List ℕ
 day_time_text t = date_text (unsigned_abs t.date.year) t.date.month t.date.day ++ (32 ∷ time_text t.seconds)
 
-abbrev pub point_text : Point → List ℕ
-point_text point = codes "rides " ++ (decimal point.rides ++ (codes " arrive " ++ day_time_text point.at))
+-- a ride as its trip and the stop and time at which it boards and alights; a walk as its stops and when it arrives
+abbrev pub stage_text : Stage → List ℕ
+stage_text (stages.Ride trip board leaves alight comes) =
+    codes "  ride " ++ (trip ++ (32 ∷ board ++ (32 ∷ day_time_text leaves ++ (32 ∷ alight ++ (32 ∷ day_time_text comes)))))
+stage_text (stages.Walk leaves reaches comes) = codes "  walk " ++ (leaves ++ (32 ∷ reaches ++ (32 ∷ day_time_text comes)))
 
--- a line for each point, without a line's end behind the last
+-- a point, and a line for each of its stages
+abbrev pub point_text : Point → List ℕ
+point_text point =
+    (codes "rides " ++ (decimal point.rides ++ (codes " arrive " ++ day_time_text point.at)))
+    ++ flat_map (λ stage. 10 ∷ stage_text stage) point.stages.items
+
+-- a line for each point and each of its stages, without a line's end behind the last
 unfoldable pub points_text : List Point → List ℕ
 points_text [] = codes "no journey"
 points_text (point ∷ points) = point_text point ++ flat_map (λ p. 10 ∷ point_text p) points

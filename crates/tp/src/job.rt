@@ -1,18 +1,18 @@
 //! What the program is asked to do.
 
 ghost use Rattle.std.specs.Prelude.{◌≡◌};
-ghost use Rattle.tp.specs.Tasks.{question_of};
+ghost use Rattle.tp.specs.Tasks.{question_of, day_of};
 
 use programs::Settings;
 
-/// From which stop to which, and when.
+/// From which place to which, and when.
 #[derive(Clone, Copy, Debug, PartialEq, Eq)]
 pub struct Question<'a> {
-    /// The id of the stop to leave from.
+    /// The id of the stop, or for `ask` the station, to leave from.
     pub from: &'a str,
-    /// The id of the stop to go to.
+    /// The id of the stop, or for `ask` the station, to go to.
     pub to: &'a str,
-    /// The time of the first covered day to leave at, as it is written.
+    /// The time to leave at, as it is written.
     pub at: &'a str,
 }
 
@@ -23,6 +23,14 @@ pub enum Task<'a> {
     Direct(Question<'a>),
     /// The best arrivals, by how many rides they take.
     Scan(Question<'a>),
+    /// The best journeys, from the pattern trees of the stops to leave from.
+    Ask {
+        question: Question<'a>,
+        /// The date to leave on, as it is written: the first covered day where there is none.
+        on: Option<&'a str>,
+        /// Whether the rides and walks of each journey are told.
+        legs: bool,
+    },
 }
 
 impl<'a> Task<'a> {
@@ -32,6 +40,7 @@ impl<'a> Task<'a> {
     {
         match self {
             Task::Direct(question) | Task::Scan(question) => *question,
+            Task::Ask { question, .. } => *question,
         }
     }
 }
@@ -41,4 +50,16 @@ impl<'a> Task<'a> {
 pub struct Job<'a> {
     pub settings: Settings<'a>,
     pub task: Task<'a>,
+}
+
+impl<'a> Job<'a> {
+    /// The date to leave on, as it is written.
+    pub fn day(&self) -> &'a str
+        ensures { result.now ≡ day_of self.now }
+    {
+        match self.task {
+            Task::Ask { on: Some(day), .. } => day,
+            _ => self.settings.date,
+        }
+    }
 }

@@ -2,10 +2,15 @@
 #![tactic(auto)]
 
 mod answer;
+mod asking;
+mod basis;
 mod command_line;
 mod job;
 mod moment;
+mod parts;
+mod points;
 mod run;
+mod stages;
 mod words;
 
 use crate::job::Job;
@@ -50,6 +55,8 @@ fn main(rt: HostRuntime) -> ExitCode {
 }
 
 #[cfg(test)]
-mod scan_tests;
+mod ask_tests;
+#[cfg(test)]
+mod journey_tests;
 #[cfg(test)]
 mod tests;

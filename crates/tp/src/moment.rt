@@ -1,8 +1,10 @@
 //! Moments as the program prints them.
 ghost use Rattle.std.specs.Prelude.{Some};
 ghost use Rattle.tp.specs.Printed.{day_time_text};
+ghost use Rattle.tp.specs.Stages.{Says};
 
 use jiff::civil::Date;
+use service_days::Cover;
 use std::fmt;
 
 /// A time of a service day, shown as `YYYYMMDD HH:MM:SS`. Hours of 24 and more belong to the night after the date.
@@ -28,4 +30,12 @@ impl fmt::Display for DayTime {
             "{year:04}{month:02}{day:02} {hours:02}:{minutes:02}:{seconds:02}"
         )
     }
+}
+
+/// A moment, as a time of a service day.
+pub fn day_time(cover: &Cover, moment: u32) -> DayTime
+    ensures { Says cover.now moment result }
+{
+    let (date, seconds) = cover.split(moment);
+    DayTime { date, seconds }
 }

@@ -9,7 +9,7 @@ ghost use Rattle.tp.specs.Jobs.{IsJob, IsJobOf, IsQuestion, IsTask, LacksQuestio
 use crate::command_line::matches_of;
 use crate::job::{Job, Question, Task};
 use clap::ArgMatches;
-use programs::{refuse, settings_of, text_of};
+use programs::{flag_of, refuse, settings_of, text_of};
 use std::alloc::Global;
 use std::io::Write;
 
@@ -33,6 +33,11 @@ fn task_of<'a>(name: &str, found: &ArgMatches<'a>) -> Option<Task<'a>>
     match name {
         "direct" => Some(Task::Direct(question)),
         "scan" => Some(Task::Scan(question)),
+        "ask" => Some(Task::Ask {
+            question,
+            on: text_of(found, "on"),
+            legs: flag_of(found, "legs"),
+        }),
         _ => None,
     }
 }

@@ -14,14 +14,17 @@ is_free_program = refl
 -- the command that was built is the program's command line
 app_is : (c : goal.After-try_get_matches_from) → app_of c.in_ok-program.program ≡ program_app
 app_is c =
-    c.in_ok-program.ensures.shape c.in_ok-journey-2.ensures.local
+    c.in_ok-program.ensures.shape c.in_ok-ask.ensures.local
+    ∙ ap₂ with_subcommand (
+    c.in_ok-subcommand-2.ensures.shape c.in_ok-journey-2.ensures.local
     ∙ ap₂ with_subcommand (
     c.in_ok-subcommand.ensures.shape c.in_ok-journey.ensures.local
     ∙ ap₂ with_subcommand (
     ap app_of_fields c.subcommand_required.ensures
     ∙ ap needs_subcommand (ap app_of_fields c.after_help.ensures ∙ ap app_of_fields c.about.ensures ∙ c.new.ensures.app))
     (ap (λ (a : App). a.top) c.in_ok-journey.ensures.shape))
-    (ap (λ (a : App). a.top) c.in_ok-journey-2.ensures.shape)
+    (ap (λ (a : App). a.top) c.in_ok-journey-2.ensures.shape))
+    (ap (λ (a : App). a.top) c.in_ok-ask.ensures.shape)
 
 pub returns-clause-rows : goal.returns-clause-rows
 returns-clause-rows c =

@@ -8,17 +8,17 @@ use std::process::Abort;
 use std::random::RandomSource;
 use std::test::Fail;
 
-type Bytes = &'static [u8];
+pub(crate) type Bytes = &'static [u8];
 
 const TRANSFERS: Bytes =
     b"from_stop_id,to_stop_id,transfer_type,min_transfer_time\nB,B,2,120\nC,E,2,240\n";
 
 // The demo feed, its stops C and D in a station S.
-const STATION: Bytes =
+pub(crate) const STATION: Bytes =
     b"stop_id,location_type,parent_station\nA,0,\nB,0,\nC,0,S\nD,0,S\nE,0,\nS,1,\n";
 
 // The demo feed.
-fn demo() -> Files<Bytes> {
+pub(crate) fn demo() -> Files<Bytes> {
     Files {
         stops: Some(STOPS),
         trips: Some(TRIPS),
@@ -35,9 +35,22 @@ fn with_transfers(transfers: Bytes) -> Files<Bytes> {
     files
 }
 
-// The words of a scan between two stops, with further words behind.
-fn scan<'a>(
+// The files once more.
+fn again(files: &Files<Bytes>) -> Files<Bytes> {
+    Files {
+        stops: files.stops,
+        trips: files.trips,
+        calendar: files.calendar,
+        calendar_dates: files.calendar_dates,
+        stop_times: files.stop_times,
+        transfers: files.transfers,
+    }
+}
+
+// The words of a command between two places, with further words behind.
+fn words_of<'a>(
     alloc: Global,
+    command: &'a str,
     date: &'a str,
     from: &'a str,
     to: &'a str,
@@ -45,7 +58,7 @@ fn scan<'a>(
     more: &[&'a str],
 ) -> Result<Vec<&'a str>, Fail> {
     let words = [
-        "tp", "scan", "--feed", "demo", "--date", date, "--from", from, "--to", to, "--at", at,
+        "tp", command, "--feed", "demo", "--date", date, "--from", from, "--to", to, "--at", at,
     ];
     let mut all = Vec::from_array(alloc, words)?;
     for word in more {
@@ -54,7 +67,24 @@ fn scan<'a>(
     Ok(all)
 }
 
-// A scan on 2 January 2024 prints this and is done.
+// A question prints this and is done, by rounds and by trees.
+fn answers<'a>(
+    rt: &(impl Abort + Alloc<A = Global> + RandomSource),
+    files: &Files<Bytes>,
+    date: &'a str,
+    way: (&'a str, &'a str, &'a str),
+    more: &[&'a str],
+    out: &str,
+) -> Result<(), Fail> {
+    let (from, to, at) = way;
+    for command in ["scan", "ask"] {
+        let words = words_of(rt.alloc(), command, date, from, to, at, more)?;
+        expect(rt, again(files), words.as_slice(), 0, out, "")?;
+    }
+    Ok(())
+}
+
+// A question on 2 January 2024 prints this and is done.
 fn shows<'a>(
     rt: &(impl Abort + Alloc<A = Global> + RandomSource),
     files: Files<Bytes>,
@@ -63,8 +93,7 @@ fn shows<'a>(
     at: &'a str,
     out: &str,
 ) -> Result<(), Fail> {
-    let words = scan(rt.alloc(), "20240102", from, to, at, &[])?;
-    expect(rt, files, words.as_slice(), 0, out, "")
+    answers(rt, &files, "20240102", (from, to, at), &[], out)
 }
 
 #[test]
@@ -95,26 +124,19 @@ fn best_arrivals_on_foot(rt: HostRuntime) -> Result<(), Fail> {
 
 #[test]
 fn fewer_rides(rt: HostRuntime) -> Result<(), Fail> {
-    let words = scan(
-        rt.alloc(),
-        "20240102",
-        "A",
-        "D",
-        "08:00:00",
-        &["--rides", "1"],
-    )?;
     let out = "rides 1 arrive 20240102 09:00:00\n";
-    expect(&rt, demo(), words.as_slice(), 0, out, "")
+    let way = ("A", "D", "08:00:00");
+    answers(&rt, &demo(), "20240102", way, &["--rides", "1"], out)
 }
 
 #[test]
 fn days_of_the_calendar(rt: HostRuntime) -> Result<(), Fail> {
-    let saturday = scan(rt.alloc(), "20240106", "A", "D", "08:00:00", &[])?;
-    expect(&rt, demo(), saturday.as_slice(), 0, "no journey\n", "")?;
+    let way = ("A", "D", "08:00:00");
+    answers(&rt, &demo(), "20240106", way, &[], "no journey\n")?;
     let mut files = demo();
     files.calendar_dates = Some(b"service_id,date,exception_type\nWK,20240106,1\n");
     let out = "rides 1 arrive 20240106 09:00:00\nrides 2 arrive 20240106 08:40:00\n";
-    expect(&rt, files, saturday.as_slice(), 0, out, "")?;
+    answers(&rt, &files, "20240106", way, &[], out)?;
     let mut files = demo();
     files.calendar_dates = Some(b"service_id,date,exception_type\nWK,20240102,2\n");
     shows(&rt, files, "A", "D", "08:00:00", "no journey\n")
@@ -177,7 +199,7 @@ fn transfers_of_a_station(rt: HostRuntime) -> Result<(), Fail> {
     }
     let mut files = demo();
     files.stops = Some(STATION);
-    let words = scan(rt.alloc(), "20240102", "A", "S", "08:00:00", &[])?;
+    let words = words_of(rt.alloc(), "scan", "20240102", "A", "S", "08:00:00", &[])?;
     expect(
         &rt,
         files,
@@ -193,16 +215,10 @@ fn walks_without_a_written_time(rt: HostRuntime) -> Result<(), Fail> {
     let empty = b"from_stop_id,to_stop_id,transfer_type\nC,E,\n".as_slice();
     let out = "rides 1 arrive 20240102 08:32:00\n";
     shows(&rt, with_transfers(empty), "A", "E", "08:00:00", out)?;
-    let words = scan(
-        rt.alloc(),
-        "20240102",
-        "A",
-        "E",
-        "08:00:00",
-        &["--default-walk", "0"],
-    )?;
     let out = "rides 1 arrive 20240102 08:30:00\n";
-    expect(&rt, with_transfers(empty), words.as_slice(), 0, out, "")?;
+    let way = ("A", "E", "08:00:00");
+    let more = ["--default-walk", "0"];
+    answers(&rt, &with_transfers(empty), "20240102", way, &more, out)?;
     let never = b"from_stop_id,to_stop_id,transfer_type\nC,E,3\n".as_slice();
     shows(
         &rt,
@@ -230,7 +246,7 @@ impl Write for Refusing {
 
 #[test]
 fn output_that_is_refused(rt: HostRuntime) -> Result<(), Fail> {
-    let words = scan(rt.alloc(), "20240102", "A", "D", "08:00:00", &[])?;
+    let words = words_of(rt.alloc(), "scan", "20240102", "A", "D", "08:00:00", &[])?;
     let mut shown = Vec::new(rt.alloc());
     let keys = RandomState::new(&rt)?;
     let job = crate::words::read_words(rt.alloc(), words.as_slice(), &mut shown)
@@ -253,6 +269,7 @@ fn output_that_is_refused(rt: HostRuntime) -> Result<(), Fail> {
 fn words_that_are_no_job(rt: HostRuntime) -> Result<(), Fail> {
     let rows = [
         (["tp", "scan", "--help"], 0, "--default-walk"),
+        (["tp", "ask", "--help"], 0, "--legs"),
         (["tp", "fly", "--help"], 2, "fly"),
         (["tp", "scan", "--at"], 2, "--at"),
     ];
