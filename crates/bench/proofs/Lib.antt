@@ -1,1 +1,4 @@
+pub mod AnswerFacts
+pub mod ScratchFacts
 pub mod TotalFacts
+pub mod TreeFacts

@@ -25,12 +25,12 @@ with_answer (Some arrival) total = record {
 abbrev pub total_of : List (Option ℕ) → Total
 total_of arrivals = fold (λ total arrival. with_answer arrival total) no_answers arrivals
 
--- the total of the answers to so many questions between so many stops
-pub record IsTotal (stops queries : ℕ) (Answers : Question → Option ℕ → Type 0) (total : Total) : Type 0 where
+-- the total of the answers to so many questions from the first `sources` stops, between so many stops
+pub record IsTotal (sources stops queries : ℕ) (Answers : Question → Option ℕ → Type 0) (total : Total) : Type 0 where
   pub questions : List Question
   pub arrivals : List (Option ℕ)
   pub count : length questions ≡ queries
-  pub asked : All (IsAsked stops) questions
+  pub asked : All (IsAsked sources stops) questions
   pub answered : AllZip Answers questions arrivals
   pub sum : total ≡ total_of arrivals
 

@@ -1,15 +1,33 @@
--- How large the tree of a source is.
-use Rattle.std.specs.Prelude.{◌≡◌, ℕ, List, length}
+-- The trees of sources, and how large each is.
+use Rattle.std.specs.Prelude.{◌≡◌, ℕ, ◌<◌, ◌≤◌, List, length, slice_index_or}
 use Rattle.timetable.specs.Table.{Table}
-use Rattle.pattern_tree.specs.Forest.{Pair}
-use Rattle.pattern_tree.specs.Content.{beginnings}
+use Rattle.pattern_tree.specs.Content.{Content, beginnings, longest}
 use Rattle.pattern_tree.specs.Completeness.{Complete, Earned}
 use Rattle.bench.specs.declared.building.TreeSize.{TreeSize}
+use Rattle.bench.specs.declared.building.Trees.{Trees}
 
--- the size of a tree with a pattern of each of the best journeys of one to k rides from the source, and no other pattern
+-- the tree of the source has a pattern of each of the best journeys of one to k rides from it, and no other pattern
+pub record IsTreeOf (table : Table) (k source : ℕ) (tree : Content) : Type 0 where
+  pub source_is : tree.source ≡ source
+  pub complete : Complete table k source tree.pairs
+  pub earned : Earned table k source tree.pairs
+  pub short : longest tree.pairs ≤ k
+
+-- the most rides of the journeys that the trees are for
+abbrev pub most_rides : Trees → ℕ
+most_rides trees = trees.rides
+
+-- the trees that are kept
+abbrev pub kept : Trees → List Content
+kept trees = trees.trees.items
+
+-- each is the tree of the stop whose number is its place
+abbrev pub AreTrees : Table → ℕ → List Content → Type 0
+AreTrees table k trees = (n : ℕ) (d : Content) → n < length trees → IsTreeOf table k n (slice_index_or trees n d)
+
+-- the size of the tree of the source
 pub record IsSizeOf (table : Table) (k source : ℕ) (size : TreeSize) : Type 0 where
-  pub pairs : List Pair
-  pub complete : Complete table k source pairs
-  pub earned : Earned table k source pairs
-  pub nodes : size.nodes ≡ beginnings pairs
-  pub ends : size.ends ≡ length pairs
+  pub tree : Content
+  pub is : IsTreeOf table k source tree
+  pub nodes : size.nodes ≡ beginnings tree.pairs
+  pub ends : size.ends ≡ length tree.pairs

@@ -25,35 +25,42 @@ pub struct Question {
 #[derive(Drop)]
 pub struct Questions {
     random: Pcg32,
+    sources: u16,
     stops: u16,
+    ghost any: { 1 ≤ sources },
+    ghost within: { sources ≤ stops },
     ghost some: { 2 ≤ stops },
     ghost few: { stops ≤ 65_534 },
 }
 
 impl Questions {
     ghost use Rattle.std.specs.Prelude.{IfSome, IfNone};
-    ghost use Rattle.bench.specs.Asked.{stops_of, IsAsked};
+    ghost use Rattle.bench.specs.Asked.{sources_of, stops_of, IsAsked};
 
-    /// Questions between so many stops; none where there are fewer than two, or more than a timetable has.
-    pub fn new(seed: u32, stops: usize) -> Option<Questions>
-        ensures made { IfSome result (λ questions. stops_of questions ≡ stops) }
-        ensures none { IfNone result ((stops < 2) ⊎ (65_534 < stops)) }
+    /// Questions from the first `sources` stops, between so many stops; none where there are fewer than two stops, or more than a
+    /// timetable has, or no sources, or more than stops.
+    pub fn new(seed: u32, sources: usize, stops: usize) -> Option<Questions>
+        ensures sources { IfSome result (λ questions. sources_of questions ≡ sources) }
+        ensures stops { IfSome result (λ questions. stops_of questions ≡ stops) }
+        ensures none { IfNone result ((stops < 2) ⊎ (65_534 < stops) ⊎ (sources ≡ 0) ⊎ (stops < sources)) }
     {
-        if stops < 2 || stops > 65_534 {
+        if stops < 2 || stops > 65_534 || sources == 0 || sources > stops {
             return None;
         }
         Some(Questions {
             random: Pcg32::seed_from_u64(u64::from(seed)),
+            sources: sources as u16,
             stops: stops as u16,
         })
     }
 
     /// The next question: two different stops, and a moment from 05:00:00 to before 22:00:00.
     pub fn ask(&mut self) -> Question
+        ensures sources { sources_of self.new ≡ sources_of self.old }
         ensures stops { stops_of self.new ≡ stops_of self.old }
-        ensures asked { IsAsked (stops_of self.old) result }
+        ensures asked { IsAsked (sources_of self.old) (stops_of self.old) result }
     {
-        let from = self.random.random_range(0..self.stops);
+        let from = self.random.random_range(0..self.sources);
         let other = self.random.random_range(0..self.stops - 1);
         let to = if other < from { other } else { other + 1 };
         Question {

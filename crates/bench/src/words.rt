@@ -64,7 +64,7 @@ fn command<'a>(alloc: Global) -> Result<Command<'a>, Error>
         "1000",
         0,
         1_000_000,
-        "How many questions for the best journeys are asked, up to 1000000",
+        "How many questions for the best journeys are asked, and of the trees once more, up to 1000000",
     );
     let seed = number(
         alloc,
@@ -82,7 +82,7 @@ fn command<'a>(alloc: Global) -> Result<Command<'a>, Error>
         "0",
         0,
         65_534,
-        "The trees of how many sources are built, from the first stop on, up to 65534",
+        "The trees of how many sources are built and asked, from the first stop on, up to 65534",
     );
     let command = common(alloc, "bench", ABOUT)?
         .arg(direct)?

@@ -1,36 +1,24 @@
-use Rattle.std.proofs.Common.{◌≡◌, ◌∙◌, ◌+◌, rules, subst, sym}
+use Rattle.std.proofs.Common.{◌≤◌, arith, subst}
+use Rattle.std.proofs.lemmas.Result.{IfOk-weaker}
 use Rattle.timetable.specs.Table.{stops_of}
+use Rattle.rounds.specs.Scratch.{rides_of}
 use Rattle.bench.specs.declared.total.Total.{Total}
-use Rattle.bench.specs.Asked.{IsAsked, IsJourneyAnswer}
-use Rattle.bench.specs.Totals.{IsTotal, no_answers}
-use Rattle.bench.proofs.TotalFacts.{none_asked, one_more}
+use Rattle.bench.specs.Asked.{IsJourneyAnswer}
+use Rattle.bench.specs.Totals.{IsTotal}
 use Rattle.bench.proofs.asking.ask_scan.Goals as goal
 
-pub loop-init : goal.loop-init
-loop-init c =
-    let stops = stops_of c.args.timetable.now in
-    let answers = IsJourneyAnswer c.args.timetable.now c.args.rides in
-    let nothing : c.default-total.result ≡ no_answers = search rules in
-    record {
-      stops = c.in-Some.ensures.made ∙ c.stops.ensures.value;
-      made = c.in_ok-scratch.ensures.table;
-      rides = c.in_ok-scratch.ensures.rides;
-      total = subst (λ (t : Total). IsTotal stops 0 answers t) (sym nothing) (none_asked stops answers);
-    }
-
-pub loop-preserved : goal.loop-preserved
-loop-preserved c =
+pub returns-clause-asked : goal.returns-clause-asked
+returns-clause-asked c =
     let table = c.args.timetable.now in
     let stops = stops_of table in
-    let answers = IsJourneyAnswer table c.args.rides in
-    let question = c.ask.result in
-    let arrival = c.in_ok-journey_arrival.field-0 in
-    let asked = subst (λ n. IsAsked n question) c.loop.invariant.stops c.ask.ensures.asked in
-    let right = subst (λ k. IsJourneyAnswer table k question arrival) c.loop.invariant.rides c.in_ok-journey_arrival.ensures.right in
-    let more = one_more stops c.loop.counter answers c.loop.total question arrival c.loop.invariant.total asked right in
-    record {
-      stops = c.ask.ensures.stops ∙ c.loop.invariant.stops;
-      made = c.journey_arrival.ensures.same.made table c.loop.invariant.made;
-      rides = c.journey_arrival.ensures.same.rides ∙ c.loop.invariant.rides;
-      total = subst (λ (t : Total). IsTotal stops (c.loop.counter + 1) answers t) (sym c.add.ensures) more;
-    }
+    let sources = c.stops.result in
+    let queries = c.args.queries in
+    let found = rides_of c.in_ok-scratch.scratch in
+    IfOk-weaker c.ask_rounds.result
+    (λ (total : Total). 2 ≤ stops → 1 ≤ sources → IsTotal sources stops queries (IsJourneyAnswer table found) total)
+    (λ (total : Total). 2 ≤ stops → IsTotal stops stops queries (IsJourneyAnswer table c.args.rides) total)
+    (λ total h enough.
+    let some : 1 ≤ sources = omega (arith, enough, c.stops.ensures.value) in
+    subst (λ m. IsTotal m stops queries (IsJourneyAnswer table c.args.rides) total) c.stops.ensures.value
+    (subst (λ k. IsTotal sources stops queries (IsJourneyAnswer table k) total) c.in_ok-scratch.ensures.rides (h enough some)))
+    c.ask_rounds.ensures.asked
