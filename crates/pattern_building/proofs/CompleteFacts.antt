@@ -1,5 +1,5 @@
 -- A content that is complete at each event is complete.
-use Rattle.std.proofs.Common.{Option, ◌≡◌, ℕ, ◌+◌, ◌<◌, ◌≤◌, ◌⊎◌, ◌≢◌, List, [], ◌∷◌, length, Some, None, IsSomeAnd, option_map, unwrap_or, arith, refl, sym, ◌∙◌, ap, subst, inl, inr, Result, Ok, Err}
+use Rattle.std.proofs.Common.{Option, ◌≡◌, ℕ, ◌+◌, ◌<◌, ◌≤◌, ◌≢◌, List, [], ◌∷◌, length, option_map, unwrap_or, arith, refl, sym, ◌∙◌, ap, subst, inl, inr, Result, Ok, Err}
 use Rattle.std.specs.Prelude.{IsErrAnd}
 use Rattle.std.specs.List.{Contains, AllPairs}
 use Rattle.std.proofs.lemmas.Bool.{cases_eq}
@@ -10,7 +10,7 @@ use Rattle.timetable.specs.declared.parts.Call.{Call}
 use Rattle.timetable.specs.declared.parts.Leg.{Leg}
 use Rattle.timetable.specs.declared.parts.Numbers.{Numbers}
 use Rattle.timetable.specs.Table.{Table, IsTable, stops_of}
-use Rattle.timetable.specs.Journeys.{Ride, Journey, Reaches, Unbeaten, call_at, departs, foot, from, to}
+use Rattle.timetable.specs.Journeys.{Journey, Reaches, Unbeaten, call_at, departs, foot, from, to}
 use Rattle.timetable.proofs.Legs.{there, stop_known_at}
 use Rattle.timetable.proofs.Rows.{walk_found, walk_good, foot_other}
 use Rattle.timetable.proofs.Taken.{journey_earlier, journey_parts, the_some}
@@ -21,8 +21,8 @@ use Rattle.pattern_tree.specs.declared.fault.TreeFault.{TreeFault}
 use Rattle.pattern_tree.specs.declared.fault.TreeFault.TheVariants.{TooLarge}
 use Rattle.pattern_tree.specs.Forest.{Step, Pair}
 use Rattle.pattern_tree.specs.Content.{IsTooLarge, longest}
-use Rattle.pattern_tree.specs.Completeness.{Complete, Earned, TooManyAreEarned}
-use Rattle.pattern_tree.proofs.PairFacts.{contains_in, in_contains}
+use Rattle.pattern_tree.specs.Completeness.{Complete, Earned, IsPathOf, TooManyAreEarned}
+use Rattle.pattern_tree.proofs.PairFacts.{in_contains}
 use Rattle.pattern_tree.specs.Paths.{IsIn}
 use Rattle.pattern_building.specs.RoundPairs.{Keeps, CompleteAt}
 
@@ -32,16 +32,23 @@ module _ (table : Table) (s k : ℕ) where
       let some : 1 ≤ length h.0 = (let a = h.2 in let b = h.3 in omega (arith, a, b)) in
       (h.0, journey_earlier table s d e h.0 t n.arrival le some h.1, h.2, h.3, h.4)
 
+  -- best numbers that are reached at a later departure too, for which the content is complete, have a path there
+  pub at_later : (content : List Pair) (d later t : ℕ) (n : Numbers) → d ≤ later → CompleteAt table k s later content → Reaches table 1 k s t later n
+      → Unbeaten (Reaches table 1 k s t d) n → (path : List Step) × IsPathOf table s t d n path × Contains content (path, t)
+  at_later content d later t n le complete reaches unbeaten =
+      let some = reaches.3 in
+      let c = complete t n (reaches, λ m reaches beats. unbeaten.1 m (earlier_reaches d later t m le reaches) beats) in
+      let p = c.1 in
+      let more : 1 ≤ length p.0 = (let a = p.2 in omega (arith, a, some)) in
+      (c.0, (p.0, journey_earlier table s d later p.0 t n.arrival le more p.1, p.2, p.3), c.2)
+
   -- complete at each event is complete
   pub complete_of : (content : List Pair) → ((e : ℕ) → IsEvent table s e → CompleteAt table k s e content) → Complete table k s content
   complete_of content at d t n unbeaten =
       let h = unbeaten.0 in
       let some : 1 ≤ length h.0 = (let a = h.2 in let b = h.3 in omega (arith, a, b)) in
       let own = own_event table s d h.0 t n.arrival some h.1 in
-      let c = at own.0 own.1 t n ((h.0, own.3, h.2, h.3, h.4), λ m reaches beats. unbeaten.1 m (earlier_reaches d own.0 t m own.2 reaches) beats) in
-      let p = c.1 in
-      let more : 1 ≤ length p.0 = (let a = p.2 in let b = h.3 in omega (arith, a, b)) in
-      (c.0, (p.0, journey_earlier table s d own.0 p.0 t n.arrival own.2 more p.1, p.2, p.3), c.2)
+      at_later content d own.0 t n own.2 (at own.0 own.1) (h.0, own.3, h.2, h.3, h.4) unbeaten
 
   pub complete_kept : (d : ℕ) (old new : List Pair) → Keeps old new → CompleteAt table k s d old → CompleteAt table k s d new
   complete_kept d old new keeps at t n is = let c = at t n is in (c.0, c.1, keeps (c.0, t) c.2)

@@ -3,6 +3,7 @@
 //! the rounds at each moment that is worth leaving at.
 #![tactic(auto)]
 
+mod arrivals;
 mod building;
 mod finished;
 

@@ -1,5 +1,4 @@
-use Rattle.std.proofs.Common.{Option, ◌≡◌, ℕ, ◌+◌, ◌<◌, ◌≤◌, ◌⊎◌, inl, inr, arith, refl, sym, ◌∙◌, ap, subst, List, ◌∷◌, Err}
-use Rattle.std.specs.List.{Contains}
+use Rattle.std.proofs.Common.{Option, ◌≡◌, ℕ, ◌+◌, ◌<◌, ◌≤◌, inl, arith, refl, sym, ◌∙◌, ap, subst, List, [], ◌∷◌, Err, length, slice_index_or, le_refl, All}
 use Rattle.timetable.specs.Table.{Table, stops_of}
 use Rattle.rounds.specs.Mark.{Mark}
 use Rattle.rounds.specs.Answers.{AreRounds}
@@ -7,9 +6,13 @@ use Rattle.rounds.specs.Scratch.{rounds_of, rides_of}
 use Rattle.pattern_tree.specs.declared.fault.TreeFault.{TreeFault}
 use Rattle.pattern_tree.specs.Forest.{Pair}
 use Rattle.pattern_tree.specs.Completeness.{Earned}
-use Rattle.pattern_building.specs.RoundPairs.{Gives, InRound, UpToRound, IsGiven, AddsGiven, HasGiven}
-use Rattle.pattern_building.proofs.GivenFacts.{given_wider, adds_wider, adds_then, has_then, next_round, more_rounds, own_round, adds_front}
-use Rattle.pattern_building.proofs.BestFacts.{given_rides, earned_given, earned_up, complete_given}
+use Rattle.pattern_building.specs.RoundPairs.{InRound, UpToRound, AddsGiven, HasGiven}
+use Rattle.std.proofs.lemmas.List.{get_or-set_other, get_or_default}
+use Rattle.std.proofs.lemmas.List.Elements.{All-set}
+use Rattle.pattern_building.specs.Arrivals.{kept_at, kept_in, Changed}
+use Rattle.pattern_building.proofs.ArrivalFacts.{later_kept, arrivals_of, kept_round, changed_round}
+use Rattle.pattern_building.proofs.GivenFacts.{given_wider, adds_wider, adds_then, has_then, more_rounds, own_round, adds_front}
+use Rattle.pattern_building.proofs.BestFacts.{earned_up, complete_given}
 use Rattle.pattern_building.proofs.CompleteFacts.{end_inside, event_early, too_many, same_fault}
 use Rattle.pattern_building.proofs.building.add_event.Goals as goal
 
@@ -19,7 +22,10 @@ loop-round-init g c = record {
   once = c.requires.once;
   adds = λ p h. inl h;
   keeps = λ p h. h;
-  all = λ p given. let a = given.1.0 in let b = given.1.1 in absurd (omega (arith, a, b));
+  all = λ p given. let a = given.1.0.0 in let b = given.1.0.1 in absurd (omega (arith, a, b));
+  sizes = subst (λ (n : ℕ). All (λ arrivals. length arrivals ≡ n) c.args.kept.now) (sym c.stops-stops.ensures.value) c.requires.sizes;
+  kept = λ r t h. let a = h.0 in let b = h.1 in absurd (omega (arith, a, b));
+  rest = λ r le. refl;
 }
 
 pub loop-round-preserved : goal.loop-round-preserved
@@ -31,13 +37,28 @@ loop-round-preserved g c =
     let r = c.loop-round.round in
     let old = c.loop-round.tree.pairs in
     let new = c.add_round.new.tree.pairs in
+    let first = c.args.kept.now in
+    let kept = c.loop-round.kept in
+    let before = slice_index_or kept r c.index-kept-round.result in
+    let row = c.add_round.new.kept in
+    let e = c.rides-rides.ensures in
+    let v = c.number-round-end.ensures.value in
+    let l = c.loop-round-test.true in
+    let long = c.loop-round.auto.kept in
+    let count = c.requires.count in
+    let in' : r < length kept = omega (arith, e, v, l, long, count) in
+    let same : before ≡ slice_index_or first r [] = get_or_default kept r c.index-kept-round.result [] in' ∙ inv.rest r (le_refl r) in
     record {
       source = now.source ∙ inv.source;
       once = now.once;
       adds = adds_then rounds (UpToRound r n) (UpToRound (r + 1) n) c.args.tree.now.pairs old new (λ i t h. more_rounds r (r + 1) n i t (omega arith) h) inv.adds
           (adds_wider rounds (InRound (r + 1) n) (UpToRound (r + 1) n) old new (own_round r n) now.adds);
       keeps = λ p h. now.keeps p (inv.keeps p h);
-      all = has_then rounds (UpToRound r n) (InRound (r + 1) n) (UpToRound (r + 1) n) old new (next_round r n) inv.all now.keeps now.all;
+      all = has_then rounds (Changed rounds (kept_in first) (UpToRound r n)) (Changed rounds (λ _ t. kept_at before t) (InRound (r + 1) n))
+          (Changed rounds (kept_in first) (UpToRound (r + 1) n)) old new (changed_round rounds r n first before same) inv.all now.keeps now.all;
+      sizes = All-set (λ (arrivals : List (Option ℕ)). length arrivals ≡ n) kept r row now.size inv.sizes;
+      kept = kept_round rounds r n kept row in' inv.kept now.kept;
+      rest = λ i le. get_or-set_other kept r i row [] (λ e. (let b : ⊥ = omega (arith, le, e) in b)) ∙ inv.rest i (omega (arith, le));
     }
 
 pub run-requires-clause-early : goal.run-requires-clause-early
@@ -55,10 +76,11 @@ returns-clause-complete g c =
     let e = c.rides-rides.ensures in
     let t = c.loop-round-test.false in
     let most : k ≤ r = omega arith in
-    complete_given T c.args.source k c.args.event rounds c.in_ok-view.ensures.right content
+    complete_given T c.args.source k c.args.event rounds c.in_ok-view.ensures.right content c.args.kept.now
     (end_inside T c.args.source c.args.event c.stops-stops.ensures.valid)
-    (subst (λ (m : ℕ). HasGiven rounds (UpToRound k m) content) c.stops-stops.ensures.value
-    (λ p given. inv.all p (given.0, more_rounds k r n given.0 p.1 most given.1, given.2)))
+    (later_kept T c.args.source k c.args.event c.args.tree.now.pairs content c.args.kept.now inv.keeps c.requires.later)
+    (subst (λ (m : ℕ). HasGiven rounds (Changed rounds (kept_in c.args.kept.now) (UpToRound k m)) content) c.stops-stops.ensures.value
+    (λ p given. inv.all p (given.0, (more_rounds k r n given.0 p.1 most given.1.0, given.1.1), given.2)))
 
 pub returns-clause-earned : goal.returns-clause-earned
 returns-clause-earned g c =
@@ -119,3 +141,17 @@ returns-in_err-add_round-clause-large g c = λ is.
     too_many T s k new found.0
     (earned_up T s k c.args.event rounds right n new (found.0 ∷ new) c.stops-stops.ensures.value (adds_front rounds (UpToRound k n) new found.0 given) so_far)
     c.add_round.ensures.once found.2
+
+pub returns-clause-kept : goal.returns-clause-kept
+returns-clause-kept g c =
+    let k = rides_of c.args.scratch.now in
+    let n = c.stops-stops.result in
+    let r = c.loop-round.round in
+    let e = c.rides-rides.ensures in
+    let t = c.loop-round-test.false in
+    let most : k ≤ r = omega arith in
+    arrivals_of c.args.table.now c.args.source k c.args.event n (rounds_of c.in_ok-view.view) c.loop-round.kept c.in_ok-view.ensures.right c.stops-stops.ensures.value
+    (λ i t seen. c.loop-round.invariant.kept i t (more_rounds k r n i t most seen))
+
+pub returns-clause-sizes : goal.returns-clause-sizes
+returns-clause-sizes g c = subst (λ (n : ℕ). All (λ arrivals. length arrivals ≡ n) c.loop-round.kept) c.stops-stops.ensures.value c.loop-round.invariant.sizes
