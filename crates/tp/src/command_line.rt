@@ -52,11 +52,21 @@ fn journey<'a>(alloc: Global, name: &'a str, about: &'a str) -> Result<Command<'
         alloc,
         "at",
         "HH:MM:SS",
-        "The time to leave at, on the first covered day; hours up to 167",
+        "The time to leave at, on the first covered day where no other is named; hours up to 167",
     );
     let command = common(alloc, name, about)?
-        .arg(required(alloc, "from", "STOP", "The id of the stop to leave from"))?
-        .arg(required(alloc, "to", "STOP", "The id of the stop to go to"))?
+        .arg(required(
+            alloc,
+            "from",
+            "STOP",
+            "The id of the stop to leave from, for ask also of a station",
+        ))?
+        .arg(required(
+            alloc,
+            "to",
+            "STOP",
+            "The id of the stop to go to, for ask also of a station",
+        ))?
         .arg(at)?;
     Ok(command)
 }
