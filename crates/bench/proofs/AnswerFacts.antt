@@ -5,11 +5,10 @@ use Rattle.std.proofs.lemmas.List.{length-map}
 use Rattle.timetable.specs.Table.{Table}
 use Rattle.timetable.specs.Front.{AreFront}
 use Rattle.pattern_tree.specs.Content.{Content}
-use Rattle.pattern_tree.specs.Completeness.{Complete}
 use Rattle.pattern_query.specs.Answer.{PointData, numbers, IsExact}
 use Rattle.bench.specs.declared.questions.Question.{Question}
 use Rattle.bench.specs.Asked.{IsJourneyAnswer}
-use Rattle.bench.specs.Trees.{IsTreeOf}
+use Rattle.pattern_tree.specs.Completeness.{IsTreeOf}
 
 same_arrival : (point : Option PointData) → option_map (λ n. n.arrival) (option_map numbers point) ≡ option_map (λ p. p.arrival) point
 same_arrival None = refl
@@ -33,6 +32,5 @@ pub answer_of_tree : (table : Table) (k : ℕ) (question : Question) (tree : Con
     → IsTreeOf table k question.from tree → IsExact table tree question.to question.depart (map numbers points)
     → IsJourneyAnswer table k question (last_arrival points)
 answer_of_tree table k question tree points is exact =
-    let complete = subst (λ s. Complete table k s tree.pairs) (sym is.source_is) is.complete in
-    let front = subst (λ s. AreFront table k s question.to question.depart (map numbers points)) is.source_is (exact k complete is.short) in
+    let front = subst (λ s. AreFront table k s question.to question.depart (map numbers points)) is.source (exact k is.complete is.short) in
     (map numbers points, front, sym (last_numbers points))

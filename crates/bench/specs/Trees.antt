@@ -1,17 +1,10 @@
 -- The trees of sources, and how large each is.
-use Rattle.std.specs.Prelude.{◌≡◌, ℕ, ◌<◌, ◌≤◌, List, length, slice_index_or}
+use Rattle.std.specs.Prelude.{◌≡◌, ℕ, ◌<◌, List, length, slice_index_or}
 use Rattle.timetable.specs.Table.{Table}
-use Rattle.pattern_tree.specs.Content.{Content, beginnings, longest}
-use Rattle.pattern_tree.specs.Completeness.{Complete, Earned}
+use Rattle.pattern_tree.specs.Content.{Content, beginnings}
+use Rattle.pattern_tree.specs.Completeness.{IsTreeOf}
 use Rattle.bench.specs.declared.building.TreeSize.{TreeSize}
 use Rattle.bench.specs.declared.building.Trees.{Trees}
-
--- the tree of the source has a pattern of each of the best journeys of one to k rides from it, and no other pattern
-pub record IsTreeOf (table : Table) (k source : ℕ) (tree : Content) : Type 0 where
-  pub source_is : tree.source ≡ source
-  pub complete : Complete table k source tree.pairs
-  pub earned : Earned table k source tree.pairs
-  pub short : longest tree.pairs ≤ k
 
 -- the most rides of the journeys that the trees are for
 abbrev pub most_rides : Trees → ℕ

@@ -76,7 +76,8 @@ fn tree_arrival(
     ensures { IsJourneyAnswer timetable.now (most_rides trees.now) question result }
 {
     let Question { from, to, depart } = question;
-    let answer = ask(timetable, lines, connections, trees.tree(from), to, depart);
+    let patterns = trees.patterns(from);
+    let answer = ask(timetable, lines, connections, patterns, to, depart);
     let point = answer.points().last()?;
     Some(point.arrival())
 }

@@ -4,10 +4,11 @@ ghost use Rattle.std.specs.Prelude.{◌≡◌, ◌+◌, ◌<◌, Err, IfOk, OnOk
 ghost use Rattle.timetable.specs.Table.{stops_of};
 ghost use Rattle.rounds.specs.Scratch.{IsAlike, IsMadeFor, rides_of};
 ghost use Rattle.pattern_tree.specs.Completeness.{TooManyAreEarned};
-ghost use Rattle.bench.specs.Trees.{AreTrees, IsSizeOf, IsTreeOf, kept, most_rides};
+ghost use Rattle.bench.specs.Trees.{AreTrees, IsSizeOf, kept, most_rides};
 
 use pattern_building::build;
-use pattern_tree::{Arena, PatternTree, TreeFault};
+use pattern_query::Patterns;
+use pattern_tree::{Arena, TreeFault};
 use rounds::{Rides, Scratch};
 use std::alloc::{AllocError, Global};
 use timetable::{StopId, Timetable};
@@ -19,30 +20,11 @@ pub struct TreeSize {
     pub ends: u32,
 }
 
-// Builds the tree of a source in the arena, and copies it out: the tree of the patterns of the best journeys of one ride to as many
-// as the scratch is for.
-fn copied_tree(
-    alloc: Global,
-    arena: &Arena,
-    timetable: &Timetable,
-    source: StopId,
-    scratch: &mut Scratch,
-) -> Result<PatternTree, TreeFault>
-    requires table { IsMadeFor scratch.old timetable.now }
-    requires source { source < stops_of timetable.now }
-    ensures same { IsAlike scratch.old scratch.new }
-    ensures tree { IfOk result (IsTreeOf timetable.now (rides_of scratch.old) source) }
-    ensures large { result ≡ Err TreeFault.TooLarge → TooManyAreEarned timetable.now (rides_of scratch.old) source }
-{
-    let tree = build(arena.bump(), alloc, timetable, source, scratch)?;
-    tree.copy_to(alloc)
-}
-
-/// The trees of the first stops of a timetable, for journeys of at most so many rides.
+/// The patterns of the trees of the first stops of a timetable, for journeys of at most so many rides.
 #[derive(Drop)]
 pub struct Trees {
     rides: Rides,
-    trees: Vec<PatternTree>,
+    trees: Vec<Patterns>,
 }
 
 impl Trees {
@@ -76,15 +58,15 @@ impl Trees {
         self.trees.len()
     }
 
-    /// The tree of a stop.
-    pub fn tree(&self, source: StopId) -> &PatternTree
+    /// The patterns of a stop's tree.
+    pub fn patterns(&self, source: StopId) -> &Patterns
         requires { source < length (kept self.now) }
         ensures { (d : Content) → result.now ≡ slice_index_or (kept self.now) source d }
     {
         &self.trees[source.number()]
     }
 
-    /// Builds the tree of the next stop, whose number is that of the trees so far, in the arena, keeps a copy of it, and says how
+    /// Builds the tree of the next stop, whose number is that of the trees so far, in the arena, keeps its patterns, and says how
     /// large it is. After a fault the trees are as before.
     pub fn grow(
         &mut self,
@@ -107,12 +89,13 @@ impl Trees {
         ensures size { IfOk result (IsSizeOf timetable.now (most_rides self.old) source) }
         ensures large { result ≡ Err TreeFault.TooLarge → TooManyAreEarned timetable.now (most_rides self.old) source }
     {
-        let tree = copied_tree(alloc, arena, timetable, source, scratch)?;
+        let tree = build(arena.bump(), alloc, timetable, source, scratch)?;
         let size = TreeSize {
             nodes: tree.nodes(),
             ends: tree.ends(),
         };
-        self.trees.push(tree).map_err(AllocError::from)?;
+        let patterns = Patterns::of(alloc, &tree)?;
+        self.trees.push(patterns).map_err(AllocError::from)?;
         Ok(size)
     }
 }

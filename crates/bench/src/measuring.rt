@@ -133,7 +133,7 @@ fn measure_journeys(
     Ok(())
 }
 
-// Measures the trees of the first sources, one after the other: each is built in the arena's memory, and a copy is kept.
+// Measures the trees of the first sources, one after the other: each is built in the arena's memory, and its patterns are kept.
 fn measure_trees(rt: &HostRuntime, timetable: &Timetable, job: &Measure<'_>) -> Result<Trees, Fault>
     ensures trees { IfOk result (λ trees. AreTrees timetable.now (most_rides trees) (kept trees)) }
     ensures sources { IfOk result (λ trees. length (kept trees) ≤ stops_of timetable.now) }

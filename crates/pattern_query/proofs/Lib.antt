@@ -1,8 +1,7 @@
 pub mod WaySteps
 pub mod PlaceSteps
-pub mod PathSteps
-pub mod NodeSteps
-pub mod VisitSteps
+pub mod FollowSteps
 pub mod Choosing
 pub mod Best
 pub mod TreeSteps
+pub mod EndFacts

@@ -1,18 +1,18 @@
 -- What a search of a whole tree adds, and what is best on a complete one.
-use Rattle.std.proofs.Common.{Option, ◌≡◌, ℕ, suc, ◌≤◌, ◌⊎◌, List, [], ◌∷◌, length, map, get_or, Some, None, Contains, All, arith, refl, sym, ◌∙◌, ap, subst, inl, inr}
+use Rattle.std.proofs.Common.{Option, ◌≡◌, ◌↔◌, ℕ, suc, ◌≤◌, ◌⊎◌, List, [], ◌∷◌, length, map, get_or, Some, None, Contains, All, arith, refl, sym, ◌∙◌, ap, subst, inl, inr}
 use Rattle.timetable.specs.declared.parts.Leg.{Leg}
 use Rattle.timetable.specs.declared.parts.Numbers.{Numbers}
 use Rattle.timetable.specs.Table.{Table}
 use Rattle.timetable.specs.Journeys.{Journey, Reaches, Unbeaten, pattern}
-use Rattle.pattern_tree.specs.Forest.{Step, Pair, Forest, pairs}
-use Rattle.pattern_tree.specs.Paths.{Has, IsIn}
+use Rattle.pattern_tree.specs.Forest.{Step}
 use Rattle.pattern_tree.specs.Content.{Content, longest}
 use Rattle.pattern_tree.specs.Completeness.{Complete}
-use Rattle.pattern_tree.proofs.PairFacts.{has_in, in_has, contains_in, in_contains}
+use Rattle.pattern_tree.proofs.PairFacts.{contains_in}
+use Rattle.pattern_tree.proofs.OrderFacts.{longest_in}
 use Rattle.pattern_query.specs.Answer.{PointData, numbers, TreeReaches, IsPoint, AreBest, IsExact}
 use Rattle.pattern_query.specs.BestSoFar.{at, ThereBy, ArePlaces, AddsTree, AreChosen, IsAlong, Searched}
-use Rattle.pattern_query.specs.Way.{Exactly, EmptyOrIn, Beyond}
-use Rattle.pattern_query.proofs.PlaceSteps.{none_some, at_within, searched_both}
+use Rattle.pattern_query.specs.Way.{EmptyOrIn}
+use Rattle.pattern_query.proofs.PlaceSteps.{none_some, at_within}
 use Rattle.pattern_query.proofs.WaySteps.{pattern_length}
 use Rattle.pattern_query.proofs.Best.{best_chosen, best_of_all}
 
@@ -20,26 +20,26 @@ empty : (table : Table) (legs : List Leg) → pattern table legs ≡ [] → legs
 empty table [] e = refl
 empty table (x ∷ legs) e = absurd (let l = ap (λ l. length l) e in omega (arith, l))
 
--- what the paths of the tree's nodes found is what its pairs found
-module _ (table : Table) (tree : Content) (t d : ℕ) (f : Forest) (is : pairs f ≡ tree.pairs) where
-  stored : (legs : List Leg) → EmptyOrIn t f (pattern table legs) → (legs ≡ []) ⊎ Contains tree.pairs (pattern table legs, t)
+-- what the paths that end at the stop found is what the pairs found
+module _ (table : Table) (tree : Content) (t d : ℕ) (paths : List (List Step)) (are : (path : List Step) → Contains paths path ↔ Contains tree.pairs (path, t)) where
+  stored : (legs : List Leg) → EmptyOrIn paths (pattern table legs) → (legs ≡ []) ⊎ Contains tree.pairs (pattern table legs, t)
   stored legs (inl e) = inl (empty table legs e)
-  stored legs (inr has) = inr (subst (λ ps. Contains ps (pattern table legs, t)) is (in_contains (pattern table legs, t) (pairs f) (has_in (pattern table legs) t f has)))
+  stored legs (inr c) = inr ((are (pattern table legs)).0 c)
 
-  stored_path : (legs : List Leg) → (legs ≡ []) ⊎ Contains tree.pairs (pattern table legs, t) → EmptyOrIn t f (pattern table legs)
+  stored_path : (legs : List Leg) → (legs ≡ []) ⊎ Contains tree.pairs (pattern table legs, t) → EmptyOrIn paths (pattern table legs)
   stored_path legs (inl e) = inl (ap (pattern table) e)
-  stored_path legs (inr c) = inr (in_has (pattern table legs) t f (contains_in (pattern table legs, t) (pairs f) (subst (λ ps. Contains ps (pattern table legs, t)) (sym is) c)))
+  stored_path legs (inr c) = inr ((are (pattern table legs)).1 c)
 
-  pub tree_added : (old new : List (Option PointData)) → length new ≡ 9 → Searched table tree.source t d (EmptyOrIn t f) old new → AddsTree table tree t d old new
+  pub tree_added : (old new : List (Option PointData)) → length new ≡ 9 → Searched table tree.source t d (EmptyOrIn paths) old new → AddsTree table tree t d old new
   tree_added old new nine searched = record {
     attained = λ r p e. elim (searched.attained r p e) [
       | inl was ↦ inl was
-      | inr is' ↦ inr (is'.0, point r p e is'.0 is'.1)
+      | inr is ↦ inr (is.0, point r p e is.0 is.1)
     ];
     kept = searched.kept;
     least = λ legs z j. searched.least legs z (stored_path legs j.1) j.0;
   } where
-    point : (r : ℕ) (p : PointData) → at new r ≡ Some p → p.rides ≡ r → IsAlong table tree.source t d (EmptyOrIn t f) p → IsPoint table tree t d p
+    point : (r : ℕ) (p : PointData) → at new r ≡ Some p → p.rides ≡ r → IsAlong table tree.source t d (EmptyOrIn paths) p → IsPoint table tree t d p
     point r p e rides along = record {
       starts = along.starts;
       ends = along.ends;
@@ -70,12 +70,6 @@ module _ (table : Table) (tree : Content) (t d : ℕ) (start places : List (Opti
       (λ r p e. let is = is_point r p e in ((p.legs, is.1.journey, is.1.counted), is.0))
       (λ n of. subst (λ r. ThereBy places (suc r) n.arrival) of.2 (added.least of.0 n.arrival of.1)) chosen
 
--- no path of the pairs is longer than the longest
-pub longest_in : (ps : List Pair) (p : Pair) → IsIn p ps → length p.0 ≤ longest ps
-longest_in [] p h = absurd h
-longest_in (q ∷ ps) p (inl e) = (let l = ap (λ (p : Pair). length p.0) e in omega (arith, l))
-longest_in (q ∷ ps) p (inr h) = (let l = longest_in ps p h in omega (arith, l))
-
 -- a tree that is complete has a pattern of each of the best journeys
 module _ (table : Table) (tree : Content) (t d k : ℕ) (complete : Complete table k tree.source tree.pairs) where
   pub few_rides : longest tree.pairs ≤ k → (n : Numbers) → TreeReaches table tree t d n → Reaches table 0 k tree.source t d n
@@ -99,12 +93,3 @@ exact_of table tree t d points best k complete short =
     let all = best_of_all (TreeReaches table tree t d) (Reaches table 0 k tree.source t d) points best
     (few_rides table tree t d k complete short) (has_best table tree t d k complete) in
     record { rising = all.rising; each = all.each; all = all.all }
-
--- the start and then the paths of the nodes
-pub found_all : (table : Table) (s t d : ℕ) (f : Forest) (old mid new : List (Option PointData)) → Searched table s t d (Exactly []) old mid
-    → Searched table s t d (Beyond [] t f) mid new → Searched table s t d (EmptyOrIn t f) old new
-found_all table s t d f old mid new first second =
-    searched_both table s t d (Exactly []) (Beyond [] t f) (EmptyOrIn t f) old mid new first second
-    (λ path h. elim h [ inl e ↦ inl e | inr has ↦ inr (path, refl, has) ])
-    (λ path e. inl e)
-    (λ path h. inr (subst (λ (q : List Step). Has q t f) (sym h.1) h.2))

@@ -1,11 +1,11 @@
 -- Where the rides along a path lead, and when one is there at the earliest. Only private clauses cite these words.
-use Rattle.std.specs.Prelude.{Option, Some, ◌≡◌, ℕ, ◌+◌, ◌≤◌, ◌⊎◌, Bool, true, false, List, [], ◌∷◌, ◌++◌, if◌then◌else◌}
+use Rattle.std.specs.Prelude.{Option, Some, ◌≡◌, ℕ, ◌+◌, ◌≤◌, ◌⊎◌, Bool, true, false, List, [], ◌∷◌, ◌++◌, length, if◌then◌else◌}
+use Rattle.std.specs.List.{Contains}
 use Rattle.timetable.specs.declared.parts.Leg.{Leg}
 use Rattle.timetable.specs.Table.{Table}
 use Rattle.timetable.specs.Journeys.{Serves, arrives, foot, link, pattern}
 use Rattle.timetable.specs.Legs.{Rides}
-use Rattle.pattern_tree.specs.Forest.{Step, Forest, Branch, step_of}
-use Rattle.pattern_tree.specs.Paths.{Has, HasFrom}
+use Rattle.pattern_tree.specs.Forest.{Step}
 
 -- one who is at s at the moment d takes the legs, if any, and is then at p at the moment a
 abbrev pub Stands : Table → ℕ → ℕ → List Leg → ℕ → ℕ → Type 0
@@ -36,22 +36,14 @@ pub record Boards (table : Table) (ridden : Bool) (p a board alight : ℕ) (leg 
 abbrev pub Exactly : List Step → List Step → Type 0
 Exactly front path = path ≡ front
 
--- the path is empty, or one of the forest to its end t
-abbrev pub EmptyOrIn : ℕ → Forest → List Step → Type 0
-EmptyOrIn t f path = (path ≡ []) ⊎ Has path t f
+-- the path is empty, or one of these
+abbrev pub EmptyOrIn : List (List Step) → List Step → Type 0
+EmptyOrIn paths path = (path ≡ []) ⊎ Contains paths path
 
 -- the path begins with `front`
 abbrev pub Begins : List Step → List Step → Type 0
 Begins front path = (rest : List Step) × (path ≡ front ++ rest)
 
--- the path begins with `front` and goes on along a path of the forest to its end t
-abbrev pub Beyond : List Step → ℕ → Forest → List Step → Type 0
-Beyond front t f path = (rest : List Step) × (path ≡ front ++ rest) × Has rest t f
-
--- the path begins with `front`, and goes on with the branch's step and from there to its end t
-abbrev pub Through : List Step → ℕ → Branch → List Step → Type 0
-Through front t b path = (rest : List Step) × (path ≡ front ++ step_of b ∷ rest) × HasFrom rest t b.ends b.next
-
--- the branch's path, or one that goes on from it, has the end t
-abbrev pub LeadsTo : ℕ → Branch → Type 0
-LeadsTo t b = (rest : List Step) × HasFrom rest t b.ends b.next
+-- so does the path, and it has so many rides
+abbrev pub HasFront : ℕ → List Step → List Step → Type 0
+HasFront rides front path = (length path ≡ rides) × Begins front path

@@ -7,9 +7,9 @@ ghost use Rattle.pattern_query.specs.Answer.{numbers, TreeReaches, IsPoint, AreB
 
 use crate::answer::Answer;
 use crate::best_so_far::BestSoFar;
+use crate::patterns::Patterns;
 use direct_connections::Direct;
 use lines::Lines;
-use pattern_tree::PatternTree;
 use std::alloc::Allocator;
 use timetable::{StopId, Timetable};
 
@@ -21,17 +21,17 @@ pub fn ask<A: Allocator>(
     table: &Timetable,
     lines: &Lines,
     direct: &Direct,
-    tree: &PatternTree<A>,
+    patterns: &Patterns<A>,
     to: StopId,
     depart: u32,
 ) -> Answer
     requires tables { IsMadeFor table.now lines.now direct.now }
     requires early { depart ≤ 4_000_000_000 }
-    ensures points { All (IsPoint table.now tree.now to depart) result }
-    ensures best { AreBest (TreeReaches table.now tree.now to depart) (map numbers result) }
-    ensures exact { IsExact table.now tree.now to depart (map numbers result) }
+    ensures points { All (IsPoint table.now patterns.now to depart) result }
+    ensures best { AreBest (TreeReaches table.now patterns.now to depart) (map numbers result) }
+    ensures exact { IsExact table.now patterns.now to depart (map numbers result) }
 {
     let mut best = BestSoFar::new();
-    best.search(table, lines, direct, tree, to, depart);
+    best.search(table, lines, direct, patterns, to, depart);
     best.answer()
 }

@@ -5,11 +5,11 @@ ghost use Rattle.direct_connections.specs.Direct.{IsMadeFor};
 ghost use Rattle.pattern_query.specs.BestSoFar.{at, ThereBy, AddsTree, AreChosen, Offered};
 
 use crate::answer::{Answer, Point};
+use crate::patterns::Patterns;
 use crate::search::Search;
 use arrayvec::ArrayVec;
 use direct_connections::Direct;
 use lines::Lines;
-use pattern_tree::PatternTree;
 use std::alloc::Allocator;
 use std::marker::Model;
 use timetable::{StopId, Timetable};
@@ -68,30 +68,30 @@ impl BestSoFar {
         }
     }
 
-    /// Puts in the journeys of the tree from its source to `to` at the moment, where none with as few rides arrives as early. The
+    /// Puts in the journeys of a source's patterns to `to` at the moment, where none with as few rides arrives as early. The
     /// connections are those of the timetable and its lines; the moment is at most 4,000,000,000 seconds. It takes no memory.
     pub fn search<A: Allocator>(
         &mut self,
         table: &Timetable,
         lines: &Lines,
         direct: &Direct,
-        tree: &PatternTree<A>,
+        patterns: &Patterns<A>,
         to: StopId,
         depart: u32,
     )
         requires tables { IsMadeFor table.now lines.now direct.now }
         requires early { depart ≤ 4_000_000_000 }
-        ensures { AddsTree table.now tree.now to depart self.old self.new }
+        ensures { AddsTree table.now patterns.now to depart self.old self.new }
     {
         let search = Search {
             table,
             lines,
             direct,
-            source: tree.source(),
+            source: patterns.source(),
             to,
             depart,
         };
-        search.run(tree.first(), &mut self.points);
+        search.run(patterns.ending_at(to), &mut self.points);
     }
 
     /// The journeys that arrive before each one of fewer rides.

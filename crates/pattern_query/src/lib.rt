@@ -5,11 +5,13 @@
 mod answer;
 mod asking;
 mod best_so_far;
+mod patterns;
 mod search;
 
 pub use answer::{Answer, Point};
 pub use asking::ask;
 pub use best_so_far::BestSoFar;
+pub use patterns::Patterns;
 
 #[cfg(test)]
 mod tests;

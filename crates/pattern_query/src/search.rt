@@ -1,20 +1,17 @@
-//! The search of a tree for the best journeys to a stop.
+//! The search of a source's patterns for the best journeys to a stop.
 
-ghost use Rattle.std.specs.Prelude.{◌≡◌, ◌+◌, ◌<◌, ◌≤◌, ◌++◌, ◌∷◌, [], length, IfSome, IfNone, IsTrue, ◌↔◌};
+ghost use Rattle.std.specs.Prelude.{◌≡◌, ◌+◌, ◌<◌, ◌≤◌, ◌++◌, ◌∷◌, [], map, length, IfSome, IfNone};
 ghost use Rattle.timetable.specs.Journeys.{pattern};
 ghost use Rattle.direct_connections.specs.Direct.{IsMadeFor};
-ghost use Rattle.pattern_tree.specs.Forest.{forest, levels, Rises, IsOrdered};
-ghost use Rattle.pattern_tree.specs.Paths.{IsIn};
-ghost use Rattle.pattern_tree.specs.Branch.{branch, branches};
-ghost use Rattle.pattern_query.specs.Way.{Earliest, Boards, Exactly, EmptyOrIn, Begins, Beyond, LeadsTo, hop, is_some};
+ghost use Rattle.pattern_query.specs.Patterns.{path_of};
+ghost use Rattle.pattern_query.specs.Way.{Earliest, Boards, Exactly, EmptyOrIn, HasFront, hop, is_some};
 ghost use Rattle.pattern_query.specs.BestSoFar.{Searched, AreThere};
 
 use crate::answer::{Legs, Point};
 use crate::best_so_far::{is_there_by, offer};
+use crate::patterns::Pattern;
 use direct_connections::Direct;
 use lines::Lines;
-use pattern_tree::Node;
-use std::alloc::Allocator;
 use timetable::{Leg, StopId, Timetable};
 
 /// What is sought, and where: journeys from a source to a stop.
@@ -26,30 +23,6 @@ pub(crate) struct Search<'a> {
     pub(crate) source: StopId,
     pub(crate) to: StopId,
     pub(crate) depart: u32,
-}
-
-// Whether `end` is among ends that rise.
-fn has_end(ends: &[StopId], end: StopId) -> bool
-    requires { Rises ends.now }
-    ensures { IsTrue result ↔ IsIn end ends.now }
-{
-    ends.binary_search(&end).is_ok()
-}
-
-// Whether the pattern of the node, or one that goes on from it, ends at the stop.
-fn leads_to<A: Allocator>(node: &Node<A>, end: StopId) -> bool
-    requires { IsOrdered (forest (branch node.now ∷ [])) }
-    ensures { IsTrue result ↔ LeadsTo end (branch node.now) }
-{
-    if has_end(&node.ends, end) {
-        return true;
-    }
-    for later in &node.next {
-        if leads_to(later, end) {
-            return true;
-        }
-    }
-    false
 }
 
 // The seconds between being at a stop and boarding at another, before any ride or after one.
@@ -67,34 +40,35 @@ fn hop(table: &Timetable, ridden: bool, from: StopId, to: StopId) -> Option<u32>
 }
 
 impl Search<'_> {
-    // The earliest ride along a step behind the legs. None where there is none, or where a journey that was found arrives no later
-    // than one could board, or than the ride does, with as many rides at most: then no journey that begins so is better.
+    // The earliest ride along a step behind the legs, on a path of so many rides. None where there is none, or where a journey that
+    // was found arrives no later than one could board, or than the ride does, with no more rides than the path: then no journey
+    // along the path is better.
     fn ride(
         &self,
-        board: StopId,
-        alight: StopId,
+        step: (StopId, StopId),
         at: StopId,
         since: u32,
         legs: &Legs,
+        rides: usize,
         points: &[Option<Point>],
     ) -> Option<Leg>
         requires tables { IsMadeFor self.now.table.now self.now.lines.now self.now.direct.now }
         requires way { Earliest self.now.table.now self.now.source self.now.depart legs.now.items at since }
         requires early { since ≤ 4_000_000_000 }
-        requires room { length legs.now.items + 2 ≤ length points.now }
-        ensures boards { IfSome result (Boards self.now.table.now (is_some legs.now.items) at since board alight) }
+        requires room { rides < length points.now }
+        ensures boards { IfSome result (Boards self.now.table.now (is_some legs.now.items) at since step.0 step.1) }
         ensures none { IfNone result (AreThere self.now.table.now self.now.source self.now.to self.now.depart
-            (Begins (pattern self.now.table.now legs.now.items ++ (board, alight) ∷ [])) points.now) }
+            (HasFront rides (pattern self.now.table.now legs.now.items ++ step ∷ [])) points.now) }
     {
-        let rides = legs.len() + 2;
+        let (board, alight) = step;
         let ready = since + hop(self.table, !legs.is_empty(), at, board)?;
-        if is_there_by(points, rides, ready) {
+        if is_there_by(points, rides + 1, ready) {
             return None;
         }
         let leg = self
             .direct
             .earliest(self.table, self.lines, board, alight, ready)?;
-        if is_there_by(points, rides, self.table.arrival_of(leg)) {
+        if is_there_by(points, rides + 1, self.table.arrival_of(leg)) {
             return None;
         }
         Some(leg)
@@ -114,53 +88,39 @@ impl Search<'_> {
         }
     }
 
-    // Looks along each path of the level to the stop for better journeys, which begin with the legs. In the end the legs are as before.
-    fn descend<A: Allocator>(
-        &self,
-        level: &[Node<A>],
-        at: StopId,
-        since: u32,
-        legs: &mut Legs,
-        points: &mut [Option<Point>],
-    )
-        requires tables { IsMadeFor self.now.table.now self.now.lines.now self.now.direct.now }
-        requires way { Earliest self.now.table.now self.now.source self.now.depart legs.old.items at since }
-        requires early { since ≤ 4_000_000_000 }
-        requires ordered { IsOrdered (forest (branches level.now)) }
-        requires room { length legs.old.items + levels (forest (branches level.now)) ≤ 8 }
-        requires nine { length points.old ≡ 9 }
-        ensures legs { legs.new.items ≡ legs.old.items }
-        ensures searched { Searched self.now.table.now self.now.source self.now.to self.now.depart
-            (Beyond (pattern self.now.table.now legs.old.items) self.now.to (forest (branches level.now))) points.old points.new }
-    {
-        for node in level {
-            if !leads_to(node, self.to) {
-                continue;
-            }
-            if let Some(leg) = self.ride(node.board, node.alight, at, since, legs, points) {
-                let arrival = self.table.arrival_of(leg);
-                legs.push(leg);
-                if has_end(&node.ends, self.to) {
-                    self.arrive(node.alight, arrival, legs, points);
-                }
-                self.descend(&node.next, node.alight, arrival, legs, points);
-                legs.pop();
-            }
-        }
-    }
-
-    /// Puts in the journeys from the source to the stop on foot, and along the paths of the nodes to the stop.
-    pub(crate) fn run<A: Allocator>(&self, first: &[Node<A>], points: &mut [Option<Point>])
+    // Offers the earliest journey along a path, or on foot along an empty one.
+    fn follow(&self, path: &[(StopId, StopId)], points: &mut [Option<Point>])
         requires tables { IsMadeFor self.now.table.now self.now.lines.now self.now.direct.now }
         requires early { self.now.depart ≤ 4_000_000_000 }
-        requires ordered { IsOrdered (forest (branches first.now)) }
-        requires not_deep { levels (forest (branches first.now)) ≤ 8 }
+        requires short { length path.now ≤ 8 }
         requires nine { length points.old ≡ 9 }
-        ensures { Searched self.now.table.now self.now.source self.now.to self.now.depart
-            (EmptyOrIn self.now.to (forest (branches first.now))) points.old points.new }
+        ensures { Searched self.now.table.now self.now.source self.now.to self.now.depart (Exactly path.now) points.old points.new }
     {
         let mut legs = Legs::new();
-        self.arrive(self.source, self.depart, &legs, points);
-        self.descend(first, self.source, self.depart, &mut legs, points);
+        let mut at = self.source;
+        let mut since = self.depart;
+        for step in path {
+            let Some(leg) = self.ride(*step, at, since, &legs, path.len(), points) else {
+                return;
+            };
+            legs.push(leg);
+            at = step.1;
+            since = self.table.arrival_of(leg);
+        }
+        self.arrive(at, since, &legs, points);
+    }
+
+    /// Puts in the journeys from the source to the stop on foot, and along the paths of the patterns.
+    pub(crate) fn run(&self, patterns: &[Pattern], points: &mut [Option<Point>])
+        requires tables { IsMadeFor self.now.table.now self.now.lines.now self.now.direct.now }
+        requires early { self.now.depart ≤ 4_000_000_000 }
+        requires nine { length points.old ≡ 9 }
+        ensures { Searched self.now.table.now self.now.source self.now.to self.now.depart
+            (EmptyOrIn (map path_of patterns.now)) points.old points.new }
+    {
+        self.follow(&[], points);
+        for pattern in patterns {
+            self.follow(pattern.path.as_slice(), points);
+        }
     }
 }

@@ -108,13 +108,14 @@ fn check(
 {
     let lines = Lines::of(alloc, table)?;
     let direct = Direct::of(alloc, table, &lines)?;
-    let answer = ask(table, &lines, &direct, tree, StopId::new(to), depart);
+    let patterns = Patterns::of(alloc, tree)?;
+    let answer = ask(table, &lines, &direct, &patterns, StopId::new(to), depart);
     assert_eq!(rt; answer.points().len(), wanted.len(), "to {to} at {depart}");
     for (point, want) in answer.points().iter().zip(wanted) {
         assert_eq!(rt; point.arrival(), want.arrival, "to {to} at {depart}");
         assert_eq!(rt; point.legs(), want.legs, "to {to} at {depart}");
         assert_eq!(rt; point.rides() as usize, want.legs.len());
-        assert_eq!(rt; point.from(), tree.source());
+        assert_eq!(rt; point.from(), patterns.source());
         assert_eq!(rt; point.to(), StopId::new(to));
     }
     Ok(())
@@ -159,7 +160,8 @@ fn change_in_time(rt: HostRuntime) -> Result<(), Fail> {
         let lines = Lines::of(alloc, &table)?;
         let direct = Direct::of(alloc, &table, &lines)?;
         let tree = tree_of_a(alloc)?;
-        let answer = ask(&table, &lines, &direct, &tree, StopId::new(D), EIGHT);
+        let patterns = Patterns::of(alloc, &tree)?;
+        let answer = ask(&table, &lines, &direct, &patterns, StopId::new(D), EIGHT);
         assert_eq!(rt; answer.points().len(), points, "with a change of {change}");
     }
     Ok(())

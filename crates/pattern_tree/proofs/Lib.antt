@@ -9,3 +9,4 @@ pub mod InsertionFacts
 pub mod CountFacts
 pub mod WalkFacts
 pub mod PairOrderFacts
+pub mod OrderFacts

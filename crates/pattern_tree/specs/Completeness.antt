@@ -1,14 +1,14 @@
 -- Which contents answer each question about journeys, and which have nothing else.
 -- Transfer Patterns (Bast and others, ESA 2010): the patterns of the best journeys. A journey's numbers are its
 -- arrival and its rides, and a pattern is the stops of boarding and alighting, ride by ride.
-use Rattle.std.specs.Prelude.{◌≡◌, ◌≢◌, ℕ, List, length}
+use Rattle.std.specs.Prelude.{◌≡◌, ◌≢◌, ◌≤◌, ℕ, List, length}
 use Rattle.std.specs.List.{AllPairs, Contains}
 use Rattle.timetable.specs.declared.parts.Leg.{Leg}
 use Rattle.timetable.specs.declared.parts.Numbers.{Numbers}
 use Rattle.timetable.specs.Table.{Table}
 use Rattle.timetable.specs.Journeys.{Journey, Reaches, Unbeaten, pattern}
 use Rattle.pattern_tree.specs.Forest.{Step, Pair}
-use Rattle.pattern_tree.specs.Content.{AreTooMany}
+use Rattle.pattern_tree.specs.Content.{Content, longest, AreTooMany}
 
 -- the path is the pattern of a journey from s to t at d with these numbers
 abbrev pub IsPathOf : Table → ℕ → ℕ → ℕ → Numbers → List Step → Type 0
@@ -26,6 +26,13 @@ abbrev pub Earned : Table → ℕ → ℕ → List Pair → Type 0
 Earned table k s content =
     (path : List Step) (t : ℕ) → Contains content (path, t)
     → (d : ℕ) × (n : Numbers) × Unbeaten (Reaches table 1 k s t d) n × IsPathOf table s t d n path
+
+-- the tree is that of the source s: it has a path of each of the best journeys of one to k rides, and no others
+pub record IsTreeOf (table : Table) (k s : ℕ) (tree : Content) : Type 0 where
+  pub source : tree.source ≡ s
+  pub complete : Complete table k tree.source tree.pairs
+  pub earned : Earned table k tree.source tree.pairs
+  pub short : longest tree.pairs ≤ k
 
 -- there are earned pairs, each listed once, that are too many for one tree
 abbrev pub TooManyAreEarned : Table → ℕ → ℕ → Type 0

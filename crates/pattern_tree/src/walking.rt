@@ -15,13 +15,15 @@ pub trait Visitor {
     /// Before it is shown a pair, the pair, and afterwards.
     ghost shows: { Self → Pair → Self → Type 0 };
 
-    /// Takes the pair of a path and an end.
+    /// Takes the pair of a path, of at most 8 rides, and an end.
     fn visit(&mut self, path: &[(StopId, StopId)], end: StopId)
+        requires { length path.now ≤ 8 }
         ensures { shows self.old (path.now, end) self.new };
 }
 
 /// Shows the pair of `path` and each of `ends`.
 fn walk_ends<V: Visitor>(path: &[(StopId, StopId)], ends: &[StopId], visitor: &mut V)
+    requires { length path.now ≤ 8 }
     ensures { ShownAll V.shows visitor.old (map (ending path.now) ends.now) visitor.new }
 {
     for end in ends {

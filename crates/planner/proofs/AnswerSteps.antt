@@ -1,13 +1,12 @@
 -- What is answered from the trees of several sources.
-use Rattle.std.proofs.Common.{Option, ◌≡◌, ℕ, suc, ◌+◌, ◌<◌, ◌≤◌, ◌⊎◌, List, [], ◌∷◌, ◌++◌, length, map, take, get_or, Some, None, IsSomeAnd, Contains, All, arith, refl, sym, ◌∙◌, ap, subst, inl, inr}
+use Rattle.std.proofs.Common.{Option, ◌≡◌, ℕ, suc, ◌+◌, ◌<◌, List, [], ◌∷◌, ◌++◌, length, map, take, get_or, Some, None, IsSomeAnd, Contains, All, refl, sym, ◌∙◌, ap, subst, inl, inr}
 use Rattle.std.proofs.lemmas.List.{take_more}
 use Rattle.std.proofs.lemmas.List.Elements.{All-push, at_from_Contains}
 use Rattle.timetable.specs.declared.parts.Numbers.{Numbers}
 use Rattle.timetable.specs.Table.{Table}
 use Rattle.timetable.specs.Journeys.{Reaches, Unbeaten}
-use Rattle.pattern_tree.specs.Content.{Content, longest}
-use Rattle.pattern_tree.specs.Completeness.{Complete}
-use Rattle.pattern_query.specs.Answer.{PointData, numbers, TreeReaches, IsPoint, AreBest}
+use Rattle.pattern_tree.specs.Content.{Content}
+use Rattle.pattern_query.specs.Answer.{PointData, numbers, AreBest}
 use Rattle.pattern_query.specs.BestSoFar.{at, ThereBy, AreChosen}
 use Rattle.pattern_query.proofs.PlaceSteps.{none_some}
 use Rattle.pattern_query.proofs.Best.{best_chosen, best_of_all}

@@ -1,12 +1,13 @@
 -- The trees of all stops, one after the other.
-use Rattle.std.proofs.Common.{◌≡◌, ℕ, ◌+◌, ◌<◌, ◌≤◌, List, [], ◌∷◌, ◌++◌, length, get_or, arith, sym, ◌∙◌, subst, inl, inr, length-append}
+use Rattle.std.proofs.Common.{◌≡◌, ℕ, List, [], ◌∷◌, ◌++◌, length, get_or, arith, sym, subst, inl, inr, length-append}
 use Rattle.std.proofs.lemmas.Bool.{cases_lt}
 use Rattle.std.proofs.lemmas.List.{get_or_append_left, get_or_push}
 use Rattle.timetable.specs.Table.{Table}
 use Rattle.rounds.specs.declared.scratch.Scratch.{Scratch}
 use Rattle.rounds.specs.Scratch.{IsMadeFor, IsAlike}
 use Rattle.pattern_tree.specs.Content.{Content}
-use Rattle.planner.specs.Forest.{IsTreeOf, AreTrees}
+use Rattle.pattern_tree.specs.Completeness.{IsTreeOf}
+use Rattle.planner.specs.Forest.{AreTrees}
 
 pub trees_more : (table : Table) (k : ℕ) (trees : List Content) (n : ℕ) (tree : Content) → length trees ≡ n → AreTrees table k trees → IsTreeOf table k n tree
     → AreTrees table k (trees ++ tree ∷ [])

@@ -1,12 +1,11 @@
 -- How searches of several trees add up.
-use Rattle.std.proofs.Common.{Option, ◌≡◌, ℕ, suc, ◌+◌, ◌<◌, ◌⊎◌, List, [], ◌∷◌, ◌++◌, length, take, get_or, Some, None, Contains, All, arith, refl, sym, ◌∙◌, ap, subst, inl, inr}
+use Rattle.std.proofs.Common.{Option, ◌≡◌, ℕ, suc, ◌+◌, ◌<◌, ◌⊎◌, List, [], ◌∷◌, ◌++◌, length, take, get_or, Some, Contains, arith, refl, sym, ◌∙◌, ap, subst, inl, inr}
 use Rattle.std.proofs.lemmas.List.{take_more}
 use Rattle.std.proofs.lemmas.List.Elements.{Contains-push, Contains-push_cases, Contains-append_left, at_from_Contains}
-use Rattle.timetable.specs.declared.parts.Leg.{Leg}
 use Rattle.timetable.specs.Table.{Table}
 use Rattle.pattern_tree.specs.Content.{Content}
 use Rattle.pattern_query.specs.Answer.{PointData, TreeJourney, IsPoint}
-use Rattle.pattern_query.specs.BestSoFar.{at, ThereBy, AddsTree}
+use Rattle.pattern_query.specs.BestSoFar.{AddsTree}
 use Rattle.planner.specs.Gathered.{IsTo, AddsAsked}
 use Rattle.planner.specs.Questions.{Held, IsAsked}
 

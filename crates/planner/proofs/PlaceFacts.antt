@@ -1,16 +1,15 @@
 -- What an id stands for, and that names know the stops of their stations.
-use Rattle.std.proofs.Common.{Option, ◌≡◌, ℕ, ◌+◌, ◌<◌, ◌≤◌, List, [], ◌∷◌, length, map, get_or, Some, None, IfSome, All, Contains, option_map, arith, refl, sym, ◌∙◌, ap, subst}
-use Rattle.std.specs.List.{filter, range_with_len, position_from}
+use Rattle.std.proofs.Common.{Option, ◌≡◌, ℕ, ◌+◌, ◌<◌, List, [], ◌∷◌, length, get_or, Some, None, IfSome, All, option_map, arith, sym, ◌∙◌, ap, subst}
+use Rattle.std.specs.List.{filter, range_with_len}
 use Rattle.std.specs.Str.{bytes_eq}
 use Rattle.std.proofs.lemmas.List.{length-map}
-use Rattle.std.proofs.lemmas.List.Elements.{All-filter, All-get_or}
+use Rattle.std.proofs.lemmas.List.Elements.{All-filter}
 use Rattle.std.proofs.lemmas.List.FromFn.{length-range_with_len, get_or-range_with_len}
-use Rattle.gtfs_tables.specs.Tables.{TableValues}
 use Rattle.timetable.specs.declared.names.Place.{Place}
 use Rattle.timetable.specs.declared.names.Place.TheVariants.{Stop, Station}
 use Rattle.timetable.specs.Groups.{group, is_child}
 use Rattle.timetable.specs.NameLists.{NameLists}
-use Rattle.timetable.specs.Names.{AreNamesOf, stop_named, station_named, IsPlaceOf}
+use Rattle.timetable.specs.Names.{stop_named, station_named, IsPlaceOf}
 use Rattle.timetable.proofs.NameFacts.{position_from_below}
 use Rattle.planner.specs.Places.{one_or, stops_at, AreNames, stops_in}
 

@@ -1,19 +1,12 @@
 -- The trees of all stops.
-use Rattle.std.specs.Prelude.{◌≡◌, ℕ, ◌<◌, ◌≤◌, List, length, slice_index_or}
+use Rattle.std.specs.Prelude.{◌≡◌, ℕ, ◌<◌, List, length, slice_index_or}
 use Rattle.timetable.specs.Table.{Table, stops_of}
-use Rattle.pattern_tree.specs.Content.{Content, longest}
-use Rattle.pattern_tree.specs.Completeness.{Complete, Earned}
+use Rattle.pattern_tree.specs.Content.{Content}
+use Rattle.pattern_tree.specs.Completeness.{IsTreeOf}
 
 -- each tree is that of the stop whose number is its place
 abbrev pub AreBySource : List Content → Type 0
 AreBySource trees = (n : ℕ) (d : Content) → n < length trees → (slice_index_or trees n d).source ≡ n
-
--- the tree of the stop s has a pattern of each of the best journeys of one to k rides, and no others
-pub record IsTreeOf (table : Table) (k s : ℕ) (tree : Content) : Type 0 where
-  pub source : tree.source ≡ s
-  pub complete : Complete table k tree.source tree.pairs
-  pub earned : Earned table k tree.source tree.pairs
-  pub short : longest tree.pairs ≤ k
 
 -- the trees are those of the stops up to some number, each in its place
 abbrev pub AreTrees : Table → ℕ → List Content → Type 0

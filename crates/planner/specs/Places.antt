@@ -1,6 +1,6 @@
 -- Which stops an id stands for.
 -- GTFS Schedule, stops.txt, location_type and parent_station: a station stands for the stops that name it as their parent.
-use Rattle.std.specs.Prelude.{◌≡◌, ℕ, ◌<◌, List, [], ◌∷◌, length, Option, None, Some}
+use Rattle.std.specs.Prelude.{ℕ, List, [], ◌∷◌, Option, None, Some}
 use Rattle.std.specs.Option.{option_map}
 use Rattle.gtfs_tables.specs.Tables.{TableValues}
 use Rattle.timetable.specs.declared.names.Place.{Place}

@@ -10,8 +10,7 @@ use crate::fault::AskFault;
 use crate::trees::Trees;
 use direct_connections::Direct;
 use lines::Lines;
-use pattern_query::{Answer, BestSoFar};
-use pattern_tree::PatternTree;
+use pattern_query::{Answer, BestSoFar, Patterns};
 use std::slice;
 use timetable::{Names, Place, StopId, Timetable};
 
@@ -25,22 +24,22 @@ fn stops_of<'a>(place: &'a Place<'a>) -> &'a [StopId]
     }
 }
 
-// Puts in the journeys of the tree to each of the stops.
+// Puts in the journeys of the patterns to each of the stops.
 fn search_to(
     table: &Timetable,
     lines: &Lines,
     direct: &Direct,
-    tree: &PatternTree,
+    patterns: &Patterns,
     tos: &[StopId],
     depart: u32,
     best: &mut BestSoFar,
 )
     requires tables { IsMadeFor table.now lines.now direct.now }
     requires early { depart ≤ 4_000_000_000 }
-    ensures { AddsAsked table.now (IsTo tree.now tos.now) depart best.old best.new }
+    ensures { AddsAsked table.now (IsTo patterns.now tos.now) depart best.old best.new }
 {
     for to in tos {
-        best.search(table, lines, direct, tree, *to, depart);
+        best.search(table, lines, direct, patterns, *to, depart);
     }
 }
 
@@ -77,14 +76,14 @@ pub fn ask_on<'a, T: Trees>(
     }
     let mut best = BestSoFar::new();
     for source in stops_of(&start) {
-        let Some(tree) = trees.tree(*source) else {
+        let Some(patterns) = trees.patterns(*source) else {
             return Err(AskFault::NotStored(names.stop(*source)));
         };
         search_to(
             table,
             lines,
             direct,
-            tree,
+            patterns,
             stops_of(&end),
             depart,
             &mut best,

@@ -7,7 +7,8 @@ ghost use Rattle.planner.specs.Forest.{AreAllTrees};
 
 use crate::trees::Trees;
 use pattern_building::build;
-use pattern_tree::{PatternTree, TreeFault};
+use pattern_query::Patterns;
+use pattern_tree::TreeFault;
 use rounds::{Rides, Scratch};
 use std::alloc::{AllocError, Global};
 use std::marker::Model;
@@ -16,7 +17,7 @@ use timetable::{StopId, Timetable};
 /// The trees of all stops of a timetable.
 #[derive(Drop)]
 pub struct Forest {
-    trees: Vec<PatternTree>,
+    trees: Vec<Patterns>,
 }
 
 impl Model for Forest {
@@ -43,7 +44,8 @@ impl Forest {
         for number in 0..table.stops() {
             let source = StopId::new(number as u16);
             let tree = build(alloc, alloc, table, source, &mut scratch)?;
-            trees.push(tree).map_err(AllocError::from)?;
+            let patterns = Patterns::of(alloc, &tree)?;
+            trees.push(patterns).map_err(AllocError::from)?;
         }
         Ok(Forest { trees })
     }
@@ -52,7 +54,7 @@ impl Forest {
 impl Trees for Forest {
     ghost held = { λ forest source. slice_get forest source };
 
-    fn tree(&self, source: StopId) -> Option<&PatternTree> {
+    fn patterns(&self, source: StopId) -> Option<&Patterns> {
         self.trees.get(source.number())
     }
 }

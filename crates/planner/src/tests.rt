@@ -8,8 +8,7 @@ use direct_connections::Direct;
 use gtfs_tables::{Files, read_tables};
 use jiff::civil::Date;
 use lines::Lines;
-use pattern_query::{Answer, ask};
-use pattern_tree::PatternTree;
+use pattern_query::{Answer, Patterns, ask};
 use rounds::{Rides, scan};
 use service_days::Cover;
 use std::alloc::Global;
@@ -61,9 +60,9 @@ struct First<'a> {
 impl Trees for First<'_> {
     ghost held = { λ first source. if nat_lt source first.count then slice_get first.forest.now source else None };
 
-    fn tree(&self, source: StopId) -> Option<&PatternTree> {
+    fn patterns(&self, source: StopId) -> Option<&Patterns> {
         if source.number() < self.count {
-            self.forest.tree(source)
+            self.forest.patterns(source)
         } else {
             None
         }
@@ -295,7 +294,7 @@ fn check_tree(
     alloc: Global,
     town: Town<'_>,
     source: StopId,
-    tree: &PatternTree,
+    patterns: &Patterns,
 ) -> Result<u32, Fail>
     requires tables { IsMadeFor town.table.now town.lines.now town.direct.now }
     requires stops { stops_of town.table.now ≡ 8 }
@@ -307,7 +306,7 @@ fn check_tree(
             let to = StopId::new(number);
             let depart = EIGHT + step * 600;
             let front = scan(alloc, town.table, source, to, depart, Rides::new(3))?;
-            let answer = ask(town.table, town.lines, town.direct, tree, to, depart);
+            let answer = ask(town.table, town.lines, town.direct, patterns, to, depart);
             assert_eq!(rt; answer.points().len(), front.len());
             for (point, numbers) in answer.points().iter().zip(front.as_slice()) {
                 assert_eq!(rt; point.arrival(), numbers.arrival);
@@ -355,8 +354,8 @@ fn check_trees(rt: &impl Abort, alloc: Global, town: Town<'_>, forest: &Forest) 
     let mut changed = 0u32;
     for source in 0u16..8 {
         let source = StopId::new(source);
-        let tree = forest.tree(source).ok_or("no tree")?;
-        changed = changed.saturating_add(check_tree(rt, alloc, town, source, tree)?);
+        let patterns = forest.patterns(source).ok_or("no patterns")?;
+        changed = changed.saturating_add(check_tree(rt, alloc, town, source, patterns)?);
     }
     Ok(changed)
 }

@@ -4,16 +4,16 @@ ghost use Rattle.std.specs.Prelude.{◌≡◌, ℕ, Option, IfSome};
 ghost use Rattle.std.specs.Option.{option_copied};
 ghost use Rattle.pattern_tree.specs.Content.{Content};
 
-use pattern_tree::PatternTree;
+use pattern_query::Patterns;
 use timetable::StopId;
 
-/// The trees of some sources.
+/// The patterns of some sources.
 pub trait Trees {
-    /// The tree of each source, where it is there.
+    /// The patterns of each source, where they are there.
     ghost held: { Self → ℕ → Option Content };
 
-    /// The tree of a source, where it is there. It takes no memory.
-    fn tree(&self, source: StopId) -> Option<&PatternTree>
+    /// The patterns of a source, where they are there. It takes no memory.
+    fn patterns(&self, source: StopId) -> Option<&Patterns>
         ensures value { option_copied result ≡ held self.now source }
-        ensures source { IfSome result (λ tree. tree.now.source ≡ source) };
+        ensures source { IfSome result (λ patterns. patterns.now.source ≡ source) };
 }

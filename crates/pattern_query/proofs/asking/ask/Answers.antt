@@ -3,14 +3,14 @@ use Rattle.pattern_query.proofs.asking.ask.Goals as goal
 
 pub returns-clause-points : goal.returns-clause-points
 returns-clause-points g c =
-    points_are c.args.table.now c.args.tree.now c.args.to c.args.depart c.new-best.result c.search.new.self c.answer.result c.new-best.ensures c.search.ensures c.answer.ensures
+    points_are c.args.table.now c.args.patterns.now c.args.to c.args.depart c.new-best.result c.search.new.self c.answer.result c.new-best.ensures c.search.ensures c.answer.ensures
 
 pub returns-clause-best : goal.returns-clause-best
 returns-clause-best g c =
-    best_are c.args.table.now c.args.tree.now c.args.to c.args.depart c.new-best.result c.search.new.self c.answer.result c.new-best.ensures c.search.ensures c.answer.ensures
+    best_are c.args.table.now c.args.patterns.now c.args.to c.args.depart c.new-best.result c.search.new.self c.answer.result c.new-best.ensures c.search.ensures c.answer.ensures
 
 pub returns-clause-exact : goal.returns-clause-exact
 returns-clause-exact g c k complete short =
-    exact_of c.args.table.now c.args.tree.now c.args.to c.args.depart _
-    (best_are c.args.table.now c.args.tree.now c.args.to c.args.depart c.new-best.result c.search.new.self c.answer.result c.new-best.ensures c.search.ensures c.answer.ensures)
+    exact_of c.args.table.now c.args.patterns.now c.args.to c.args.depart _
+    (best_are c.args.table.now c.args.patterns.now c.args.to c.args.depart c.new-best.result c.search.new.self c.answer.result c.new-best.ensures c.search.ensures c.answer.ensures)
     k complete short

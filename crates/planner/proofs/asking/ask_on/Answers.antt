@@ -1,9 +1,9 @@
-use Rattle.std.proofs.Common.{◌≡◌, ℕ, ◌+◌, ◌<◌, ◌≤◌, List, length, take, Some, All, Bool, true, false, true≢false, arith, refl, sym, ◌∙◌, ap, subst, inl, inr}
+use Rattle.std.proofs.Common.{◌≡◌, ℕ, ◌<◌, List, length, take, Some, All, true≢false, refl, sym, ◌∙◌, ap, subst, inl, inr}
 use Rattle.std.proofs.lemmas.Bool.{cases_lt}
 use Rattle.std.proofs.lemmas.List.{take_all}
 use Rattle.pattern_tree.specs.Content.{Content}
-use Rattle.planner.specs.Places.{stops_at, stops_in}
-use Rattle.planner.specs.Questions.{Held, IsStored, IsAsked, AskedReaches, AreComplete}
+use Rattle.planner.specs.Places.{stops_in}
+use Rattle.planner.specs.Questions.{Held, IsStored, IsAsked}
 use Rattle.planner.specs.Gathered.{IsTo, AddsAsked}
 use Rattle.planner.proofs.PlaceFacts.{place_is, no_place, stops_known}
 use Rattle.planner.proofs.GatherSteps.{source_more}
@@ -35,8 +35,8 @@ stop-requires g c =
     (stops_known names c.args.from.now c.in-Some.start c.requires.names c.in-Some.ensures) in
     subst (λ x. x < length names.stops) (sym c.source-item.is) (known c.loop-source.source-index c.source-item.result c.loop-source-test.true)
 
-pub returns-in_default-tree : goal.returns-in_default-tree
-returns-in_default-tree g c =
+pub returns-in_default-patterns : goal.returns-in_default-patterns
+returns-in_default-patterns g c =
     let items = c.stops_of-source-items.result.now in
     let froms = place_is c.args.names.now c.args.from.now c.in-Some.start c.in-Some.ensures ∙ ap (λ (l : List ℕ). Some l) (sym c.stops_of-source-items.ensures) in (
       (stops_in c.in-Some-place.end, place_is c.args.names.now c.args.to.now c.in-Some-place.end c.in-Some-place.ensures),
@@ -48,7 +48,7 @@ returns-in_default-tree g c =
         index = c.loop-source.source-index;
         within = c.loop-source-test.true;
         here = sym c.source-item.is;
-        missing = sym c.in_default-tree.ensures.value;
+        missing = sym c.in_default-patterns.ensures.value;
         before = c.loop-source.invariant.stored;
       },
       c.stop.ensures,
@@ -61,9 +61,9 @@ loop-source-preserved g c =
     let tos = stops_in c.in-Some-place.end in
     let i = c.loop-source.source-index in
     let s = c.source-item.result in
-    let tree : Content = c.in-Some-tree.tree.now in
-    let holds : held s ≡ Some tree = sym c.in-Some-tree.ensures.value in
-    let source : tree.source ≡ s = c.in-Some-tree.ensures.source in
+    let tree : Content = c.in-Some-patterns.patterns.now in
+    let holds : held s ≡ Some tree = sym c.in-Some-patterns.ensures.value in
+    let source : tree.source ≡ s = c.in-Some-patterns.ensures.source in
     let second : AddsAsked c.args.table.now (IsTo tree tos) c.args.depart c.loop-source.best c.search_to.new.best =
     subst (λ l. AddsAsked c.args.table.now (IsTo tree l) c.args.depart c.loop-source.best c.search_to.new.best) c.stops_of.ensures c.search_to.ensures in
     record {

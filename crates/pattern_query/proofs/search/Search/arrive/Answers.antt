@@ -1,5 +1,5 @@
 use Rattle.std.proofs.Common.{sym, ◌∙◌}
-use Rattle.pattern_query.proofs.VisitSteps.{arrived_none, arrived_some}
+use Rattle.pattern_query.proofs.FollowSteps.{arrived_none, arrived_some}
 use Rattle.pattern_query.proofs.search.Search.arrive.Goals as goal
 
 pub returns-in-Some : goal.returns-in-Some

@@ -1,12 +1,12 @@
-use Rattle.std.proofs.Common.{List, [], ◌∷◌, ◌++◌, ◌+◌, true, cond, is_ok, ◌≡◌, ℕ, ◌<◌, ◌≤◌, Err, arith, ap, subst, sym, ◌∙◌, length}
+use Rattle.std.proofs.Common.{[], ◌∷◌, ◌++◌, ◌+◌, true, cond, is_ok, ◌≡◌, ◌<◌, ◌≤◌, Err, arith, ap, subst, sym, ◌∙◌, length}
 use Rattle.timetable.specs.Table.{stops_of}
 use Rattle.timetable.proofs.Growing.{length-push}
-use Rattle.rounds.specs.Scratch.{rides_of}
 use Rattle.pattern_tree.specs.Content.{Content, longest}
-use Rattle.pattern_tree.specs.Completeness.{Complete, Earned, TooManyAreEarned}
+use Rattle.pattern_tree.specs.Completeness.{Complete, Earned, IsTreeOf, TooManyAreEarned}
 use Rattle.pattern_tree.specs.declared.fault.TreeFault.{TreeFault}
+use Rattle.pattern_tree.proofs.OrderFacts.{tree_still}
 use Rattle.pattern_building.proofs.CompleteFacts.{same_fault}
-use Rattle.planner.specs.Forest.{IsTreeOf, AreTrees}
+use Rattle.planner.specs.Forest.{AreTrees}
 use Rattle.planner.proofs.ForestSteps.{trees_more, made_still}
 use Rattle.planner.proofs.forest.Forest.build.Goals as goal
 
@@ -24,6 +24,7 @@ loop-number-preserved c =
     let n = c.loop-number.number in
     let inv = c.loop-number.invariant in
     let tree : Content = c.in_ok-tree.tree in
+    let patterns : Content = c.in_ok-patterns.patterns in
     let source : tree.source ≡ c.new-source.result = c.in_ok-tree.ensures.source in
     let is : IsTreeOf table c.args.rides n tree = record {
       source = source ∙ c.new-source.ensures;
@@ -31,13 +32,14 @@ loop-number-preserved c =
       earned = subst (λ s. Earned table c.args.rides s tree.pairs) (sym source) (subst (λ k. Earned table k c.new-source.result tree.pairs) inv.rides c.in_ok-tree.ensures.earned);
       short = subst (λ k. longest tree.pairs ≤ k) inv.rides c.in_ok-tree.ensures.short;
     } in
-    let more = trees_more table c.args.rides c.loop-number.trees.items n tree inv.count inv.each is in
+    let still : IsTreeOf table c.args.rides n patterns = tree_still table c.args.rides n tree patterns c.in_ok-patterns.ensures.source c.in_ok-patterns.ensures.pairs is in
+    let more = trees_more table c.args.rides c.loop-number.trees.items n patterns inv.count inv.each still in
     let ok : is_ok c.push.result ≡ true = sym c.map_err.ensures.variant ∙ ap (λ r. is_ok r) c.in_ok-map_err.was in
-    let pushed : c.push.new.self.items ≡ c.loop-number.trees.items ++ tree ∷ [] =
-    c.push.ensures.items ∙ ap (λ b. cond b (c.loop-number.trees.items ++ tree ∷ []) c.loop-number.trees.items) ok in
+    let pushed : c.push.new.self.items ≡ c.loop-number.trees.items ++ patterns ∷ [] =
+    c.push.ensures.items ∙ ap (λ b. cond b (c.loop-number.trees.items ++ patterns ∷ []) c.loop-number.trees.items) ok in
     record {
       scratch = made_still table c.loop-number.scratch c.build.new.scratch c.in_ok-tree.ensures.same inv.scratch;
       rides = c.in_ok-tree.ensures.same.rides ∙ inv.rides;
-      count = ap (λ l. length l) pushed ∙ length-push c.loop-number.trees.items tree ∙ ap (λ n. n + 1) inv.count;
+      count = ap (λ l. length l) pushed ∙ length-push c.loop-number.trees.items patterns ∙ ap (λ n. n + 1) inv.count;
       each = subst (AreTrees table c.args.rides) (sym pushed) more;
     }
