@@ -1,21 +1,7 @@
 //! The journey planner's program.
 #![tactic(auto)]
 
-mod answer;
-mod asking;
-mod basis;
-mod command_line;
-mod job;
-mod moment;
-mod parts;
-mod points;
-mod run;
-mod stages;
-mod words;
-
-use crate::job::Job;
-use crate::run::run;
-use crate::words::read_words;
+use commands::{Job, read_words, run};
 use programs::{given_words, open_feed, out_of_memory, show, texts, unread};
 use std::hash::RandomState;
 use std::process::ExitCode;
@@ -53,10 +39,3 @@ fn status(rt: &HostRuntime) -> u8 {
 fn main(rt: HostRuntime) -> ExitCode {
     ExitCode::from(status(&rt))
 }
-
-#[cfg(test)]
-mod ask_tests;
-#[cfg(test)]
-mod journey_tests;
-#[cfg(test)]
-mod tests;

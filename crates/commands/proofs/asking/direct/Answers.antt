@@ -1,0 +1,26 @@
+use Rattle.std.proofs.Common.{◌∷◌, [], subst}
+use Rattle.commands.specs.Stages.{Says}
+use Rattle.commands.proofs.AnswerFacts.{ride_between, between_ride}
+use Rattle.commands.proofs.asking.direct.Goals.{in-None, in-Some}
+use Rattle.commands.proofs.asking.direct.Goals as goal
+
+pub returns-clause-answer : goal.returns-clause-answer
+returns-clause-answer c =
+    let basis = c.args.basis.now in
+    let p = c.in_ok-asked.asked.from in
+    let q = c.in_ok-asked.asked.to in
+    let d = c.in_ok-asked.asked.depart in (
+      p ∷ [],
+      q ∷ [],
+      d,
+      c.in_ok-asked.ensures.asked,
+      elim c.match-ride.branch [
+        | in-None w ↦ rw w.answer-is (λ leg h. w.in-None.ensures.none leg (between_ride basis p q d leg h))
+        | in-Some w ↦ rw w.answer-is (
+          w.in-Some.leg,
+          ride_between basis p q d w.in-Some.leg w.in-Some.ensures.ride,
+          λ other h. w.in-Some.ensures.least other (between_ride basis p q d other h),
+          subst (λ m. Says basis.cover m w.day_time.result) w.arrival_of.ensures w.day_time.ensures,
+        )
+      ],
+    )

@@ -1,0 +1,52 @@
+-- Why a question has no answer.
+use Rattle.std.specs.Prelude.{◌≡◌, ℕ, ◌<◌, ◌≤◌, ◌⊎◌, List, Option, None, Some}
+use Rattle.timetable.specs.Table.{Table, stops_of}
+use Rattle.pattern_tree.specs.Completeness.{TooManyAreEarned}
+use Rattle.programs.specs.declared.fault.Fault.{Fault}
+use Rattle.programs.specs.declared.fault.Fault.TheVariants as faults
+use Rattle.commands.specs.declared.basis.Basis.{Basis}
+use Rattle.commands.specs.declared.job.Job.{Job}
+use Rattle.commands.specs.declared.job.Question.{Question}
+use Rattle.commands.specs.declared.job.Task.{Task}
+use Rattle.commands.specs.declared.job.Task.TheVariants as tasks
+use Rattle.commands.specs.Tasks.{question_of, stops_for}
+
+-- the id stands for some stops
+abbrev pub IsKnown : (List ℕ → Option (List ℕ)) → List ℕ → Type 0
+IsKnown stops id = (found : List ℕ) × (stops id ≡ Some found)
+
+-- both ids of the question stand for stops
+abbrev pub AreKnown : (List ℕ → Option (List ℕ)) → Question → Type 0
+AreKnown stops question = IsKnown stops question.from.now × IsKnown stops question.to.now
+
+-- the moment is one of the covered days, and within them
+abbrev pub IsCovered : Basis → Type 0
+IsCovered basis = (d : ℕ) × (basis.moment ≡ Some d) × (d ≤ basis.timetable.horizon)
+
+-- the tree of some stop would have more patterns and ends than a tree holds
+abbrev pub IsTooLarge : Table → ℕ → Type 0
+IsTooLarge table k = (s : ℕ) × (s < stops_of table) × TooManyAreEarned table k s
+
+-- The first id stands for no stops, or else the second; or else the moment isn't covered; or else there is too much to keep. Memory may
+-- run out as well.
+abbrev pub IsUnanswered : (List ℕ → Option (List ℕ)) → Type 0 → Basis → Question → Fault → Type 0
+IsUnanswered stops Large basis question (faults.UnknownStop id) =
+    (stops id.now ≡ None) × ((id.now ≡ question.from.now) ⊎ (IsKnown stops question.from.now × (id.now ≡ question.to.now)))
+IsUnanswered stops Large basis question faults.NotCovered = AreKnown stops question × ¬ IsCovered basis
+IsUnanswered stops Large basis question faults.TooLarge = AreKnown stops question × IsCovered basis × Large
+IsUnanswered stops Large basis question faults.Memory = Unit {0}
+IsUnanswered stops Large basis question faults.BadDate = ⊥
+IsUnanswered stops Large basis question faults.BadTime = ⊥
+IsUnanswered stops Large basis question (faults.Feed f) = ⊥
+IsUnanswered stops Large basis question (faults.Days f) = ⊥
+
+-- only `ask` keeps trees, one of each stop
+abbrev pub KeepsTooMuch : Task → ℕ → Table → Type 0
+KeepsTooMuch (tasks.Direct question) k table = ⊥
+KeepsTooMuch (tasks.Scan question) k table = ⊥
+KeepsTooMuch (tasks.Ask question on legs) k table = IsTooLarge table k
+
+-- why a job has no answer
+abbrev pub IsRefusal : Basis → Job → Fault → Type 0
+IsRefusal basis job fault =
+    IsUnanswered (stops_for job.task basis.names) (KeepsTooMuch job.task job.settings.rides basis.timetable) basis (question_of job.task) fault

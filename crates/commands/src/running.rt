@@ -1,0 +1,59 @@
+//! Running a job.
+
+ghost use Rattle.std.specs.Prelude.{◌≡◌, ◌⊎◌, IfOk, IfErr};
+ghost use Rattle.gtfs_tables.specs.Feed.{Feed, AreReaders};
+ghost use Rattle.commands.specs.Feeds.{IsFeedAnswer, IsFeedFault};
+ghost use Rattle.commands.specs.Runs.{IsRun};
+
+use crate::answer::Answer;
+use crate::asking::perform;
+use crate::basis::basis_of;
+use crate::job::Job;
+use gtfs_tables::Files;
+use programs::Fault;
+use std::alloc::Global;
+use std::hash::RandomState;
+use std::io::{Read, Write};
+
+// Answers a job over the feed's files.
+fn answer<'a, R: Read + Drop>(
+    alloc: Global,
+    keys: Option<RandomState>,
+    job: &Job<'a>,
+    files: Files<R>,
+) -> Result<Answer, Fault<'a>>
+    ensures answer { (feed : Feed) → AreReaders R.remaining files feed → IfOk result (IsFeedAnswer feed job.now) }
+    ensures fault { (feed : Feed) → AreReaders R.remaining files feed → IfErr result (IsFeedFault feed job.now) }
+{
+    let basis = basis_of(alloc, keys, job, files)?;
+    perform(alloc, &basis, job)
+}
+
+/// Does the job over the feed's files: the answer goes to `out`, a fault to `err` behind `tp: `. Gives the status to end
+/// with: 0 done; 1 the feed or its days are at fault; 2 the dates or the time are; 3 the tree of a stop would be too large; 6 the
+/// question is at fault; 7 memory ran out; 8 `out` refused a write. Where there are no `keys` for the look-up of ids, that is a feed
+/// whose reader failed.
+pub fn run<R: Read + Drop, W: Write, E: Write>(
+    alloc: Global,
+    keys: Option<RandomState>,
+    job: &Job<'_>,
+    files: Files<R>,
+    out: &mut W,
+    err: &mut E,
+) -> u8
+    ensures run { (feed : Feed) → AreReaders R.remaining files feed → IsRun feed job.now (W.contents out.old) (W.contents out.new) result }
+    ensures statuses { (result ≡ 0) ⊎ ((result ≡ 1) ⊎ ((result ≡ 2) ⊎ ((result ≡ 3) ⊎ ((result ≡ 6) ⊎ ((result ≡ 7) ⊎ (result ≡ 8)))))) }
+{
+    match answer(alloc, keys, job, files) {
+        Ok(answer) => {
+            if writeln!(out, "{answer}").is_err() || out.flush().is_err() {
+                return 8;
+            }
+            0
+        }
+        Err(fault) => {
+            let _ = writeln!(err, "tp: {fault}");
+            fault.status()
+        }
+    }
+}
