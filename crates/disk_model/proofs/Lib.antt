@@ -1,5 +1,6 @@
 mod Clock
 mod Covered
 mod Filled
+pub mod Moments
 mod Replayed
 mod Sound

@@ -1,8 +1,8 @@
 -- Theorems about the definitions alone.
-use Rattle.std.specs.Prelude.{◌≡◌, ◌≤◌, ◌⊎◌, ◌↔◌, ℕ, List, [], ◌∷◌, ◌++◌, length, Result}
+use Rattle.std.specs.Prelude.{◌≡◌, ◌≤◌, ◌⊎◌, ◌↔◌, ℕ, List, [], ◌∷◌, ◌++◌, length, Result, Err}
 use Rattle.disk_model.specs.Image.{Image, IsOutcome, settled_image, with_write, with_cut}
-use Rattle.disk_model.specs.Disk.{State, IsTorn, IsShortened, Writes, Cuts, Syncs}
-use Rattle.disk_model.specs.Moments.{moments, moment, IsLeft}
+use Rattle.disk_model.specs.Disk.{State, IsTorn, IsShortened, Writes, Cuts, Syncs, Counts, Grew}
+use Rattle.disk_model.specs.Moments.{moments, moment, IsLeft, LeavesOnly}
 use Rattle.disk_model.specs.Crash.{CanCrash, filled_bytes}
 use Rattle.disk_model.specs.declared.fault.DiskFault.{DiskFault}
 
@@ -53,3 +53,22 @@ MakesOutcomes = (image : Image) (len : ℕ) (fill : List ℕ) → CanCrash image
 -- each outcome is made by its length and some fill
 abbrev pub MakesEachOutcome : Type 0
 MakesEachOutcome = (image : Image) (bytes : List ℕ) → IsOutcome image bytes → (fill : List ℕ) × CanCrash image (length bytes) fill × (filled_bytes image 0 (length bytes) fill ≡ bytes)
+
+-- since a write began, done or not, a crash leaves what it may leave during that write
+abbrev pub WritesLeave : Type 0
+WritesLeave =
+    (result : Result Unit DiskFault) (at : ℕ) (bytes : List ℕ) (old new : State)
+    → Writes at bytes result old new
+    → LeavesOnly old new (IsOutcome (with_write at (length bytes) old.now))
+
+-- since a cut began, done or not, a crash leaves what it may leave during that cut
+abbrev pub CutsLeave : Type 0
+CutsLeave = (result : Result Unit DiskFault) (len : ℕ) (old new : State) → Cuts len result old new → LeavesOnly old new (IsOutcome (with_cut len old.now))
+
+-- at each moment that a sync adds, a crash leaves what reads gave before it
+abbrev pub SyncsLeave : Type 0
+SyncsLeave = (result : Result Unit DiskFault) (old new : State) → Syncs result old new → LeavesOnly old new (λ left. left ≡ old.read)
+
+-- a call that failed is seen by the counts before and after it, however many calls lie between
+abbrev pub FailuresGrow : Type 0
+FailuresGrow = (fault : DiskFault) (before old new after : ℕ) → before ≤ old → Counts {T = Unit {0}} (Err fault) old new → new ≤ after → Grew before after

@@ -1,5 +1,5 @@
 -- The moments of a disk's clock, and what a crash leaves at them.
-use Rattle.std.specs.Prelude.{◌≡◌, ℕ, zero, suc, List, [], ◌∷◌, ◌++◌, length}
+use Rattle.std.specs.Prelude.{◌≡◌, ℕ, zero, suc, List, [], ◌∷◌, ◌++◌, length, All}
 use Rattle.disk_model.specs.Image.{Image, IsOutcome}
 use Rattle.disk_model.specs.Disk.{State}
 
@@ -21,11 +21,6 @@ IsLeftAt (image ∷ images) (suc m) bytes = IsLeftAt images m bytes
 abbrev pub IsLeft : State → ℕ → List ℕ → Type 0
 IsLeft disk m bytes = IsLeftAt (moments disk) m bytes
 
--- each image of a list has P
-abbrev pub Each : (Image → Type 0) → List Image → Type 0
-Each P [] = Unit {0}
-Each P (image ∷ images) = P image × Each P images
-
 -- each outcome has P
 abbrev pub Leaves : (List ℕ → Type 0) → Image → Type 0
 Leaves P image = (bytes : List ℕ) → IsOutcome image bytes → P bytes
@@ -34,4 +29,4 @@ Leaves P image = (bytes : List ℕ) → IsOutcome image bytes → P bytes
 pub record LeavesOnly (old new : State) (P : List ℕ → Type 0) : Type 0 where
   pub since : List Image
   pub are : moments new ≡ moments old ++ since
-  pub each : Each (Leaves P) since
+  pub each : All (Leaves P) since

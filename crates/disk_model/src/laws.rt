@@ -1,6 +1,6 @@
 //! Laws of the definitions that the contracts cite. Nothing is run.
 
-ghost use Rattle.disk_model.specs.Laws.{LeavesTheReads, WritesAddOutcomes, CutsAddOutcomes, TornReadsAreOutcomes, ShortenedReadsAreOutcomes, TimeGoesOn, LeavesNow, LeavesBefore, MakesOutcomes, MakesEachOutcome};
+ghost use Rattle.disk_model.specs.Laws.{LeavesTheReads, WritesAddOutcomes, CutsAddOutcomes, TornReadsAreOutcomes, ShortenedReadsAreOutcomes, TimeGoesOn, LeavesNow, LeavesBefore, WritesLeave, CutsLeave, SyncsLeave, FailuresGrow, MakesOutcomes, MakesEachOutcome};
 
 /// After a sync that succeeded, and after a crash, a crash leaves what reads give, and nothing else.
 pub fn leaves_the_reads()
@@ -40,6 +40,26 @@ pub fn leaves_now()
 /// What a crash leaves at a moment stays as time goes on.
 pub fn leaves_before()
     ensures { LeavesBefore }
+{}
+
+/// Since a write began, done, done in part or not at all, a crash leaves what it may leave during that write.
+pub fn writes_leave()
+    ensures { WritesLeave }
+{}
+
+/// Since a cut began, done, done in part or not at all, a crash leaves what it may leave during that cut.
+pub fn cuts_leave()
+    ensures { CutsLeave }
+{}
+
+/// A sync adds at most one moment, at which a crash leaves what reads gave before it.
+pub fn syncs_leave()
+    ensures { SyncsLeave }
+{}
+
+/// A call that failed is seen by the counts of failures before and after it, however many calls lie between.
+pub fn failures_grow()
+    ensures { FailuresGrow }
 {}
 
 /// What a length and a fill make in `MemDisk::crash` is among what a crash may leave.
