@@ -37,6 +37,15 @@ improves {table} {p} {q} {ready} {n} is leg serves lt here = record {
   ];
 }
 
+pub ride_is : (table : Table) (p q ready n : ℕ) (best : Option Leg) (earliest : ℕ) → IsBest table p q ready n best earliest
+    → IfSome best (Serves table p q ready)
+ride_is table p q ready n None earliest is = tt
+ride_is table p q ready n (Some leg) earliest is = is.attained.0
+
+-- one alights at a place that is there
+pub alights_within : (p q ready : ℕ) (calls : List Call) (i j : ℕ) → Hops p q ready calls i j → j < length calls
+alights_within p q ready calls i j hop = let f = there (slice_get calls j) hop.alights in slice_get_within calls j f.0 f.1
+
 pub best_is : (table : Table) (p q ready n : ℕ) (best : Option Leg) (earliest : ℕ) → ((leg : Leg) → Serves table p q ready leg → leg.instance < n)
     → IsBest table p q ready n best earliest
     → IfSome best (λ leg. (other : Leg) → Serves table p q ready other → arrives table leg ≤ arrives table other)

@@ -3,7 +3,7 @@ use Rattle.timetable.specs.Table.{calls_of}
 use Rattle.timetable.specs.Journeys.{Serves}
 use Rattle.timetable.specs.declared.parts.Leg.{Leg as LegData}
 use Rattle.timetable.proofs.Legs.{ride_within}
-use Rattle.timetable.proofs.Best.{none_keeps, later_keeps, sooner_improves, best_is, none_is, calls_read}
+use Rattle.timetable.proofs.Best.{none_keeps, later_keeps, sooner_improves, best_is, none_is, ride_is, alights_within, calls_read}
 use Rattle.timetable.proofs.direct.plain_direct.Goals as goal
 use Rattle.timetable.proofs.direct.plain_direct.Goals.{in-Some+then-arrival-earliest, in-Some+else-arrival-earliest, in_default}
 
@@ -38,3 +38,15 @@ returns-clause-least c = best_is c.args.table.now c.args.from c.args.to c.args.r
 
 pub returns-clause-none : goal.returns-clause-none
 returns-clause-none c = none_is c.args.table.now c.args.from c.args.to c.args.ready c.loop-n.n c.loop-n.best c.loop-n.earliest c.instances-instance-items.ensures.valid (all c) c.loop-n.invariant
+
+pub bounds-instance-items-n : goal.bounds-instance-items-n
+bounds-instance-items-n c = omega (arith, c.loop-n-test.true)
+
+pub bounds-calls-alight : goal.bounds-calls-alight
+bounds-calls-alight c = alights_within c.args.from c.args.to c.args.ready c.calls-calls.result.now c.in-Some.board c.in-Some.alight c.in-Some.ensures.hop
+
+pub bounds-calls-alight-in-Some : goal.bounds-calls-alight-in-Some
+bounds-calls-alight-in-Some c = alights_within c.args.from c.args.to c.args.ready c.calls-calls.result.now c.in-Some.board c.in-Some.alight c.in-Some.ensures.hop
+
+pub returns-clause-ride : goal.returns-clause-ride
+returns-clause-ride c = ride_is c.args.table.now c.args.from c.args.to c.args.ready c.loop-n.n c.loop-n.best c.loop-n.earliest c.loop-n.invariant
