@@ -1,4 +1,4 @@
-use Rattle.std.proofs.Common.{◌≡◌, ◌≤◌, ◌+◌, ◌++◌, ◌∷◌, ◌∙◌, [], List, length, map, arith, ap, subst, rules, sym}
+use Rattle.std.proofs.Common.{◌≡◌, ◌≤◌, ◌+◌, ◌++◌, ◌∷◌, ◌∙◌, [], List, length, map, arith, ap, subst, rules, sym, lit<, ◌<◌}
 use Rattle.pattern_tree.specs.Forest.{Forest, forest, levels, pairs, step_of, Branch, Pair}
 use Rattle.pattern_tree.specs.Branch.{branch, branches}
 use Rattle.pattern_tree.specs.Walks.{ShownAll, ending, after}
@@ -52,3 +52,10 @@ pub returns-clause-shown : goal.returns-clause-shown
 returns-clause-shown g t c =
     let all = take_all c.loop-node.node-index (branches c.args.level.now) (omega (arith, c.loop-node-test.false, length-map c.args.level.now branch)) in
     subst (λ (bs : List Branch). ShownAll g.V.Visitor.shows c.args.visitor.now (map (after c.args.path.now.items) (pairs (forest bs))) c.loop-node.visitor) all c.loop-node.invariant.shown
+
+pub push-requires : goal.push-requires
+push-requires g t c =
+    let n = c.node-item.result in
+    let deep : levels (branch n).next + 1 ≤ levels (forest (branches c.args.level.now)) = levels_at c.args.level.now c.loop-node.node-index n c.node-item.is c.loop-node-test.true in
+    let few : length c.loop-node.path.items < 8 = omega (arith, deep, ap length c.loop-node.invariant.path, c.requires) in
+    (lit< tt, few)
