@@ -1,5 +1,6 @@
-use Rattle.std.proofs.Common.{◌≡◌, ◌<◌, length, arith, sym, ◌∙◌, ap}
-use Rattle.timetable.specs.Table.{calls_of}
+use Rattle.std.proofs.Common.{◌≡◌, ◌<◌, ◌≤◌, List, length, get_or, arith, rules, sym, ◌∙◌, ap}
+use Rattle.timetable.specs.declared.parts.Call.{Call}
+use Rattle.timetable.specs.Table.{Run, calls_of}
 use Rattle.timetable.specs.Journeys.{Serves}
 use Rattle.timetable.specs.declared.parts.Leg.{Leg as LegData}
 use Rattle.timetable.proofs.Legs.{ride_within}
@@ -50,3 +51,19 @@ bounds-calls-alight-in-Some c = alights_within c.args.from c.args.to c.args.read
 
 pub returns-clause-ride : goal.returns-clause-ride
 returns-clause-ride c = ride_is c.args.table.now c.args.from c.args.to c.args.ready c.loop-n.n c.loop-n.best c.loop-n.earliest c.loop-n.invariant
+
+-- an instance has few calls
+few : (c : goal.In-Some) → length c.calls-calls.result.now ≤ 65_535
+few c =
+    let n = c.loop-n.n in
+    let items = c.instances-instance-items.ensures in
+    let same : c.calls-calls.result.now ≡ (get_or c.args.table.now.instances n c.instance-item.result).calls =
+    c.calls-calls.ensures ∙ ap (λ (r : Run). r.calls) (c.instance-item.is ∙ ap (λ (rs : List Run). get_or rs n c.instance-item.result) items.value) in
+    let lt : n < length c.args.table.now.instances = omega (arith, c.loop-n-test.true, ap (length {A = Run}) items.value) in
+    let run = items.valid.runs n c.instance-item.result lt in
+    omega (arith, run.few, ap (length {A = Call}) same)
+
+pub overflow_cast-best : goal.overflow_cast-best
+overflow_cast-best c =
+    let items = c.instances-instance-items.ensures in
+    search (rules, (let low : c.loop-n.n ≤ 1_000_000 = omega (arith, c.loop-n-test.true, items.valid.few_instances, ap (length {A = Run}) items.value) in low))
