@@ -113,3 +113,12 @@ module _ (table : Table) (p q ready n : ℕ) (calls : List Call) (these : calls_
         subst (λ a. IsBest table p q ready (n + 1) (Some leg) a) e
         (improves is leg s (subst (λ a. a < earliest) (sym e) lt)
         (λ other same s. subst (λ a. a ≤ arrives table other) (sym e) (none_sooner other same s)))
+
+-- they are few
+pub few_read : (table : Table) → IsTable table → (runs : List Run) (n : ℕ) (run : Run) (calls : List Call) → runs ≡ table.instances → n < length runs
+    → run ≡ get_or runs n run → calls ≡ run.calls → length calls ≤ 65_535
+few_read table valid runs n run calls same in' is read =
+    let lt : n < length table.instances = omega (arith, in', ap (length {A = Run}) same) in
+    let at : run ≡ get_or table.instances n run = is ∙ ap (λ (rs : List Run). get_or rs n run) same in
+    let few = valid.runs n run lt in
+    omega (arith, few.few, ap (λ (r : Run). length r.calls) at, ap (length {A = Call}) read)
