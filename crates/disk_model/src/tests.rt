@@ -60,6 +60,28 @@ fn gives(disk: &mut impl Disk, bytes: &[u8]) -> Result<bool, Fail> {
     Ok(disk.len()? == bytes.len() as u64 && &buf[..count] == bytes)
 }
 
+// Whether a crash may leave just the lengths from the least to the greatest, of those below 8.
+fn leaves_lengths(disk: &MemDisk, least: u64, greatest: u64) -> bool {
+    for len in 0..8 {
+        if disk.open_bytes(len).is_some() != (least <= len && len <= greatest) {
+            return false;
+        }
+    }
+    true
+}
+
+// Whether a crash leaves this outcome, and nothing of it open.
+fn leaves(disk: MemDisk, outcome: &Outcome) -> Result<bool, Fail> {
+    let len = outcome.left.len() as u64;
+    if disk.open_bytes(len) != Some(outcome.fill.len() as u64) {
+        return Ok(false);
+    }
+    match disk.crash(len, outcome.fill) {
+        Ok(mut left) => Ok(left.open_bytes(len) == Some(0) && gives(&mut left, outcome.left)?),
+        Err(_) => Ok(false),
+    }
+}
+
 // After these steps a crash leaves the lengths from the least to the greatest, and these outcomes among others.
 fn check_script(
     rt: &impl Abort,
@@ -70,23 +92,10 @@ fn check_script(
     outcomes: &[Outcome],
 ) -> Result<(), Fail> {
     let disk = disk_after(rt, alloc, steps)?;
-    for len in 0..8 {
-        assert_eq!(rt;
-            disk.open_bytes(len).is_some(),
-            least <= len && len <= greatest
-        );
-    }
+    assert!(rt; leaves_lengths(&disk, least, greatest));
     for outcome in outcomes {
-        let len = outcome.left.len() as u64;
         let disk = disk_after(rt, alloc, steps)?;
-        assert_eq!(rt; disk.open_bytes(len), Some(outcome.fill.len() as u64));
-        match disk.crash(len, outcome.fill) {
-            Ok(mut left) => {
-                assert!(rt; gives(&mut left, outcome.left)?);
-                assert_eq!(rt; left.open_bytes(len), Some(0));
-            }
-            Err(_) => return Err(Fail::new("no crash")),
-        }
+        assert!(rt; leaves(disk, outcome)?);
     }
     Ok(())
 }
@@ -248,31 +257,37 @@ fn what_a_crash_leaves_after_a_call_that_failed(rt: HostRuntime) -> Result<(), F
     )
 }
 
+// The disk after a crash that it refuses: none where it doesn't.
+fn refused(disk: MemDisk, len: u64, fill: &[u8]) -> Result<MemDisk, Fail> {
+    match disk.crash(len, fill) {
+        Ok(_) => Err(Fail::new("a crash that can't be")),
+        Err(disk) => Ok(disk),
+    }
+}
+
+// A length that can't be left, on either side, and too short a fill. The disk is then as it was.
 #[test]
 fn a_crash_that_cannot_be(rt: HostRuntime) -> Result<(), Fail> {
     let steps = [Step::Write(0, &[1, 2, 3]), Step::Sync, Step::Write(1, &[7])];
     let mut disk = disk_after(&rt, rt.alloc(), &steps)?;
-    disk.fail_at(9);
-    for (len, fill) in [(2, [5]), (4, [5])] {
-        disk = match disk.crash(len, &fill) {
-            Ok(_) => return Err(Fail::new("a length that can't be left")),
-            Err(disk) => disk,
-        };
+    let crashes: [(u64, &[u8]); 3] = [(2, &[5]), (4, &[5]), (3, &[])];
+    for (len, fill) in crashes {
+        disk = refused(disk, len, fill)?;
     }
-    disk = match disk.crash(3, &[]) {
-        Ok(_) => return Err(Fail::new("too short a fill")),
-        Err(disk) => disk,
-    };
     assert!(rt; gives(&mut disk, &[1, 7, 3])?);
-    assert_eq!(rt; disk.open_bytes(3), Some(1));
+    Ok(())
+}
 
-    // more bytes than are open, and what was still to fail is dropped
+// More bytes than are open, and a failure that is still to come.
+#[test]
+fn a_crash_drops_what_is_too_much(rt: HostRuntime) -> Result<(), Fail> {
+    let steps = [Step::Write(0, &[1, 2, 3]), Step::Sync, Step::Write(1, &[7])];
+    let mut disk = disk_after(&rt, rt.alloc(), &steps)?;
     disk.fail_at(1);
-    disk = match disk.crash(3, &[5, 6]) {
-        Ok(disk) => disk,
+    match disk.crash(3, &[5, 6]) {
+        Ok(mut left) => assert!(rt; gives(&mut left, &[1, 5, 3])?),
         Err(_) => return Err(Fail::new("no crash")),
-    };
-    assert!(rt; gives(&mut disk, &[1, 5, 3])?);
+    }
     Ok(())
 }
 
@@ -288,70 +303,105 @@ fn failures_of_five(disk: &mut MemDisk) -> [bool; 5] {
     ]
 }
 
+// Whether just these of the five calls fail, and so many are counted.
+fn fails_in(disk: &mut MemDisk, expected: [bool; 5], count: u64) -> bool {
+    failures_of_five(disk) == expected && disk.failures() == count
+}
+
 #[test]
-fn calls_that_are_told_to_fail(rt: HostRuntime) -> Result<(), Fail> {
-    for n in 0..7 {
+fn calls_that_are_told_to_fail(rt: HostRuntime) {
+    let cases = [
+        (0, [false; 5], 0),
+        (1, [true, false, false, false, false], 1),
+        (3, [false, false, true, false, false], 1),
+        (5, [false, false, false, false, true], 1),
+        (6, [false; 5], 0),
+    ];
+    for (n, expected, count) in cases {
         let mut disk = MemDisk::new(rt.alloc());
         disk.fail_at(n);
-        let failed = failures_of_five(&mut disk);
-        for (i, failed) in failed.iter().enumerate() {
-            assert_eq!(rt; *failed, i as u64 + 1 == n, "call {i} under fail_at({n})");
-        }
-        let count = failed.iter().filter(|failed| **failed).count();
-        assert_eq!(rt; disk.failures(), count as u64);
+        assert!(rt; fails_in(&mut disk, expected, count), "under fail_at({n})");
     }
-    for n in 0..7 {
+}
+
+#[test]
+fn calls_from_one_on_fail(rt: HostRuntime) {
+    let cases = [
+        (0, [true; 5], 5),
+        (1, [true; 5], 5),
+        (3, [false, false, true, true, true], 3),
+        (6, [false; 5], 0),
+    ];
+    for (n, expected, count) in cases {
         let mut disk = MemDisk::new(rt.alloc());
         disk.stop_at(n);
-        let failed = failures_of_five(&mut disk);
-        for (i, failed) in failed.iter().enumerate() {
-            assert_eq!(rt; *failed, i as u64 + 1 >= n, "call {i} under stop_at({n})");
-        }
-        let count = failed.iter().filter(|failed| **failed).count();
-        assert_eq!(rt; disk.failures(), count as u64);
+        assert!(rt; fails_in(&mut disk, expected, count), "under stop_at({n})");
     }
-    Ok(())
+}
+
+// How many bytes a read of at most two gives, and the first of the buffer afterwards.
+fn read_two(disk: &mut impl Disk, pos: u64) -> Result<(usize, u8), Fail> {
+    let mut buf = [9; 2];
+    let count = disk.read_at(pos, &mut buf)?;
+    Ok((count, buf[0]))
 }
 
 #[test]
 fn reads_of_a_disk_in_memory(rt: HostRuntime) -> Result<(), Fail> {
     let mut disk = disk_after(&rt, rt.alloc(), &[Step::Write(0, &[1, 2, 3])])?;
-    let mut buf = [9; 2];
-    assert_eq!(rt; disk.read_at(2, &mut buf)?, 1);
-    assert_eq!(rt; buf[0], 3);
-    assert_eq!(rt; disk.read_at(3, &mut buf)?, 0);
-    assert_eq!(rt; disk.read_at(u64::MAX, &mut buf)?, 0);
-    assert_eq!(rt; disk.read_at(0, &mut [])?, 0);
-    assert_eq!(rt; disk.failures(), 0);
+    for (pos, expected) in [(0, (2, 1)), (2, (1, 3)), (3, (0, 9)), (u64::MAX, (0, 9))] {
+        assert_eq!(rt; read_two(&mut disk, pos)?, expected, "at {pos}");
+    }
     Ok(())
+}
+
+// Whether a call that failed was counted and did nothing; the calls are run with each allocation refused in turn.
+fn stays_without_memory(disk: &mut MemDisk, byte: u8) -> Result<bool, Fail> {
+    let pos = disk.len()?;
+    let before = disk.failures();
+    if disk.write_at(pos, &[byte]).is_ok() {
+        return Ok(disk.failures() == before);
+    }
+    Ok(disk.len()? == pos && disk.open_bytes(pos + 1).is_none() && before < disk.failures())
+}
+
+// Whether a crash, or one that wants memory, leaves the length.
+fn keeps_its_length(mut disk: MemDisk) -> Result<bool, Fail> {
+    let len = disk.len()?;
+    match disk.crash(len, &[9; 3]) {
+        Ok(mut left) => Ok(left.len()? == len),
+        Err(mut disk) => Ok(disk.len()? == len),
+    }
 }
 
 #[test]
 fn a_call_without_memory_does_nothing(rt: HostRuntime) -> Result<(), Fail> {
     let mut disk = MemDisk::new(rt.alloc());
-    let mut failures = 0u64;
-    // run with each allocation refused in turn
     for byte in 0..3 {
-        let pos = disk.len()?;
-        if disk.write_at(pos, &[byte]).is_err() {
-            failures = failures.saturating_add(1);
-            assert_eq!(rt; disk.len()?, pos);
-            assert_eq!(rt; disk.open_bytes(pos + 1), None);
-        }
-        if disk.sync().is_err() {
-            failures = failures.saturating_add(1);
-            assert!(rt; disk.open_bytes(pos).is_some());
-        }
-        assert_eq!(rt; disk.failures(), failures);
+        assert!(rt; stays_without_memory(&mut disk, byte)?);
+        let _ = disk.sync();
     }
-    let len = disk.len()?;
-    let mut after = match disk.crash(len, &[9; 3]) {
-        Ok(disk) => disk,
-        Err(disk) => disk,
-    };
-    assert_eq!(rt; after.len()?, len);
-    assert_eq!(rt; after.failures(), failures);
+    assert!(rt; keeps_its_length(disk)?);
     Ok(())
+}
+
+// Does the writes, and syncs.
+fn put(disk: &mut FileDisk, writes: &[(u64, &[u8])]) -> Result<(), Fail> {
+    for (pos, bytes) in writes {
+        disk.write_at(*pos, bytes)?;
+    }
+    disk.sync()?;
+    Ok(())
+}
+
+// Whether the file has the bytes 1 and 7, and reads give them.
+fn reads_back(disk: &mut FileDisk) -> Result<bool, Fail> {
+    Ok(
+        gives(disk, &[1, 7])?
+            && read_two(disk, 1)? == (1, 7)
+            && read_two(disk, 2)?.0 == 0
+            && disk.failures() == 0,
+    )
 }
 
 #[test]
@@ -359,22 +409,12 @@ fn a_file_as_a_disk(rt: HostRuntime) -> Result<(), Fail> {
     let path = "disk_model_a_file_as_a_disk";
     let _ = fs::remove_file(&rt, path);
     let mut disk = FileDisk::open(&rt, path)?;
-    assert!(rt; gives(&mut disk, &[])?);
-    disk.write_at(0, &[1, 2, 3, 4])?;
-    disk.write_at(1, &[7, 8])?;
-    disk.write_at(4, &[5])?;
-    disk.sync()?;
+    put(&mut disk, &[(0, &[1, 2, 3, 4]), (1, &[7, 8]), (4, &[5])])?;
     assert!(rt; gives(&mut disk, &[1, 7, 8, 4, 5])?);
     disk.cut(2)?;
     drop(disk);
-
     let mut disk = FileDisk::open(&rt, path)?;
-    assert!(rt; gives(&mut disk, &[1, 7])?);
-    let mut buf = [0; 4];
-    assert_eq!(rt; disk.read_at(1, &mut buf)?, 1);
-    assert_eq!(rt; buf[0], 7);
-    assert_eq!(rt; disk.read_at(2, &mut buf)?, 0);
-    assert_eq!(rt; disk.failures(), 0);
+    assert!(rt; reads_back(&mut disk)?);
     drop(disk);
     fs::remove_file(&rt, path)?;
     Ok(())
@@ -388,17 +428,21 @@ fn files_that_cannot_be_opened(rt: HostRuntime) {
     }
 }
 
+// Whether a write, a cut and a sync fail, and each is counted.
+fn fails_to_change(disk: &mut FileDisk) -> bool {
+    disk.write_at(0, &[1]).is_err()
+        && disk.failures() == 1
+        && disk.cut(0).is_err()
+        && disk.failures() == 2
+        && disk.sync().is_err()
+        && disk.failures() == 3
+}
+
 #[test]
 fn a_file_that_is_full(rt: HostRuntime) -> Result<(), Fail> {
     let mut disk = FileDisk::open(&rt, "/dev/full")?;
-    assert!(rt; disk.write_at(0, &[1]).is_err());
-    assert_eq!(rt; disk.failures(), 1);
-    assert!(rt; disk.cut(0).is_err());
-    assert_eq!(rt; disk.failures(), 2);
-    assert!(rt; disk.sync().is_err());
-    assert_eq!(rt; disk.failures(), 3);
-    let mut buf = [9; 2];
-    assert_eq!(rt; disk.read_at(0, &mut buf)?, 2);
+    assert!(rt; fails_to_change(&mut disk));
+    assert_eq!(rt; read_two(&mut disk, 0)?, (2, 0));
     assert_eq!(rt; disk.failures(), 3);
     Ok(())
 }

@@ -14,6 +14,9 @@ use Rattle.pattern_tree.proofs.AdditionFacts.{added_at, added_gap}
 use Rattle.pattern_tree.proofs.SiblingFacts.{steps_rise}
 use Rattle.pattern_tree.proofs.NodeFacts.{branch_out, branch_at}
 
+abbrev branch_as : ℕ → ℕ → List ℕ → Forest → Branch
+branch_as b a es f = record { board = b; alight = a; ends = es; next = f }
+
 pub branch_roll : (A : Type 0) (x : Node-F A (Node A)) → branch (roll-Node A x) ≡ record { board = x.board; alight = x.alight; ends = x.ends.items; next = forest (branches x.next.items) }
 branch_roll A x = fold-roll-Node A Branch (branch_step A) x
 
@@ -80,3 +83,20 @@ copied_more ns ms ms' i n m so_far pushed is lt same =
     ∙ ap (λ (bs : List Branch). bs ++ (branch m ∷ [])) so_far
     ∙ ap (λ (b : Branch). take i (branches ns) ++ (b ∷ [])) (same ∙ sym (branch_at ns i n (branch n) is lt))
     ∙ sym (take_more (branches ns) i (branch n) (omega (arith, lt, length-map ns branch)))
+
+-- a node for the last step of a chain, and one for an earlier step
+same_branch : (b a y x : ℕ) (es xs : List ℕ) (f g : Forest) → b ≡ y → a ≡ x → es ≡ xs → f ≡ g → branch_as b a es f ≡ branch_as y x xs g
+same_branch b a y x es xs f g p q r t =
+    ap (λ (n : ℕ). branch_as n a es f) p ∙ ap (λ (n : ℕ). branch_as y n es f) q ∙ ap (λ (l : List ℕ). branch_as y x l f) r ∙ ap (branch_as y x xs) t
+
+pub chained_end : (A : Type 0) (m : Node-F A (Node A)) (s : Step) (q : List Step) (e : ℕ) → q ≡ [] → m.board ≡ s.0 → m.alight ≡ s.1 → m.ends.items ≡ e ∷ [] → m.next.items ≡ [] → branch (roll-Node A m) ≡ chain_of s q e
+chained_end A m s q e last b a ends next =
+    branch_roll A m ∙ same_branch m.board m.alight s.0 s.1 m.ends.items (e ∷ []) (forest (branches m.next.items)) (forest []) b a ends (ap (λ (ns : List (Node A)). forest (branches ns)) next)
+    ∙ ap (λ (p : List Step). chain_of s p e) (sym last)
+
+pub chained_step : (A : Type 0) (m : Node-F A (Node A)) (n : Node A) (s t : Step) (q p : List Step) (e : ℕ) → q ≡ t ∷ p → m.board ≡ s.0 → m.alight ≡ s.1 → m.ends.items ≡ [] → m.next.items ≡ n ∷ [] → branch n ≡ chain_of t p e → branch (roll-Node A m) ≡ chain_of s q e
+chained_step A m n s t q p e more b a ends next below =
+    branch_roll A m
+    ∙ same_branch m.board m.alight s.0 s.1 m.ends.items [] (forest (branches m.next.items)) (forest (chain_of t p e ∷ [])) b a ends
+    (ap (λ (ns : List (Node A)). forest (branches ns)) next ∙ ap (λ (c : Branch). forest (c ∷ [])) below)
+    ∙ ap (λ (r : List Step). chain_of s r e) (sym more)

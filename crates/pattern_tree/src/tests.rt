@@ -1,87 +1,85 @@
-ghost use Rattle.std.specs.Prelude.{◌<◌};
-
 use super::*;
 use arrayvec::ArrayVec;
 use linked_list_allocator::LocalHeap;
 use std::alloc::{Allocator, Global};
 use std::mem;
-use std::process::Abort;
 use std::test::Fail;
 use timetable::StopId;
 
 // The stops of the tests.
-const A: u16 = 0;
+const A: u8 = 0;
 
-const B: u16 = 1;
+const B: u8 = 1;
 
-const C: u16 = 2;
+const C: u8 = 2;
 
-const D: u16 = 3;
+const D: u8 = 3;
 
-const E: u16 = 4;
+const E: u8 = 4;
+
+fn stop(number: u8) -> StopId {
+    StopId::new(u16::from(number))
+}
 
 // A pair of the tests: the first ride, the second where there is one, and the end.
 #[derive(Clone, Copy)]
 struct Pattern {
-    first: (StopId, StopId),
-    second: Option<(StopId, StopId)>,
-    end: StopId,
+    first: (u8, u8),
+    second: Option<(u8, u8)>,
+    end: u8,
 }
 
 impl Pattern {
-    fn of_one(board: u16, alight: u16, end: u16) -> Pattern
-        requires board { board < 65534 }
-        requires alight { alight < 65534 }
-        requires end { end < 65534 }
-    {
-        Pattern {
-            first: (StopId::new(board), StopId::new(alight)),
-            second: None,
-            end: StopId::new(end),
-        }
-    }
-
-    fn then(self, board: u16, alight: u16) -> Pattern
-        requires board { board < 65534 }
-        requires alight { alight < 65534 }
-    {
-        Pattern {
-            first: self.first,
-            second: Some((StopId::new(board), StopId::new(alight))),
-            end: self.end,
-        }
-    }
-
     fn insert_into<T: Allocator + Clone>(
         self,
         tree: &mut PatternTree<T>,
     ) -> Result<bool, TreeFault> {
-        let Pattern { first, second, end } = self;
-        match second {
-            None => tree.insert(&[first], end),
-            Some(second) => tree.insert(&[first, second], end),
+        let first = (stop(self.first.0), stop(self.first.1));
+        match self.second {
+            None => tree.insert(&[first], stop(self.end)),
+            Some(second) => tree.insert(&[first, (stop(second.0), stop(second.1))], stop(self.end)),
         }
     }
 
     fn is_in<T: Allocator>(self, tree: &PatternTree<T>) -> bool {
-        let Pattern { first, second, end } = self;
-        match second {
-            None => tree.contains(&[first], end),
-            Some(second) => tree.contains(&[first, second], end),
+        let first = (stop(self.first.0), stop(self.first.1));
+        match self.second {
+            None => tree.contains(&[first], stop(self.end)),
+            Some(second) => {
+                tree.contains(&[first, (stop(second.0), stop(second.1))], stop(self.end))
+            }
         }
     }
 }
 
 // Five patterns with four beginnings, in no order.
-fn patterns() -> [Pattern; 5] {
-    [
-        Pattern::of_one(A, C, E),
-        Pattern::of_one(A, B, D).then(B, D),
-        Pattern::of_one(A, D, D),
-        Pattern::of_one(A, C, C),
-        Pattern::of_one(A, B, B),
-    ]
-}
+const PATTERNS: [Pattern; 5] = [
+    Pattern {
+        first: (A, C),
+        second: None,
+        end: E,
+    },
+    Pattern {
+        first: (A, B),
+        second: Some((B, D)),
+        end: D,
+    },
+    Pattern {
+        first: (A, D),
+        second: None,
+        end: D,
+    },
+    Pattern {
+        first: (A, C),
+        second: None,
+        end: C,
+    },
+    Pattern {
+        first: (A, B),
+        second: None,
+        end: B,
+    },
+];
 
 // The rides and the end of each pair that it was shown.
 #[derive(Drop)]
@@ -97,185 +95,169 @@ impl Visitor for Shown {
     }
 }
 
-// Checks a tree with just these patterns.
-fn check_content<T: Allocator>(rt: &impl Abort, tree: &PatternTree<T>, kept: &[Pattern]) {
+// What a walk through the tree shows.
+fn shown_by<T: Allocator>(tree: &PatternTree<T>) -> ArrayVec<(usize, StopId), 8> {
     let mut shown = Shown {
         pairs: ArrayVec::new(),
     };
     tree.walk(&mut shown);
-    assert_eq!(rt; shown.pairs.len(), kept.len());
-    for pattern in patterns() {
-        assert_eq!(rt;
-            pattern.is_in(tree),
-            kept.iter().any(|k| k.first == pattern.first
-                && k.second == pattern.second
-                && k.end == pattern.end)
-        );
-    }
+    shown.pairs
 }
 
-// Puts the patterns in one by one. Where one is refused, memory ran out, and the tree is as it was.
-fn fill<T: Allocator + Clone>(rt: &impl Abort, tree: &mut PatternTree<T>) -> Result<(), TreeFault> {
-    let all = patterns();
-    for i in 0..all.len() {
-        match all[i].insert_into(tree) {
-            Ok(new) => assert!(rt; new),
-            Err(fault) => {
-                assert_eq!(rt; fault, TreeFault::Memory);
-                check_content(rt, tree, &all[..i]);
-                return Err(fault);
-            }
+// Whether the tree has just the first of the patterns, so many.
+fn has_first<T: Allocator>(tree: &PatternTree<T>, count: usize) -> bool {
+    for (place, pattern) in PATTERNS.iter().enumerate() {
+        if pattern.is_in(tree) != (place < count) {
+            return false;
         }
     }
-    Ok(())
+    shown_by(tree).len() == count
 }
 
-// Puts the patterns in and asks for them.
-fn check_tree<T: Allocator + Clone>(rt: &impl Abort, alloc: T) -> Result<(), TreeFault> {
-    let mut tree = PatternTree::new_in(alloc, StopId::new(A));
-    assert_eq!(rt; tree.depth(), 0);
-    assert_eq!(rt; tree.nodes(), 0);
-    assert_eq!(rt; tree.ends(), 0);
-    check_content(rt, &tree, &[]);
-    fill(rt, &mut tree)?;
-    for pattern in patterns() {
-        assert_eq!(rt; pattern.insert_into(&mut tree), Ok(false));
+// Puts the patterns in one by one; says whether each was new and, where memory ran out, the tree as before.
+fn fill<T: Allocator + Clone>(tree: &mut PatternTree<T>) -> Result<bool, TreeFault> {
+    for (place, pattern) in PATTERNS.iter().enumerate() {
+        match pattern.insert_into(tree) {
+            Ok(new) if new => {}
+            Err(TreeFault::Memory) if has_first(tree, place) => return Err(TreeFault::Memory),
+            _ => return Ok(false),
+        }
     }
-    check_content(rt, &tree, &patterns());
-    assert_eq!(rt; tree.source(), StopId::new(A));
-    assert_eq!(rt; tree.depth(), 2);
-    assert_eq!(rt; tree.nodes(), 4);
-    assert_eq!(rt; tree.ends(), 5);
-    assert_eq!(rt; tree.first().len(), 3);
-    assert!(rt; !Pattern::of_one(A, B, D).is_in(&tree));
-    assert!(rt; !tree.contains(&[], StopId::new(A)));
+    Ok(true)
+}
 
-    let mut shown = Shown {
-        pairs: ArrayVec::new(),
-    };
-    tree.walk(&mut shown);
-    let expected = [(1, B), (2, D), (1, C), (1, E), (1, D)];
-    assert_eq!(rt; shown.pairs.len(), expected.len());
-    for (pair, (rides, end)) in shown.pairs.iter().zip(expected) {
-        assert_eq!(rt; pair.0, rides);
-        assert_eq!(rt; pair.1.number(), end as usize);
-    }
-    Ok(())
+// Whether the tree has what five patterns with four beginnings of two levels have.
+fn has_counts<T: Allocator>(tree: &PatternTree<T>) -> bool {
+    tree.source() == stop(A)
+        && tree.depth() == 2
+        && tree.nodes() == 4
+        && tree.ends() == 5
+        && tree.first().len() == 3
+        && !tree.contains(&[], stop(A))
+}
+
+// Whether a walk shows the patterns by their stops.
+fn shows_in_order<T: Allocator>(tree: &PatternTree<T>) -> bool {
+    let expected = [
+        (1, stop(B)),
+        (2, stop(D)),
+        (1, stop(C)),
+        (1, stop(E)),
+        (1, stop(D)),
+    ];
+    shown_by(tree).as_slice() == expected.as_slice()
+}
+
+// Whether a tree in this memory takes the patterns and has them.
+fn is_right_in<T: Allocator + Clone>(alloc: T) -> Result<bool, TreeFault> {
+    let mut tree = PatternTree::new_in(alloc, stop(A));
+    let filled = fill(&mut tree)?;
+    Ok(filled && has_first(&tree, 5) && has_counts(&tree) && shows_in_order(&tree))
 }
 
 #[test]
 fn the_answers_are_the_same_in_each_memory(rt: HostRuntime) -> Result<(), Fail> {
     let alloc = rt.alloc();
-    check_tree(&rt, alloc)?;
+    assert!(rt; is_right_in(alloc)?);
     let arena = Arena::new(alloc)?;
-    check_tree(&rt, arena.bump())?;
+    assert!(rt; is_right_in(arena.bump())?);
     let heap = LocalHeap::new(alloc, 1 << 16)?;
-    check_tree(&rt, &heap)?;
+    assert!(rt; is_right_in(&heap)?);
     Ok(())
 }
 
 #[test]
 fn a_copy_outlives_its_arena(rt: HostRuntime) -> Result<(), Fail> {
-    let alloc = rt.alloc();
-    let mut arena = Arena::new(alloc)?;
-    let mut tree = PatternTree::new_in(arena.bump(), StopId::new(E));
-    fill(&rt, &mut tree)?;
-    let copy: PatternTree = tree.copy_to(alloc)?;
+    let mut arena = Arena::new(rt.alloc())?;
+    let mut tree = PatternTree::new_in(arena.bump(), stop(E));
+    fill(&mut tree)?;
+    let copy: PatternTree = tree.copy_to(rt.alloc())?;
+    drop(tree);
+    arena.renew(rt.alloc())?;
+    assert!(rt; copy.source() == stop(E) && has_first(&copy, 5));
+    Ok(())
+}
+
+// Fills a tree in the arena, drops it and renews the arena; says how many bytes the arena then has.
+fn bytes_after_a_tree(arena: &mut Arena, alloc: Global) -> Result<usize, Fail> {
+    let mut tree = PatternTree::new_in(arena.bump(), stop(A));
+    fill(&mut tree)?;
     drop(tree);
     arena.renew(alloc)?;
-    check_content(&rt, &copy, &patterns());
-    assert_eq!(rt; copy.source(), StopId::new(E));
-    Ok(())
+    Ok(arena.bump().allocated_bytes())
 }
 
 #[test]
 fn a_renewed_arena_takes_no_more_memory(rt: HostRuntime) -> Result<(), Fail> {
-    let alloc = rt.alloc();
-    let mut arena = Arena::new(alloc)?;
+    let mut arena = Arena::new(rt.alloc())?;
     let first = arena.bump().allocated_bytes();
-    assert!(rt; first > 0);
     for _ in 0..100 {
-        let mut tree = PatternTree::new_in(arena.bump(), StopId::new(A));
-        fill(&rt, &mut tree)?;
-        drop(tree);
-        arena.renew(alloc)?;
-        assert_eq!(rt; arena.bump().allocated_bytes(), first);
+        assert_eq!(rt; bytes_after_a_tree(&mut arena, rt.alloc())?, first);
     }
     Ok(())
 }
 
 #[test]
 fn an_arena_that_is_still_held_takes_new_memory(rt: HostRuntime) -> Result<(), Fail> {
-    let alloc = rt.alloc();
-    let mut arena = Arena::new(alloc)?;
+    let mut arena = Arena::new(rt.alloc())?;
     let mut forgotten = Vec::new(arena.bump());
     forgotten.push(7u64)?;
     mem::forget(forgotten);
-    arena.renew(alloc)?;
-    check_tree(&rt, arena.bump())?;
+    arena.renew(rt.alloc())?;
+    assert!(rt; is_right_in(arena.bump())?);
     Ok(())
 }
 
-// Makes a tree and its copy in the heap; says whether there was room.
-fn fits(rt: &impl Abort, heap: &LocalHeap) -> bool {
-    let mut tree = PatternTree::new_in(heap, StopId::new(A));
-    if fill(rt, &mut tree).is_err() {
-        return false;
-    }
+// Whether a tree and its copy have room in the heap. Where the copy has none, it leaves the tree and the heap.
+fn has_room(heap: &LocalHeap) -> Result<bool, TreeFault> {
+    let mut tree = PatternTree::new_in(heap, stop(A));
+    let filled = fill(&mut tree)?;
     let used = heap.used();
     match tree.copy_to(heap) {
-        Ok(copy) => {
-            check_content(rt, &copy, &patterns());
-            true
-        }
-        Err(fault) => {
-            assert_eq!(rt; fault, TreeFault::Memory);
-            assert_eq!(rt; heap.used(), used);
-            check_content(rt, &tree, &patterns());
-            false
-        }
+        Ok(copy) => Ok(filled && has_first(&copy, 5)),
+        Err(_) if heap.used() == used && has_first(&tree, 5) => Err(TreeFault::Memory),
+        Err(_) => Ok(false),
     }
 }
 
-// Each allocation is the first to fail at some size.
+// Each allocation is the first to fail at some size; from one size on there is room.
 #[test]
 fn a_full_heap_leaves_the_content(rt: HostRuntime) -> Result<(), Fail> {
     let mut room = false;
     for blocks in 4..256usize {
         let heap = LocalHeap::new(rt.alloc(), blocks * 16)?;
-        let fitted = fits(&rt, &heap);
-        assert!(rt; fitted || !room);
-        room = fitted;
-        assert_eq!(rt; heap.used(), 0);
+        let answer = has_room(&heap);
+        assert!(rt; heap.used() == 0 && (answer == Ok(true) || answer.is_err() && !room));
+        room = answer.is_ok();
     }
     assert!(rt; room);
     Ok(())
 }
 
-#[test]
-fn a_million_first_nodes(rt: HostRuntime) -> Result<(), Fail> {
-    let zero = StopId::new(0);
-    let mut tree = PatternTree::new_in(rt.alloc(), zero);
+// Puts a million paths of one ride in.
+fn fill_to_the_limit(tree: &mut PatternTree) -> Result<(), TreeFault> {
     for board in 0..1000u16 {
         for alight in 0..1000u16 {
-            let path = [(StopId::new(board), StopId::new(alight))];
-            assert!(rt; tree.insert(&path, zero)?);
+            tree.insert(&[(StopId::new(board), StopId::new(alight))], stop(A))?;
         }
     }
-    let past = [(StopId::new(1000), zero)];
-    assert_eq!(rt; tree.insert(&past, zero), Err(TreeFault::TooLarge));
-    assert!(rt; !tree.contains(&past, zero));
-    let first = [(zero, zero)];
-    assert_eq!(rt; tree.insert(&first, zero), Ok(false));
-    assert!(rt; tree.insert(&first, StopId::new(1))?);
+    Ok(())
+}
+
+#[test]
+fn a_million_first_nodes(rt: HostRuntime) -> Result<(), Fail> {
+    let mut tree = PatternTree::new_in(rt.alloc(), stop(A));
+    fill_to_the_limit(&mut tree)?;
+    let past = [(StopId::new(1000), stop(A))];
+    assert_eq!(rt; tree.insert(&past, stop(A)), Err(TreeFault::TooLarge));
+    assert_eq!(rt; tree.insert(&[(stop(A), stop(A))], stop(B)), Ok(true));
     Ok(())
 }
 
 #[test]
 fn a_tree_can_be_made_of_no_nodes(rt: HostRuntime) {
-    let tree: PatternTree = PatternTree::from_nodes(StopId::new(B), 0, 0, Vec::new(rt.alloc()));
-    assert_eq!(rt; tree.source(), StopId::new(B));
-    assert_eq!(rt; tree.first().len(), 0);
+    let tree: PatternTree = PatternTree::from_nodes(stop(B), 0, 0, Vec::new(rt.alloc()));
+    assert!(rt; tree.source() == stop(B) && tree.first().is_empty());
 }
 
 #[test]

@@ -37,6 +37,15 @@ improves {table} {p} {q} {ready} {n} is leg serves lt here = record {
   ];
 }
 
+pub ride_is : (table : Table) (p q ready n : ℕ) (best : Option Leg) (earliest : ℕ) → IsBest table p q ready n best earliest
+    → IfSome best (Serves table p q ready)
+ride_is table p q ready n None earliest is = tt
+ride_is table p q ready n (Some leg) earliest is = is.attained.0
+
+-- one alights at a place that is there
+pub alights_within : (p q ready : ℕ) (calls : List Call) (i j : ℕ) → Hops p q ready calls i j → j < length calls
+alights_within p q ready calls i j hop = let f = there (slice_get calls j) hop.alights in slice_get_within calls j f.0 f.1
+
 pub best_is : (table : Table) (p q ready n : ℕ) (best : Option Leg) (earliest : ℕ) → ((leg : Leg) → Serves table p q ready leg → leg.instance < n)
     → IsBest table p q ready n best earliest
     → IfSome best (λ leg. (other : Leg) → Serves table p q ready other → arrives table leg ≤ arrives table other)
@@ -104,3 +113,12 @@ module _ (table : Table) (p q ready n : ℕ) (calls : List Call) (these : calls_
         subst (λ a. IsBest table p q ready (n + 1) (Some leg) a) e
         (improves is leg s (subst (λ a. a < earliest) (sym e) lt)
         (λ other same s. subst (λ a. a ≤ arrives table other) (sym e) (none_sooner other same s)))
+
+-- they are few
+pub few_read : (table : Table) → IsTable table → (runs : List Run) (n : ℕ) (run : Run) (calls : List Call) → runs ≡ table.instances → n < length runs
+    → run ≡ get_or runs n run → calls ≡ run.calls → length calls ≤ 65_535
+few_read table valid runs n run calls same in' is read =
+    let lt : n < length table.instances = omega (arith, in', ap (length {A = Run}) same) in
+    let at : run ≡ get_or table.instances n run = is ∙ ap (λ (rs : List Run). get_or rs n run) same in
+    let few = valid.runs n run lt in
+    omega (arith, few.few, ap (λ (r : Run). length r.calls) at, ap (length {A = Call}) read)

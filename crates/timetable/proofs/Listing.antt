@@ -1,6 +1,7 @@
 -- The list of instances as it grows: one trip after another, one day after another.
-use Rattle.std.proofs.Common.{◌≡◌, ℕ, zero, suc, ◌+◌, ◌*◌, ◌^◌, ◌<◌, ◌≤◌, Bool, true, false, List, [], ◌∷◌, ◌++◌, length, refl, ◌∙◌, ap, arith, add-one, min, slice_index, zip, inl, inr, zero-add}
-use Rattle.std.proofs.lemmas.Bool.{cases_Bool}
+use Rattle.std.proofs.Common.{◌≡◌, ℕ, zero, suc, ◌+◌, ◌*◌, ◌^◌, ◌<◌, ◌≤◌, Bool, true, false, List, [], ◌∷◌, ◌++◌, length, refl, ◌∙◌, ap, arith, add-one, min, slice_index, zip, inl, inr, zero-add, get_or, leb, ◌&&◌}
+use Rattle.std.proofs.lemmas.Bool.{cases_Bool, leb-true}
+use Rattle.std.proofs.lemmas.Option.{slice_get-get_or}
 use Rattle.std.proofs.lemmas.List.{length-map}
 use Rattle.std.proofs.lemmas.List.Sums.{sum_by-append}
 use Rattle.std.proofs.Math.Nat.{mul-le-mul_right}
@@ -9,6 +10,7 @@ use Rattle.gtfs_tables.specs.Tables.{TableValues, AreTables, calls_of}
 use Rattle.std.proofs.lemmas.List.FromFn.{length-map-range_with_len}
 use Rattle.gtfs_calls.specs.Times.{filled, times_at}
 use Rattle.gtfs_rows.specs.declared.values.StopTime.{StopTime}
+use Rattle.gtfs_rows.specs.declared.values.Trip.{Trip}
 use Rattle.service_days.specs.Cover.{CoverDays}
 use Rattle.timetable.specs.Table.{Run, call_count}
 use Rattle.timetable.specs.Instances.{instance_on, calls_from, call_from}
@@ -104,3 +106,21 @@ module _ (t : TableValues) (c : CoverDays) (running : List (List Bool)) where
   calls_due day trip e =
       ap call_count (listed_due t c running day trip e) ∙ (call_count-push (listed t c running day trip) (instance_on t c day trip)
       ∙ ap (λ n. call_count (listed t c running day trip) + n) (length-calls_from (slice_index c.starts day) (calls_of t trip)))
+
+-- whether there is an instance, by the row of the trip
+pub due_then : (t : TableValues) (running : List (List Bool)) (day trip : ℕ) (row : Trip) → trip < length t.trips
+    → get_or (get_or running (get_or t.trips trip row).service []) day false ≡ true → leb 2 (length (calls_of t trip)) ≡ is_due t running day trip
+due_then t running day trip row in' e = rw (slice_get-get_or t.trips trip row in') (rw e refl)
+
+pub due_else : (t : TableValues) (running : List (List Bool)) (day trip : ℕ) (row : Trip) → trip < length t.trips
+    → get_or (get_or running (get_or t.trips trip row).service []) day false ≡ false
+    → get_or (get_or running (get_or t.trips trip row).service []) day false ≡ is_due t running day trip
+due_else t running day trip row in' e = rw (slice_get-get_or t.trips trip row in') (rw e refl)
+
+-- a trip with an instance has two calls or more
+second : (a b : Bool) → (a && b) ≡ true → b ≡ true
+second true b e = e
+second false b e = cc
+
+pub due_several : (t : TableValues) (running : List (List Bool)) (day trip : ℕ) → is_due t running day trip ≡ true → 2 ≤ length (calls_of t trip)
+due_several t running day trip due = leb-true 2 (length (calls_of t trip)) (second _ (leb 2 (length (calls_of t trip))) due)

@@ -1,9 +1,9 @@
 -- The first place of an id among others.
-use Rattle.std.proofs.Common.{◌≡◌, ◌∙◌, sym, ap, refl, ℕ, ◌+◌, ◌<◌, ◌≤◌, arith, Bool, true, false, List, [], ◌∷◌, ◌++◌, length, take, get_or, Option, None, Some, cond, rules}
+use Rattle.std.proofs.Common.{◌≡◌, ◌∙◌, sym, ap, refl, ℕ, ◌+◌, ◌<◌, ◌≤◌, arith, Bool, true, false, List, [], ◌∷◌, ◌++◌, length, take, map, get_or, Option, None, Some, cond, rules}
 use Rattle.std.specs.Prelude.{is_some, IfSome}
 use Rattle.std.specs.List.{position_from}
 use Rattle.std.specs.Str.{bytes_eq}
-use Rattle.std.proofs.lemmas.List.{take_more, length-take}
+use Rattle.std.proofs.lemmas.List.{take_more, length-take, map_push}
 use Rattle.std.proofs.lemmas.Option.{none-some}
 use Rattle.std.proofs.lemmas.Slice.Eq.{bytes_eq-Decides}
 use Rattle.std.specs.Cmp.Lexicographic.{nat_list_eq_equiv}
@@ -69,3 +69,13 @@ position_more ids n text id below is =
     let more : take (n + 1) ids ≡ take n ids ++ text ∷ [] = take_more ids n text below ∙ ap (λ (t : List ℕ). take n ids ++ t ∷ []) (sym is) in
     let size : 0 + length (take n ids) ≡ n = omega (arith, length-take n ids, below) in
     ap (position_from (bytes_eq id) 0) more ∙ position_from-push (bytes_eq id) 0 (take n ids) text ∙ ap (found_or (position_from (bytes_eq id) 0 (take n ids)) (bytes_eq id text)) size
+
+-- one more of a list, each made of the one at its place
+pub map_taken : {X Y : Type 0} (f : X → Y) (xs : List X) (i : ℕ) (x : X) (ys zs : List Y) (y : Y) → i < length xs → x ≡ get_or xs i x
+    → ys ≡ map f (take i xs) → zs ≡ ys ++ y ∷ [] → y ≡ f x → zs ≡ map f (take (i + 1) xs)
+map_taken f xs i x ys zs y lt is so_far pushed made =
+    pushed
+    ∙ ap (λ l. l ++ y ∷ []) so_far
+    ∙ ap (λ w. map f (take i xs) ++ w ∷ []) (made ∙ ap f is)
+    ∙ sym (map_push f (take i xs) (get_or xs i x))
+    ∙ ap (map f) (sym (take_more xs i x lt))

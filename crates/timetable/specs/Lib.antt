@@ -11,5 +11,6 @@ pub mod Instances
 pub mod Running
 pub mod Transfers
 pub mod Answers
+pub mod Limits
 pub mod NameLists
 pub mod Names

@@ -1,15 +1,19 @@
 //! The timetable of a feed's tables.
 
-ghost use Rattle.std.specs.Prelude.{◌≡◌, ◌≤◌, ◌<◌, IfOk, OnErr, IfErr, length};
+ghost use Rattle.std.specs.Prelude.{◌≡◌, ℕ, ◌≤◌, IfOk, IfErr};
+ghost use Rattle.gtfs_tables.specs.Tables.{AreTables};
 ghost use Rattle.timetable.specs.Answers.{IsTimetable, IsFault};
+ghost use Rattle.timetable.specs.Index.{IsIndex};
+ghost use Rattle.timetable.specs.Limits.{IsFewInstances, AreFewWays, IsWaysFault};
+ghost use Rattle.timetable.specs.Running.{AreRunning};
 ghost use Rattle.gtfs_rows.specs.declared.fault.FaultKind.TheVariants.{TooMany};
 
 use crate::instances::{count_instances, list_instances};
 use crate::table::Timetable;
 use crate::transfers::TransferIndex;
-use crate::walks::{count_walks, list_walks};
+use crate::walks::{Ways, count_walks, list_walks};
 use gtfs_tables::{FaultKind, FeedFault, FeedFile, Tables};
-use service_days::Cover;
+use service_days::{Cover, Days};
 use std::alloc::Global;
 
 /// How many instances a timetable has at most.
@@ -35,6 +39,51 @@ fn too_many(file: FeedFile) -> FeedFault
     }
 }
 
+// How many instances there are, where neither they nor their calls are too many.
+fn few_instances(tables: &Tables, cover: &Cover, running: &[Days]) -> Result<usize, FeedFault>
+    requires valid { AreTables tables.now }
+    requires running { AreRunning tables.now cover.now running.now }
+    ensures ok { IfOk result (IsFewInstances tables.now cover.now running.now) }
+    ensures fault { IfErr result (λ fault. (default_walk : ℕ) → IsFault tables.now cover.now default_walk fault) }
+{
+    let counts = count_instances(tables, cover, running);
+    if counts.instances > MOST_INSTANCES {
+        return Err(too_many(FeedFile::Trips));
+    }
+    if counts.calls > MOST_CALLS {
+        return Err(too_many(FeedFile::StopTimes));
+    }
+    Ok(counts.instances)
+}
+
+// The walks and changes of all stops by the index of the tables, where the walks aren't too many.
+fn few_ways_by(
+    alloc: Global,
+    tables: &Tables,
+    index: &TransferIndex,
+    default_walk: u32,
+) -> Result<Ways, FeedFault>
+    requires index { IsIndex tables.now index.now }
+    requires short { default_walk ≤ 86_400 }
+    ensures ok { IfOk result (AreFewWays tables.now default_walk) }
+    ensures fault { IfErr result (IsWaysFault tables.now default_walk) }
+{
+    if count_walks(alloc, tables, index, default_walk)? > MOST_WALKS {
+        return Err(too_many(FeedFile::Transfers));
+    }
+    Ok(list_walks(alloc, tables, index, default_walk)?)
+}
+
+// The same, with an index made for it.
+fn few_ways(alloc: Global, tables: &Tables, default_walk: u32) -> Result<Ways, FeedFault>
+    requires { default_walk ≤ 86_400 }
+    ensures ok { IfOk result (AreFewWays tables.now default_walk) }
+    ensures fault { IfErr result (IsWaysFault tables.now default_walk) }
+{
+    let index = TransferIndex::new(alloc, tables)?;
+    few_ways_by(alloc, tables, &index, default_walk)
+}
+
 /// The timetable of the tables over the covered days. A transfer without a written time takes `default_walk` seconds.
 ///
 /// It fails with `TooMany`, row 0, where there are too many instances (of trips.txt), calls (of stop_times.txt) or
@@ -50,19 +99,9 @@ pub fn assemble(
     ensures fault { IfErr result (IsFault tables.now cover.now default_walk) }
 {
     let running = cover.running_days(alloc, tables)?;
-    let counts = count_instances(tables, cover, &running);
-    if counts.instances > MOST_INSTANCES {
-        return Err(too_many(FeedFile::Trips));
-    }
-    if counts.calls > MOST_CALLS {
-        return Err(too_many(FeedFile::StopTimes));
-    }
-    let index = TransferIndex::new(alloc, tables)?;
-    if count_walks(alloc, tables, &index, default_walk)? > MOST_WALKS {
-        return Err(too_many(FeedFile::Transfers));
-    }
-    let ways = list_walks(alloc, tables, &index, default_walk)?;
-    let instances = list_instances(alloc, tables, cover, &running, counts.instances)?;
+    let count = few_instances(tables, cover, &running)?;
+    let ways = few_ways(alloc, tables, default_walk)?;
+    let instances = list_instances(alloc, tables, cover, &running, count)?;
     let horizon = cover.day_start(cover.days() - 1) + LONGEST_TIME;
     Ok(Timetable::new(horizon, ways.changes, ways.walks, instances))
 }

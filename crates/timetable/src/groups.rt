@@ -7,12 +7,12 @@ use std::alloc::{AllocError, Global};
 use std::marker::Model;
 
 /// Items by group, each group's in the order in which they were put in. Groups are numbered from 0.
-#[derive(Debug, Drop)]
+#[derive(Drop)]
 pub struct Groups<T> {
     groups: Vec<Group<T>>,
 }
 
-#[derive(Debug, Drop)]
+#[derive(Drop)]
 struct Group<T> {
     items: Vec<T>,
 }

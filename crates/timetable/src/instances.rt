@@ -15,7 +15,7 @@ use service_days::{Cover, Days};
 use std::alloc::{AllocError, Global};
 
 /// How many instances there are, and how many calls they have.
-#[derive(Clone, Copy, Debug)]
+#[derive(Clone, Copy)]
 pub struct Counts {
     pub instances: usize,
     pub calls: usize,

@@ -26,62 +26,43 @@ pub enum Place<'a> {
 // The place of each id among others: the first where there are several.
 type Numbers = IndexMap<String, usize, RandomState>;
 
+// Ids in their order, and the place of each.
+struct Ids {
+    ids: Vec<Id>,
+    numbers: Numbers,
+}
+
+impl Model for Ids {
+    ghost use Rattle.std.specs.Prelude.{◌≡◌, ℕ, List};
+    ghost use Rattle.std.specs.List.{position_from};
+    ghost use Rattle.std.specs.HashMap.{get_by_text};
+    ghost use Rattle.std.specs.Str.{bytes_eq};
+
+    ghost Value = { List (List ℕ) };
+
+    ghost view = { λ a. a.ids.items };
+
+    ghost invariant = { λ a. (id : List ℕ) → get_by_text a.numbers id ≡ position_from (bytes_eq id) 0 a.ids.items };
+}
+
 /// The ids of a feed's stops, stations and trips.
 #[derive(Drop)]
 pub struct Names {
-    stops: Vec<Id>,
-    stations: Vec<Id>,
+    stops: Ids,
+    stations: Ids,
     trips: Vec<Id>,
-    stop_numbers: Numbers,
-    station_numbers: Numbers,
     children: Groups<StopId>,
 }
 
 impl Model for Names {
-    ghost use Rattle.std.specs.Prelude.{◌≡◌, ◌≤◌, ℕ, List, length};
-    ghost use Rattle.std.specs.List.{position_from};
-    ghost use Rattle.std.specs.HashMap.{get_by_text};
-    ghost use Rattle.std.specs.Str.{bytes_eq};
+    ghost use Rattle.std.specs.Prelude.{◌≤◌, length};
     ghost use Rattle.timetable.specs.NameLists.{NameLists};
 
     ghost Value = { NameLists };
 
-    ghost view = { λ a. record { stops = a.stops.items; stations = a.stations.items; trips = a.trips.items; children = a.children } };
+    ghost view = { λ a. record { stops = a.stops; stations = a.stations; trips = a.trips.items; children = a.children } };
 
-    ghost invariant = { λ a. (length a.stops.items ≤ 65_534)
-        × ((id : List ℕ) → get_by_text a.stop_numbers id ≡ position_from (bytes_eq id) 0 a.stops.items)
-        × ((id : List ℕ) → get_by_text a.station_numbers id ≡ position_from (bytes_eq id) 0 a.stations.items) };
-}
-
-fn stop_ids(alloc: Global, tables: &Tables) -> Result<Vec<Id>, AllocError>
-    ensures ids { IfOk result (λ ids. ids.items ≡ map (λ stop. stop.id) tables.now.stops) }
-    ensures few { IfOk result (λ ids. length ids.items ≤ 65_534) }
-{
-    let mut ids = Vec::with_capacity(alloc, tables.stops().len())?;
-    for stop in tables.stops() {
-        ids.push(Id::new(alloc, stop.id.as_str())?)?;
-    }
-    Ok(ids)
-}
-
-fn station_ids(alloc: Global, tables: &Tables) -> Result<Vec<Id>, AllocError>
-    ensures { IfOk result (λ ids. ids.items ≡ map (λ station. station.id) tables.now.stations) }
-{
-    let mut ids = Vec::with_capacity(alloc, tables.stations().len())?;
-    for station in tables.stations() {
-        ids.push(Id::new(alloc, station.id.as_str())?)?;
-    }
-    Ok(ids)
-}
-
-fn trip_ids(alloc: Global, tables: &Tables) -> Result<Vec<Id>, AllocError>
-    ensures { IfOk result (λ ids. ids.items ≡ map (λ trip. trip.id) tables.now.trips) }
-{
-    let mut ids = Vec::with_capacity(alloc, tables.trips().len())?;
-    for trip in tables.trips() {
-        ids.push(Id::new(alloc, trip.id.as_str())?)?;
-    }
-    Ok(ids)
+    ghost invariant = { λ a. length a.stops ≤ 65_534 };
 }
 
 fn numbers_of(alloc: Global, keys: RandomState, ids: &[Id]) -> Result<Numbers, AllocError>
@@ -97,23 +78,80 @@ fn numbers_of(alloc: Global, keys: RandomState, ids: &[Id]) -> Result<Numbers, A
     Ok(numbers)
 }
 
+impl Drop for Ids {
+    fn drop(self) {
+        let Ids { ids: _, numbers: _ } = self;
+    }
+}
+
+impl Ids {
+    fn new(alloc: Global, keys: RandomState, ids: Vec<Id>) -> Result<Ids, AllocError>
+        ensures { IfOk result (λ made. made ≡ ids.items) }
+    {
+        let numbers = numbers_of(alloc, keys, &ids)?;
+        Ok(Ids { ids, numbers })
+    }
+
+    // The place of an id.
+    fn number(&self, id: &str) -> Option<usize>
+        ensures { result ≡ position_from (bytes_eq id.now) 0 self.now }
+    {
+        self.numbers.get(id).copied()
+    }
+
+    // The id at a place.
+    fn id(&self, number: usize) -> &str
+        requires { number < length self.now }
+        ensures { result.now ≡ slice_index_or self.now number [] }
+    {
+        self.ids[number].as_str()
+    }
+}
+
+fn stop_ids(alloc: Global, keys: RandomState, tables: &Tables) -> Result<Ids, AllocError>
+    ensures ids { IfOk result (λ ids. ids ≡ map (λ stop. stop.id) tables.now.stops) }
+    ensures few { IfOk result (λ ids. length ids ≤ 65_534) }
+{
+    let mut ids = Vec::with_capacity(alloc, tables.stops().len())?;
+    for stop in tables.stops() {
+        ids.push(Id::new(alloc, stop.id.as_str())?)?;
+    }
+    Ids::new(alloc, keys, ids)
+}
+
+fn station_ids(alloc: Global, keys: RandomState, tables: &Tables) -> Result<Ids, AllocError>
+    ensures { IfOk result (λ ids. ids ≡ map (λ station. station.id) tables.now.stations) }
+{
+    let mut ids = Vec::with_capacity(alloc, tables.stations().len())?;
+    for station in tables.stations() {
+        ids.push(Id::new(alloc, station.id.as_str())?)?;
+    }
+    Ids::new(alloc, keys, ids)
+}
+
+fn trip_ids(alloc: Global, tables: &Tables) -> Result<Vec<Id>, AllocError>
+    ensures { IfOk result (λ ids. ids.items ≡ map (λ trip. trip.id) tables.now.trips) }
+{
+    let mut ids = Vec::with_capacity(alloc, tables.trips().len())?;
+    for trip in tables.trips() {
+        ids.push(Id::new(alloc, trip.id.as_str())?)?;
+    }
+    Ok(ids)
+}
+
 impl Names {
     /// The names of these tables. Ids are looked up under `keys`, which nobody who writes a feed can know.
     pub fn of(alloc: Global, keys: RandomState, tables: &Tables) -> Result<Names, AllocError>
         ensures { IfOk result (AreNamesOf tables.now) }
     {
-        let stops = stop_ids(alloc, tables)?;
-        let stations = station_ids(alloc, tables)?;
+        let stops = stop_ids(alloc, keys, tables)?;
+        let stations = station_ids(alloc, keys, tables)?;
         let trips = trip_ids(alloc, tables)?;
-        let stop_numbers = numbers_of(alloc, keys, &stops)?;
-        let station_numbers = numbers_of(alloc, keys, &stations)?;
         let children = stops_by_station(alloc, tables)?;
         Ok(Names {
             stops,
             stations,
             trips,
-            stop_numbers,
-            station_numbers,
             children,
         })
     }
@@ -123,7 +161,7 @@ impl Names {
         requires { stop < length self.now.stops }
         ensures { result.now ≡ slice_index_or self.now.stops stop [] }
     {
-        self.stops[stop.number()].as_str()
+        self.stops.id(stop.number())
     }
 
     /// The id of a trip, by its number.
@@ -139,8 +177,8 @@ impl Names {
         ensures value { result ≡ stop_named self.now id.now }
         ensures known { IfSome result (λ stop. stop < length self.now.stops) }
     {
-        match self.stop_numbers.get(id) {
-            Some(number) => Some(StopId::new(*number as u16)),
+        match self.stops.number(id) {
+            Some(number) => Some(StopId::new(number as u16)),
             None => None,
         }
     }
@@ -152,8 +190,8 @@ impl Names {
         if let Some(stop) = self.stop_named(id) {
             return Some(Place::Stop(stop));
         }
-        match self.station_numbers.get(id) {
-            Some(number) => Some(Place::Station(self.children.of(*number))),
+        match self.stations.number(id) {
+            Some(number) => Some(Place::Station(self.children.of(number))),
             None => None,
         }
     }

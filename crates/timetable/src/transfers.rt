@@ -16,7 +16,7 @@ use std::alloc::{AllocError, Global};
 use std::collections::BTreeMap;
 
 /// The rows of transfers.txt by the place that they lead from, and the stops of each station.
-#[derive(Debug, Drop)]
+#[derive(Drop)]
 pub struct TransferIndex {
     from_stop: Groups<u32>,
     from_station: Groups<u32>,
@@ -61,7 +61,7 @@ impl TransferIndex {
 }
 
 /// A row of transfers.txt, with its place in the file, counted from 0.
-#[derive(Clone, Copy, Debug)]
+#[derive(Clone, Copy)]
 pub struct Row {
     pub number: u32,
     pub transfer: Transfer,

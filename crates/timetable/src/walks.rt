@@ -4,8 +4,9 @@ ghost use Rattle.std.specs.Prelude.{◌≡◌, ◌≤◌, ◌<◌, IfOk, ℕ, Li
 ghost use Rattle.std.specs.List.{All};
 ghost use Rattle.std.specs.Ordering.{nat_cmp};
 ghost use Rattle.std.specs.BTreeMap.{get, IsOrdered};
-ghost use Rattle.timetable.specs.Table.{walk_count, IsRow};
-ghost use Rattle.timetable.specs.Transfers.{seconds_of, AreWalks, AreChanges};
+ghost use Rattle.gtfs_tables.specs.Tables.{AreTables};
+ghost use Rattle.timetable.specs.Table.{walk_count};
+ghost use Rattle.timetable.specs.Transfers.{seconds_of, AreWalks, AreChanges, IsRowFrom, IsChange};
 ghost use Rattle.timetable.specs.Winners.{change_by, walk_by, walks_by};
 ghost use Rattle.timetable.specs.Index.{IsIndex};
 ghost use Rattle.timetable.specs.declared.parts.Walk.{Walk as WalkData};
@@ -71,6 +72,26 @@ fn walks_from(
     Ok(walks)
 }
 
+// The walks from a stop, and the change at it.
+fn ways_from(
+    alloc: Global,
+    tables: &Tables,
+    index: &TransferIndex,
+    default_walk: u32,
+    from: usize,
+) -> Result<(Vec<Walk>, Option<u32>), AllocError>
+    requires valid { AreTables tables.now }
+    requires from { from < length tables.now.stops }
+    requires index { IsIndex tables.now index.now }
+    requires short { default_walk ≤ 86_400 }
+    ensures { IfOk result (λ ways. IsRowFrom tables.now default_walk from ways.0.items × IsChange tables.now default_walk from ways.1) }
+{
+    let winners = index.winners(alloc, tables, from)?;
+    let walks = walks_from(alloc, &winners, default_walk, from)?;
+    let change = change_at(&winners, default_walk, from);
+    Ok((walks, change))
+}
+
 /// How many walks there are.
 pub fn count_walks(
     alloc: Global,
@@ -84,14 +105,14 @@ pub fn count_walks(
 {
     let mut count = 0;
     for stop in 0..tables.stops().len() {
-        let winners = index.winners(alloc, tables, stop)?;
-        count += walks_from(alloc, &winners, default_walk, stop)?.len();
+        let (row, _) = ways_from(alloc, tables, index, default_walk, stop)?;
+        count += row.len();
     }
     Ok(count)
 }
 
 /// The walks from each stop, and the change at it.
-#[derive(Debug, Drop)]
+#[derive(Drop)]
 pub struct Ways {
     pub walks: Vec<Walks>,
     pub changes: Vec<Option<u32>>,
@@ -113,10 +134,9 @@ pub fn list_walks(
     let mut walks = Vec::with_capacity(alloc, stops)?;
     let mut changes = Vec::with_capacity(alloc, stops)?;
     for stop in 0..stops {
-        let winners = index.winners(alloc, tables, stop)?;
-        let row = walks_from(alloc, &winners, default_walk, stop)?;
+        let (row, change) = ways_from(alloc, tables, index, default_walk, stop)?;
         walks.push(Walks::new(row))?;
-        changes.push(change_at(&winners, default_walk, stop))?;
+        changes.push(change)?;
     }
     Ok(Ways { walks, changes })
 }

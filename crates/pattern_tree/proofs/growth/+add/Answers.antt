@@ -76,3 +76,15 @@ returns-in_err-add-in-Some-clause-err g t c =
     let lt : c.in-Ok.at < length ns = omega (arith, at.0, length-map ns branch) in
     let e = same_level ns c.in-Ok.at n _ c.index_mut-node.ensures.value lt (with_next _ n c.add.new.level (branch n).next (ap forest c.in_err-add-in-Some.ensures.err ∙ sym (next_out _ n))) in
     on_err_always _ e
+
+pub insert-requires : goal.insert-requires
+insert-requires g t c =
+    let ns = c.args.level.now.items in
+    let gap : IsGapAt (branches ns) c.args.step.now c.in-Err.at = rw (← c.deref.ensures.value) c.in-Err.ensures in
+    omega (arith, gap.0, length-map ns branch)
+
+pub index_mut-node-requires : goal.index_mut-node-requires
+index_mut-node-requires g t c =
+    let ns = c.args.level.now.items in
+    let at : IsStepAt (branches ns) c.args.step.now c.in-Ok.at = rw (← c.deref.ensures.value) c.in-Ok.ensures in
+    omega (arith, at.0, length-map ns branch)

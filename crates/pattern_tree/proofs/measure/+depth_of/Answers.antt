@@ -1,8 +1,9 @@
-use Rattle.std.proofs.Common.{◌≡◌, ◌≤◌, ◌+◌, max, arith, subst, rules}
-use Rattle.pattern_tree.specs.Forest.{Forest, forest, levels}
+use Rattle.std.proofs.Common.{◌≡◌, ◌≤◌, ◌+◌, max, arith, subst, rules, ap, List, ◌∙◌}
+use Rattle.pattern_tree.specs.Forest.{Forest, forest, levels, Branch}
 use Rattle.pattern_tree.specs.Branch.{branch, branches}
 use Rattle.pattern_tree.proofs.NodeFacts.{next_out}
 use Rattle.pattern_tree.proofs.WalkFacts.{levels_at, levels_more}
+use Rattle.std.proofs.lemmas.List.{take_all, length-map}
 use Rattle.pattern_tree.proofs.measure.+depth_of.Goals as goal
 
 pub depth_of-requires : goal.depth_of-requires
@@ -29,3 +30,17 @@ loop-node-preserved g t c =
     let more = levels_more c.args.level.now i n c.node-item.is c.loop-node-test.true in
     let deepest : c.max-deepest.result ≡ max c.loop-node.deepest (c.depth_of.result + 1) = grind arith in
     omega (arith, deepest, same, more, c.loop-node.invariant)
+
+pub offset_bounds-level-node-index : goal.offset_bounds-level-node-index
+offset_bounds-level-node-index g t c = omega (arith, c.loop-node-test.true)
+
+pub bounds-level-node-index : goal.bounds-level-node-index
+bounds-level-node-index g t c = omega (arith, c.loop-node-test.true)
+
+pub loop-node-smaller : goal.loop-node-smaller
+loop-node-smaller g t c = omega (arith, c.loop-node-test.true)
+
+pub returns : goal.returns
+returns g t c =
+    let all = take_all c.loop-node.node-index (branches c.args.level.now) (omega (arith, c.loop-node-test.false, length-map c.args.level.now branch)) in
+    c.loop-node.invariant ∙ ap (λ (bs : List Branch). levels (forest bs)) all

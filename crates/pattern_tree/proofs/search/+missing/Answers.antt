@@ -37,3 +37,18 @@ returns-clause-count g t c =
     let found = missing_at bs c.args.step.now c.in-Some.below.now q c.in-Ok.at (branch n) (steps_rise bs c.requires.ordered) c.in-Ok.ensures in
     let below : c.missing.result ≡ missing_count c.in-Some.below.now q (branch n).next = rw (next_out _ n, c.index-level-at.is, ← c.deref.ensures.value) c.missing.ensures.count in
     rw c.in-Some.ensures.cases.0 (below ∙ ap (λ (b : Branch). missing_count c.in-Some.below.now q b.next) (sym same) ∙ sym found)
+
+pub returns-in_default-clause-bound : goal.returns-in_default-clause-bound
+returns-in_default-clause-bound g t c = omega arith
+
+pub returns-in_default-split_first-clause-bound : goal.returns-in_default-split_first-clause-bound
+returns-in_default-split_first-clause-bound g t c = omega arith
+
+pub offset_bounds-level-at : goal.offset_bounds-level-at
+offset_bounds-level-at g t c = omega (arith, c.in-Ok.ensures.0, length-map c.args.level.now branch)
+
+pub bounds-level-at : goal.bounds-level-at
+bounds-level-at g t c = omega (arith, c.in-Ok.ensures.0, length-map c.args.level.now branch)
+
+pub returns-clause-bound : goal.returns-clause-bound
+returns-clause-bound g t c = omega (arith, c.missing.ensures.bound, c.in-Some.ensures.cases.1)

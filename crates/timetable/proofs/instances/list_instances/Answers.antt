@@ -4,8 +4,8 @@ use Rattle.gtfs_tables.specs.Tables.{calls_of}
 use Rattle.gtfs_rows.specs.declared.values.Trip.{Trip}
 use Rattle.timetable.specs.Table.{Run, IsRun}
 use Rattle.timetable.specs.Instances.{instance_on, calls_from}
-use Rattle.timetable.specs.Running.{listed}
-use Rattle.timetable.proofs.Listing.{listed_due, listed_not, listed_day}
+use Rattle.timetable.specs.Running.{listed, listed_before}
+use Rattle.timetable.proofs.Listing.{listed_due, listed_not, listed_day, due_several}
 use Rattle.timetable.proofs.Shifting.{same_run}
 use Rattle.timetable.proofs.instances.list_instances.Goals as goal
 use Rattle.timetable.proofs.instances.list_instances.Goals.{then-is_due+in_ok-calls+in_ok-push, else-is_due}
@@ -40,3 +40,33 @@ loop-day-preserved c =
           ∙ sym (listed_day c.args.tables.now c.args.cover.now c.args.running.now c.loop-day.day));
       runs = c.loop-trip.invariant.runs;
     }
+
+pub loop-trip-init : goal.loop-trip-init
+loop-trip-init c = record { listed = c.loop-day.invariant.listed; runs = c.loop-day.invariant.runs }
+
+pub is_due-requires-clause-trip : goal.is_due-requires-clause-trip
+is_due-requires-clause-trip c = omega (arith, c.loop-trip-test.true, ap (length {A = Trip}) c.trips-trip-end.ensures.value)
+
+pub is_due-requires-clause-day : goal.is_due-requires-clause-day
+is_due-requires-clause-day c = omega (arith, c.loop-day-test.true, c.days-day-end.ensures.within)
+
+pub is_due-requires-clause-services : goal.is_due-requires-clause-services
+is_due-requires-clause-services c = c.requires.count
+
+pub calls_on-requires-clause-trip : goal.calls_on-requires-clause-trip
+calls_on-requires-clause-trip c = omega (arith, c.loop-trip-test.true, ap (length {A = Trip}) c.trips-trip-end.ensures.value)
+
+pub calls_on-requires-clause-several : goal.calls_on-requires-clause-several
+calls_on-requires-clause-several c =
+    due_several c.args.tables.now c.args.running.now c.loop-day.day c.loop-trip.trip (sym c.is_due.ensures ∙ c.if-is_due.true)
+
+pub calls_on-requires-clause-start : goal.calls_on-requires-clause-start
+calls_on-requires-clause-start c = omega (arith, c.day_start-start.ensures.bound, c.loop-day-test.true, c.days-day-end.ensures.within)
+
+pub returns-clause-listed : goal.returns-clause-listed
+returns-clause-listed c =
+    let all : c.loop-day.day ≡ length c.args.cover.now.starts = omega (arith, c.loop-day-test.false, c.loop-day.auto.day-end, c.days-day-end.ensures.count) in
+    c.loop-day.invariant.listed ∙ ap (listed_before c.args.tables.now c.args.cover.now c.args.running.now) all
+
+pub returns-clause-runs : goal.returns-clause-runs
+returns-clause-runs c = c.loop-day.invariant.runs

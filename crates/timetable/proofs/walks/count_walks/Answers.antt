@@ -2,24 +2,18 @@ use Rattle.std.proofs.Common.{◌≡◌, ◌+◌, ◌<◌, ◌≤◌, ◌++◌, 
 use Rattle.gtfs_rows.specs.declared.values.Stop.{Stop}
 use Rattle.timetable.specs.Transfers.{IsRowFrom}
 use Rattle.timetable.proofs.Growing.{each_push, length-push}
-use Rattle.timetable.proofs.RowSteps.{keys_fit, row_from, few_walks, walk_count-push}
+use Rattle.timetable.proofs.RowSteps.{few_walks, walk_count-push}
 use Rattle.timetable.proofs.walks.count_walks.Goals as goal
-
-pub walks_from-requires : goal.walks_from-requires
-walks_from-requires c =
-    keys_fit c.args.tables.now c.stops-stop-end.ensures.valid c.args.default_walk c.requires.short c.loop-stop.stop c.in_ok-winners.winners c.in_ok-winners.ensures
 
 pub loop-stop-preserved : goal.loop-stop-preserved
 loop-stop-preserved c =
     let t = c.args.tables.now in
     let valid = c.stops-stop-end.ensures.valid in
     let old = c.loop-stop.invariant.rows in
-    let row = c.in_ok-walks_from.field-0.items in
-    let is : IsRowFrom t c.args.default_walk c.loop-stop.stop row =
-    subst (IsRowFrom t c.args.default_walk c.loop-stop.stop) (sym c.in_ok-walks_from.ensures.walks)
-    (row_from t valid c.args.default_walk c.requires.short c.loop-stop.stop c.in_ok-winners.winners c.in_ok-winners.ensures c.in_ok-walks_from.ensures.ordered) in
+    let row = c.in_ok-row.row.items in
+    let is : IsRowFrom t c.args.default_walk c.loop-stop.stop row = c.in_ok-row.ensures.0 in
     let few : length row ≤ 65_534 = let a = few_walks t valid c.args.default_walk c.requires.short c.loop-stop.stop row is in let b = valid.few_stops in omega (arith, a, b) in
-    let n : c.len.result ≡ length row = omega (arith, c.len.ensures) in
+    let n : c.len-count.result ≡ length row = omega (arith, c.len-count.ensures) in
     record {
       few = omega (arith, c.loop-stop.invariant.few, few, n);
       rows = (

@@ -139,3 +139,30 @@ returns-then-fresh-self-clause-there g c there =
     let seen : pairs f ≡ c.args.self.now.pairs = ap (λ (v : Content). v.pairs) c.self.view_is in
     let found = found_pairs c.args.path.now c.args.end f c.args.self.now.pairs c.holds.result seen (rw (← c.deref.ensures.value) c.holds.ensures) in
     absurd (not_both c.holds.result c.if-holds.false (found.1 there))
+
+pub returns-in_default-clause-new : goal.returns-in_default-clause-new
+returns-in_default-clause-new g c = absurd (omega (arith, c.in_default.ensures.cases, c.requires.some))
+
+pub returns-in_default-clause-added : goal.returns-in_default-clause-added
+returns-in_default-clause-added g c = absurd (omega (arith, c.in_default.ensures.cases, c.requires.some))
+
+pub returns-in_default-clause-large : goal.returns-in_default-clause-large
+returns-in_default-clause-large g c = absurd (omega (arith, c.in_default.ensures.cases, c.requires.some))
+
+pub returns-in_default-clause-once : goal.returns-in_default-clause-once
+returns-in_default-clause-once g c = absurd (omega (arith, c.in_default.ensures.cases, c.requires.some))
+
+pub holds-requires : goal.holds-requires
+holds-requires g c = rw c.deref.ensures.value c.self.invariant.ordered
+
+pub missing-fresh-requires-clause-ordered : goal.missing-fresh-requires-clause-ordered
+missing-fresh-requires-clause-ordered g c = rw c.deref-2.ensures.value c.self.invariant.ordered
+
+pub missing-fresh-requires-clause-short : goal.missing-fresh-requires-clause-short
+missing-fresh-requires-clause-short g c = omega (arith, c.requires.short, c.in-Some.ensures.cases.1)
+
+pub overflow_sub-self-inside : goal.overflow_sub-self-inside
+overflow_sub-self-inside g c = c.self.invariant.few_nodes
+
+pub add-requires : goal.add-requires
+add-requires g c = c.self.invariant.ordered

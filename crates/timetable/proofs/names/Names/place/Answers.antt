@@ -3,12 +3,12 @@ use Rattle.timetable.specs.NameLists.{NameLists}
 use Rattle.timetable.specs.Names.{stop_named}
 use Rattle.timetable.proofs.names.Names.place.Goals as goal
 
-pub returns-in-Some-get : goal.returns-in-Some-get
-returns-in-Some-get c =
+pub returns-in-Some-number : goal.returns-in-Some-number
+returns-in-Some-number c =
     let none : stop_named c.args.self.now c.args.id.now ≡ None = sym c.stop_named.ensures.value ∙ c.in_default.is in
     rw (← c.self.view_is) (
       ap (λ (names : NameLists). stop_named names c.args.id.now) c.self.view_is ∙ none,
-      c.in-Some-get.number.now,
-      sym (c.self.invariant.2 c.args.id.now) ∙ sym c.in-Some-get.ensures.value,
+      c.in-Some-number.number,
+      sym c.number.ensures ∙ c.in-Some-number.is,
       c.of.ensures,
     )

@@ -14,14 +14,14 @@ known stops id n e = below (position_from (bytes_eq id) 0 stops) (length stops) 
 
 pub overflow_cast-number : goal.overflow_cast-number
 overflow_cast-number c =
-    let here = known c.self.inside.stops.items c.args.id.now c.in-Some.number.now (sym (c.self.invariant.1 c.args.id.now) ∙ sym c.in-Some.ensures.value) in
-    omega (arith, here, c.self.invariant.0)
+    let here = known c.self.inside.stops c.args.id.now c.in-Some.number (sym c.number.ensures ∙ c.in-Some.is) in
+    omega (arith, here, c.self.invariant)
 
 pub new-requires : goal.new-requires
 new-requires c =
-    let here = known c.self.inside.stops.items c.args.id.now c.in-Some.number.now (sym (c.self.invariant.1 c.args.id.now) ∙ sym c.in-Some.ensures.value) in
-    omega (arith, here, c.self.invariant.0)
+    let here = known c.self.inside.stops c.args.id.now c.in-Some.number (sym c.number.ensures ∙ c.in-Some.is) in
+    omega (arith, here, c.self.invariant)
 
 pub returns-in-Some-clause-known : goal.returns-in-Some-clause-known
 returns-in-Some-clause-known c =
-    rw (c.new.ensures, ← c.self.view_is) (known c.self.inside.stops.items c.args.id.now c.in-Some.number.now (sym (c.self.invariant.1 c.args.id.now) ∙ sym c.in-Some.ensures.value))
+    rw (c.new.ensures, ← c.self.view_is) (known c.self.inside.stops c.args.id.now c.in-Some.number (sym c.number.ensures ∙ c.in-Some.is))
