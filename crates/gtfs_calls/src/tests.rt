@@ -27,6 +27,25 @@ fn texts(
     Ok(texts)
 }
 
+// Reads a file over these stops and trips.
+fn read_over(
+    alloc: Global,
+    keys: RandomState,
+    file: Option<&[u8]>,
+    trip: usize,
+    stops: &Texts<'_>,
+    trips: &Texts<'_>,
+) -> Result<OneTrip, FeedFault> {
+    if stops.len() > 65_534 || trips.len() > 999_999_999 || trip >= trips.len() {
+        return Err(FeedFault::new(FaultKind::MissingFile, FeedFile::Stops, trip));
+    }
+    let rows = read_stop_times(alloc, keys, file, stops, trips)?;
+    Ok(OneTrip {
+        calls: rows.calls.of(trip).to_vec(alloc)?,
+        skipped: rows.skipped,
+    })
+}
+
 // Reads a file over the stops A to D and the trips T1 to T3.
 fn read_file(
     alloc: Global,
@@ -36,14 +55,7 @@ fn read_file(
 ) -> Result<OneTrip, FeedFault> {
     let stops = texts(alloc, keys, &["A", "B", "C", "D"])?;
     let trips = texts(alloc, keys, &["T1", "T2", "T3"])?;
-    if stops.len() > 65_534 || trips.len() > 999_999_999 || trip >= trips.len() {
-        return Err(FeedFault::new(FaultKind::MissingFile, FeedFile::Stops, trip));
-    }
-    let rows = read_stop_times(alloc, keys, file, &stops, &trips)?;
-    Ok(OneTrip {
-        calls: rows.calls.of(trip).to_vec(alloc)?,
-        skipped: rows.skipped,
-    })
+    read_over(alloc, keys, file, trip, &stops, &trips)
 }
 
 // Reads rows behind a header of all columns.
