@@ -205,6 +205,25 @@ fn read_connections<R: Read + Drop>(
     })
 }
 
+// The connections, under ids that nobody needs behind them.
+fn connections_of<R: Read + Drop>(
+    alloc: Global,
+    keys: RandomState,
+    files: ScheduleFiles<R>,
+    transfers: Option<R>,
+    ids: StopIds<'_>,
+) -> Result<Connections, FeedFault>
+    requires stops { length ids.stops.keys ≤ 65_534 }
+    requires stations { length ids.stations.keys ≤ 999_999_999 }
+    ensures connections { (bytes : ScheduleBytes) (links : Option (List ℕ)) → AreScheduleReaders R.remaining files bytes
+        → IsContent R.remaining transfers links
+        → Answers connections_in result (connection_tests (lists_in ids.entry) bytes links)
+        (connection_values (lists_in ids.entry) bytes links) }
+    ensures valid { IfOk result (AreConnections (length ids.entry.stops.keys) (length ids.entry.stations.keys)) }
+{
+    read_connections(alloc, keys, files, transfers, &ids)
+}
+
 // What was read of all files.
 #[derive(Drop)]
 struct FeedRows {
@@ -234,7 +253,7 @@ fn read_rows<R: Read + Drop>(
         stations,
         ids,
     } = read_stops(alloc, keys, &sheet)?;
-    let connections = read_connections(alloc, keys, schedule_files, files.transfers, &ids)?;
+    let connections = connections_of(alloc, keys, schedule_files, files.transfers, ids)?;
     Ok(FeedRows {
         stops,
         stations,

@@ -15,11 +15,11 @@ returns-in_err-stops-clause-rows g c = λ feed h.
     let f = c.in_err-stops.field-0.0 in
     rw (p.1, p.2) (stops_fail f.kind f feed c.in_ok-sheet.sheet (c.in_ok-sheet.ensures feed.stops h.stops) c.in_err-stops.ensures.stops)
 
-pub read_connections-requires-clause-stops : goal.read_connections-requires-clause-stops
-read_connections-requires-clause-stops g c = rw c.in_ok-stops.ensures.stop_ids c.in_ok-stops.ensures.few
+pub connections_of-requires-clause-stops : goal.connections_of-requires-clause-stops
+connections_of-requires-clause-stops g c = rw c.in_ok-stops.ensures.stop_ids c.in_ok-stops.ensures.few
 
-pub read_connections-requires-clause-stations : goal.read_connections-requires-clause-stations
-read_connections-requires-clause-stations g c = rw c.in_ok-stops.ensures.station_ids c.in_ok-stops.ensures.few_stations
+pub connections_of-requires-clause-stations : goal.connections_of-requires-clause-stations
+connections_of-requires-clause-stations g c = rw c.in_ok-stops.ensures.station_ids c.in_ok-stops.ensures.few_stations
 
 pub returns-in_err-connections-clause-rows : goal.returns-in_err-connections-clause-rows
 returns-in_err-connections-clause-rows g c = λ feed h.
