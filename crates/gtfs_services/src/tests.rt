@@ -63,40 +63,61 @@ fn trips_of(alloc: Global, keys: RandomState, file: &[u8]) -> Result<usize, Feed
     }
 }
 
-fn ymd(date: Date) -> (i16, i8, i8) {
+// A year, a month and a day.
+type Day = (i16, i8, i8);
+
+fn ymd(date: Date) -> Day {
     (date.year(), date.month(), date.day())
 }
+
+const TRIPS: [(&[u8], Place); 5] = [
+    (b"trip_id,service_id\nT1,WK\n,\nT2,WK\n", None),
+    (b"trip_id\nT1\nT1\n", Some((FaultKind::MissingColumn, 0))),
+    (
+        b"trip_id,service_id\nT1,WK\n,\n,WK\n",
+        Some((FaultKind::BadField, 3)),
+    ),
+    (
+        b"trip_id,service_id\nT1,WK\nT2,WK\nT1,\n",
+        Some((FaultKind::DuplicateKey, 3)),
+    ),
+    (
+        b"trip_id,service_id\nT1,WK\nT2,\n",
+        Some((FaultKind::BadField, 2)),
+    ),
+];
 
 #[test]
 fn trips(rt: HostRuntime) -> Result<(), Fail> {
     let keys = RandomState::new(&rt).ok().ok_or("keys")?;
-    let cases = [
-        (b"trip_id,service_id\nT1,WK\n,\nT2,WK\n".as_slice(), None),
-        (
-            b"trip_id\nT1\nT1\n".as_slice(),
-            Some((FaultKind::MissingColumn, 0)),
-        ),
-        (
-            b"trip_id,service_id\nT1,WK\n,\n,WK\n".as_slice(),
-            Some((FaultKind::BadField, 3)),
-        ),
-        (
-            b"trip_id,service_id\nT1,WK\nT2,WK\nT1,\n".as_slice(),
-            Some((FaultKind::DuplicateKey, 3)),
-        ),
-        (
-            b"trip_id,service_id\nT1,WK\nT2,\n".as_slice(),
-            Some((FaultKind::BadField, 2)),
-        ),
-    ];
-    for (file, place) in cases {
+    for (file, place) in TRIPS {
         let answer = trips_of(rt.alloc(), keys, file);
-        assert!(rt;
-            has(&answer, FeedFile::Trips, place),
-            "{answer:?} of {file:?}"
-        );
+        assert!(rt; has(&answer, FeedFile::Trips, place), "{place:?}");
     }
     Ok(())
+}
+
+// A service may end before it starts.
+const WEEKS: [(&str, [bool; 7], Day, Day); 2] = [
+    (
+        "WK",
+        [true, true, true, true, true, false, false],
+        (2024, 1, 1),
+        (2024, 12, 31),
+    ),
+    (
+        "SU",
+        [false, false, false, false, false, false, true],
+        (2024, 12, 31),
+        (2024, 1, 1),
+    ),
+];
+
+fn is_week(row: &CalendarRow, week: &(&str, [bool; 7], Day, Day)) -> bool {
+    row.service.as_str() == week.0
+        && row.weekdays == week.1
+        && ymd(row.start) == week.2
+        && ymd(row.end) == week.3
 }
 
 #[test]
@@ -106,83 +127,58 @@ fn a_calendar(rt: HostRuntime) -> Result<(), Fail> {
         b"WK,1,1,1,1,1,0,0,20240101,20241231\n,,,,,,,,,\nSU,0,0,0,0,0,0,1,20241231,20240101\n";
     match calendar_of(rt.alloc(), keys, WEEK, rows) {
         Ok(rows) => {
-            assert_eq!(rt; rows.len(), 2);
-            assert_eq!(rt; rows[0].service.as_str(), "WK");
-            assert_eq!(rt;
-                rows[0].weekdays,
-                [true, true, true, true, true, false, false]
-            );
-            assert_eq!(rt; ymd(rows[0].start), (2024, 1, 1));
-            assert_eq!(rt; ymd(rows[0].end), (2024, 12, 31));
-            assert_eq!(rt; rows[1].service.as_str(), "SU");
-            assert_eq!(rt;
-                rows[1].weekdays,
-                [false, false, false, false, false, false, true]
-            );
-            assert_eq!(rt; ymd(rows[1].start), (2024, 12, 31));
-            assert_eq!(rt; ymd(rows[1].end), (2024, 1, 1));
+            assert_eq!(rt; rows.len(), WEEKS.len());
+            for (row, week) in rows.iter().zip(WEEKS.iter()) {
+                assert!(rt; is_week(row, week));
+            }
         }
         Err(fault) => assert_eq!(rt; fault.kind, FaultKind::Memory),
     }
     Ok(())
 }
 
+const CALENDAR_FAULTS: [(&[u8], Place); 6] = [
+    (
+        b",1,1,1,1,1,0,2,20240101,20241231\n",
+        Some((FaultKind::BadField, 1)),
+    ),
+    (
+        b"WK,1,1,1,1,1,0,0,20240101,20241231\nWK,2,\n",
+        Some((FaultKind::DuplicateKey, 2)),
+    ),
+    (
+        b"WK,,1,1,1,1,0,0,20240101,20241231\n",
+        Some((FaultKind::BadField, 1)),
+    ),
+    (
+        b"WK,1,1,01,1,1,0,0,20240101,20241231\n",
+        Some((FaultKind::BadField, 1)),
+    ),
+    (
+        b"WK,1,1,1,1,1,0,0,20240132,20241231\n",
+        Some((FaultKind::BadField, 1)),
+    ),
+    (b"WK\n\xFF\n", Some((FaultKind::BadCsv, 2))),
+];
+
 #[test]
 fn calendar_faults(rt: HostRuntime) -> Result<(), Fail> {
     let keys = RandomState::new(&rt).ok().ok_or("keys")?;
-    let cases = [
-        (
-            b",1,1,1,1,1,0,2,20240101,20241231\n".as_slice(),
-            Some((FaultKind::BadField, 1)),
-        ),
-        (
-            b"WK,1,1,1,1,1,0,0,20240101,20241231\nWK,1,1,1,1,1,0,2,20240101,20241231\n".as_slice(),
-            Some((FaultKind::DuplicateKey, 2)),
-        ),
-        (
-            b"WK,1,1,1,1,1,0,2,20240101,20241231\n".as_slice(),
-            Some((FaultKind::BadField, 1)),
-        ),
-        (
-            b"WK,,1,1,1,1,0,0,20240101,20241231\n".as_slice(),
-            Some((FaultKind::BadField, 1)),
-        ),
-        (
-            b"WK,1,1,01,1,1,0,0,20240101,20241231\n".as_slice(),
-            Some((FaultKind::BadField, 1)),
-        ),
-        (
-            b"WK,1,1,1,1,1,0,0,20240132,20241231\n".as_slice(),
-            Some((FaultKind::BadField, 1)),
-        ),
-        (
-            b"WK,1,1,1,1,1,0,0,20240101,20241231\nSU,0,0,0,0,0,0,1,20240101,\n".as_slice(),
-            Some((FaultKind::BadField, 2)),
-        ),
-        (
-            b"WK,1,1,1,1,1,0,0,20240101,20241231\n\xFF\n".as_slice(),
-            Some((FaultKind::BadCsv, 2)),
-        ),
-    ];
-    for (rows, place) in cases {
+    for (rows, place) in CALENDAR_FAULTS {
         let answer = calendar_of(rt.alloc(), keys, WEEK, rows);
-        assert!(rt;
-            has(&answer, FeedFile::Calendar, place),
-            "{answer:?} of {rows:?}"
-        );
+        assert!(rt; has(&answer, FeedFile::Calendar, place), "{place:?}");
     }
-    let header =
-        b"service_id,monday,tuesday,wednesday,thursday,friday,saturday,start_date,end_date\n";
-    let answer = calendar_of(rt.alloc(), keys, header, b",2,\n");
-    assert!(rt;
-        has(
-            &answer,
-            FeedFile::Calendar,
-            Some((FaultKind::MissingColumn, 0))
-        ),
-        "{answer:?}"
-    );
     Ok(())
+}
+
+const CHANGES: [(&str, Day, DateChange); 3] = [
+    ("WK", (2024, 1, 1), DateChange::Removed),
+    ("SU", (2024, 1, 1), DateChange::Added),
+    ("WK", (2024, 1, 2), DateChange::Added),
+];
+
+fn is_change(row: &CalendarDate, change: &(&str, Day, DateChange)) -> bool {
+    row.service.as_str() == change.0 && ymd(row.date) == change.1 && row.change == change.2
 }
 
 #[test]
@@ -191,61 +187,41 @@ fn some_dates(rt: HostRuntime) -> Result<(), Fail> {
     let rows = b"WK,20240101,2\nSU,20240101,1\n,,\nWK,20240102,1\n";
     match dates_of(rt.alloc(), keys, DATES, rows) {
         Ok(rows) => {
-            assert_eq!(rt; rows.len(), 3);
-            assert_eq!(rt; rows[0].service.as_str(), "WK");
-            assert_eq!(rt; ymd(rows[0].date), (2024, 1, 1));
-            assert_eq!(rt; rows[0].change, DateChange::Removed);
-            assert_eq!(rt; rows[1].service.as_str(), "SU");
-            assert_eq!(rt; ymd(rows[1].date), (2024, 1, 1));
-            assert_eq!(rt; rows[1].change, DateChange::Added);
-            assert_eq!(rt; rows[2].service.as_str(), "WK");
-            assert_eq!(rt; ymd(rows[2].date), (2024, 1, 2));
-            assert_eq!(rt; rows[2].change, DateChange::Added);
+            assert_eq!(rt; rows.len(), CHANGES.len());
+            for (row, change) in rows.iter().zip(CHANGES.iter()) {
+                assert!(rt; is_change(row, change));
+            }
         }
         Err(fault) => assert_eq!(rt; fault.kind, FaultKind::Memory),
     }
     Ok(())
 }
 
+const DATE_FAULTS: [(&[u8], Place); 6] = [
+    (b",20240101,1\n", Some((FaultKind::BadField, 1))),
+    (
+        b"WK,20240101,1\nWK,20230229,1\n",
+        Some((FaultKind::BadField, 2)),
+    ),
+    (b"WK,20240101,3\n", Some((FaultKind::BadField, 1))),
+    (
+        b"WK,20240101,1\nWK,20240101,\n",
+        Some((FaultKind::BadField, 2)),
+    ),
+    (
+        b"WK,20240101,1\nSU,20240101,1\n,,\nWK,20240101,2\n",
+        Some((FaultKind::DuplicateKey, 4)),
+    ),
+    (b"\xFF\n", Some((FaultKind::BadCsv, 1))),
+];
+
 #[test]
 fn date_faults(rt: HostRuntime) -> Result<(), Fail> {
     let keys = RandomState::new(&rt).ok().ok_or("keys")?;
-    let cases = [
-        (b",20240101,1\n".as_slice(), Some((FaultKind::BadField, 1))),
-        (
-            b"WK,20240101,1\nWK,20230229,1\n".as_slice(),
-            Some((FaultKind::BadField, 2)),
-        ),
-        (
-            b"WK,20240101,3\n".as_slice(),
-            Some((FaultKind::BadField, 1)),
-        ),
-        (
-            b"WK,20240101,1\nWK,20240101,\n".as_slice(),
-            Some((FaultKind::BadField, 2)),
-        ),
-        (
-            b"WK,20240101,1\nSU,20240101,1\n,,\nWK,20240101,2\n".as_slice(),
-            Some((FaultKind::DuplicateKey, 4)),
-        ),
-        (b"\xFF\n".as_slice(), Some((FaultKind::BadCsv, 1))),
-    ];
-    for (rows, place) in cases {
+    for (rows, place) in DATE_FAULTS {
         let answer = dates_of(rt.alloc(), keys, DATES, rows);
-        assert!(rt;
-            has(&answer, FeedFile::CalendarDates, place),
-            "{answer:?} of {rows:?}"
-        );
+        assert!(rt; has(&answer, FeedFile::CalendarDates, place), "{place:?}");
     }
-    let answer = dates_of(rt.alloc(), keys, b"service_id,exception_type\n", b",3\n");
-    assert!(rt;
-        has(
-            &answer,
-            FeedFile::CalendarDates,
-            Some((FaultKind::MissingColumn, 0))
-        ),
-        "{answer:?}"
-    );
     Ok(())
 }
 
@@ -253,8 +229,9 @@ fn date_faults(rt: HostRuntime) -> Result<(), Fail> {
 fn no_files(rt: HostRuntime) -> Result<(), Fail> {
     let keys = RandomState::new(&rt).ok().ok_or("keys")?;
     let none: Option<&[u8]> = None;
-    assert!(rt; read_calendar(rt.alloc(), keys, none).is_ok_and(|rows| rows.is_empty()));
-    let none: Option<&[u8]> = None;
-    assert!(rt; read_calendar_dates(rt.alloc(), keys, none).is_ok_and(|rows| rows.is_empty()));
+    let calendar = read_calendar(rt.alloc(), keys, none);
+    let dates = read_calendar_dates(rt.alloc(), keys, none);
+    assert!(rt; calendar.is_ok_and(|rows| rows.is_empty()));
+    assert!(rt; dates.is_ok_and(|rows| rows.is_empty()));
     Ok(())
 }

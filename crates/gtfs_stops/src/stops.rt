@@ -202,6 +202,38 @@ fn keep_stations(alloc: Global, ids: &Texts<'_>) -> Result<Vec<Station>, AllocEr
     Ok(stations)
 }
 
+// The ids of the file, where each of its tests holds.
+fn read_ids<'a>(
+    alloc: Global,
+    keys: RandomState,
+    sheet: &'a Sheet,
+    columns: StopColumns,
+) -> Result<StopIds<'a>, FeedFault>
+    requires { AreStopColumns sheet.now columns }
+    ensures tests { Passes result (stops_tests sheet.now) }
+    ensures ids { IfOk result (AreStopIds sheet.now) }
+    ensures few { IfOk result (λ ids. length ids.stops.keys ≤ 65_534) }
+    ensures few_stations { IfOk result (λ ids. length ids.stations.keys ≤ 999_999_999) }
+{
+    if columns.id.is_none() {
+        return Err(FeedFault::new(FaultKind::MissingColumn, FeedFile::Stops, 0));
+    }
+    let stations = ids_of(alloc, keys, sheet, columns, RowKind::Station)?;
+    let all = test_rows(alloc, keys, sheet, columns, &stations)?;
+    if sheet.rows() > ROW_LIMIT {
+        return Err(FeedFault::new(FaultKind::TooMany, FeedFile::Stops, 0));
+    }
+    let stops = ids_of(alloc, keys, sheet, columns, RowKind::Stop)?;
+    if stops.len() > STOP_LIMIT {
+        return Err(FeedFault::new(FaultKind::TooMany, FeedFile::Stops, 0));
+    }
+    Ok(StopIds {
+        all,
+        stops,
+        stations,
+    })
+}
+
 /// The rows of stops.txt, where each of its tests holds.
 pub fn read_stops(
     alloc: Global,
@@ -218,25 +250,12 @@ pub fn read_stops(
     ensures linked { IfOk result (λ rows. All (λ stop. IfSome stop.station (λ n. n < length rows.stations.items)) rows.stops.items) }
 {
     let columns = stop_columns(sheet);
-    if columns.id.is_none() {
-        return Err(FeedFault::new(FaultKind::MissingColumn, FeedFile::Stops, 0));
-    }
-    let stations = ids_of(alloc, keys, sheet, columns, RowKind::Station)?;
-    let all = test_rows(alloc, keys, sheet, columns, &stations)?;
-    if sheet.rows() > ROW_LIMIT {
-        return Err(FeedFault::new(FaultKind::TooMany, FeedFile::Stops, 0));
-    }
-    let stops = ids_of(alloc, keys, sheet, columns, RowKind::Stop)?;
-    if stops.len() > STOP_LIMIT {
-        return Err(FeedFault::new(FaultKind::TooMany, FeedFile::Stops, 0));
-    }
+    let ids = read_ids(alloc, keys, sheet, columns)?;
+    let stops = keep_stops(alloc, sheet, columns, &ids.stations)?;
+    let stations = keep_stations(alloc, &ids.stations)?;
     Ok(StopRows {
-        stops: keep_stops(alloc, sheet, columns, &stations)?,
-        stations: keep_stations(alloc, &stations)?,
-        ids: StopIds {
-            all,
-            stops,
-            stations,
-        },
+        stops,
+        stations,
+        ids,
     })
 }

@@ -1,19 +1,19 @@
 -- The first fault of a feed, by that of one of its files behind others.
-use Rattle.std.proofs.Common.{◌≡◌, ◌∙◌, sym, subst, refl, Bool, true, ◌||◌, List, ◌++◌, ℕ, Option, None, Some}
+use Rattle.std.proofs.Common.{◌≡◌, ◌<◌, ◌≤◌, ◌∙◌, ap, length, sym, subst, refl, Bool, true, ◌||◌, List, ◌++◌, append_assoc, ℕ, Option, None, Some}
 use Rattle.std.specs.Prelude.{is_some}
 use Rattle.gtfs_rows.specs.declared.fault.FaultKind.{FaultKind}
 use Rattle.gtfs_rows.specs.declared.fault.FeedFault.{FeedFault}
 use Rattle.gtfs_rows.specs.declared.fault.FeedFile.TheVariants as files
 use Rattle.gtfs_rows.specs.Faults.{Test, first_fault, Explains}
 use Rattle.gtfs_text.specs.Sheets.{Table}
-use Rattle.gtfs_rows.specs.Rows.{IsContent, opening_tests, optional_tests, table_in}
+use Rattle.gtfs_rows.specs.Rows.{IsContent, opening_tests, optional_tests, table_in, texts_in}
 use Rattle.gtfs_rows.proofs.RowFacts.{first_more, sooner, later}
 use Rattle.gtfs_services.specs.Calendar.{calendar_tests}
 use Rattle.gtfs_services.specs.CalendarDates.{calendar_dates_tests}
 use Rattle.gtfs_services.specs.Trips.{trips_tests, trip_ids}
-use Rattle.gtfs_stops.specs.Stops.{IdLists, stops_tests, stop_ids, id_lists}
+use Rattle.gtfs_stops.specs.declared.stops.StopIds.{StopIds}
+use Rattle.gtfs_stops.specs.Stops.{AreStopIds, IdLists, stops_tests, stop_ids, stop_values, station_values, id_lists, lists_in}
 use Rattle.gtfs_stops.specs.Transfers.{transfers_tests}
-use Rattle.gtfs_calls.specs.StopTimes.{stop_times_tests}
 use Rattle.gtfs_rows.specs.declared.values.Stop.{Stop}
 use Rattle.gtfs_rows.specs.declared.values.Station.{Station}
 use Rattle.gtfs_rows.specs.declared.values.Trip.{Trip}
@@ -21,8 +21,12 @@ use Rattle.gtfs_rows.specs.declared.values.CalendarRow.{CalendarRow}
 use Rattle.gtfs_rows.specs.declared.values.CalendarDate.{CalendarDate}
 use Rattle.gtfs_rows.specs.declared.values.StopTime.{StopTime}
 use Rattle.gtfs_rows.specs.declared.values.Transfer.{Transfer}
-use Rattle.gtfs_tables.specs.Tables.{TableValues}
+use Rattle.gtfs_tables.specs.Tables.{AreTables}
+use Rattle.gtfs_tables.specs.declared.reading.Connections.{Connections}
+use Rattle.std.specs.List.{All}
+use Rattle.std.specs.Option.{IfSome}
 use Rattle.gtfs_tables.specs.Feed.{Feed, services_tests, feed_tests, values_of}
+use Rattle.gtfs_tables.specs.Schedules.{AreConnections, ConnectionValues, connections_in, ScheduleBytes, ScheduleValues, TimeBytes, TimeValues, calls_tests, connection_tests, connection_values, schedule_values, tables_with, time_values}
 
 -- a file is there exactly where its reader is
 pub same_presence : {R : Type 0} (remaining : R → Option (List ℕ)) (reader : Option R) (bytes : Option (List ℕ)) → IsContent remaining reader bytes → is_some reader ≡ is_some bytes
@@ -50,154 +54,119 @@ pub services_pass : (a b : Option (List ℕ)) → (is_some a || is_some b) ≡ t
     → first_fault (optional_tests files.CalendarDates calendar_dates_tests b) ≡ None → first_fault (services_tests a b) ≡ None
 services_pass a b there h g = rw there (first_more (optional_tests files.Calendar calendar_tests a) (optional_tests files.CalendarDates calendar_dates_tests b) h ∙ g)
 
--- the tests of a feed, by the files that they are of
-abbrev pub StopsPass : Feed → Type 0
-StopsPass feed = (first_fault (opening_tests files.Stops feed.stops) ≡ None) × (first_fault (stops_tests (table_in feed.stops)) ≡ None)
+-- two lists of tests and the rest behind them: the second fails, the rest fails, and all pass
+pub second_fails : (k : FaultKind) (f : FeedFault) (a b rest : List Test) → first_fault a ≡ None → Explains (first_fault b) k f → Explains (first_fault (a ++ (b ++ rest))) k f
+second_fails k f a b rest h e = later k a (b ++ rest) f h (sooner k b rest f e)
 
-abbrev pub TripsPass : Feed → Type 0
-TripsPass feed = (first_fault (opening_tests files.Trips feed.trips) ≡ None) × (first_fault (trips_tests (table_in feed.trips)) ≡ None)
+pub rest_fails : (k : FaultKind) (f : FeedFault) (a b rest : List Test) → first_fault a ≡ None → first_fault b ≡ None → Explains (first_fault rest) k f
+    → Explains (first_fault (a ++ (b ++ rest))) k f
+rest_fails k f a b rest h g e = later k a (b ++ rest) f h (later k b rest f g e)
 
-abbrev pub calls_tests : Feed → List Test
-calls_tests feed = opening_tests files.StopTimes feed.stop_times ++ stop_times_tests (stop_ids (table_in feed.stops)) (trip_ids (table_in feed.trips)) (table_in feed.stop_times)
+pub all_pass : (a b rest : List Test) → first_fault a ≡ None → first_fault b ≡ None → first_fault rest ≡ None → first_fault (a ++ (b ++ rest)) ≡ None
+all_pass a b rest h g e = first_more a (b ++ rest) h ∙ first_more b rest g ∙ e
 
-abbrev pub links_tests : Feed → List Test
-links_tests feed = optional_tests files.Transfers (transfers_tests (id_lists (table_in feed.stops))) feed.transfers
+-- the tests of a feed, by its parts
+abbrev pub schedule_bytes : Feed → ScheduleBytes
+schedule_bytes feed = record {
+  trips = feed.trips;
+  times = record { calendar = feed.calendar; calendar_dates = feed.calendar_dates; stop_times = feed.stop_times };
+}
 
--- the tests from one part of a feed on
-abbrev pub from_calls : Feed → List Test
-from_calls feed = calls_tests feed ++ links_tests feed
+abbrev pub connection_part : Feed → List Test
+connection_part feed = connection_tests (id_lists (table_in feed.stops)) (schedule_bytes feed) feed.transfers
 
-abbrev pub from_services : Feed → List Test
-from_services feed = services_tests feed.calendar feed.calendar_dates ++ from_calls feed
+abbrev pub parts : Feed → List Test
+parts feed = opening_tests files.Stops feed.stops ++ (stops_tests (table_in feed.stops) ++ connection_part feed)
 
-abbrev pub from_trip_rows : Feed → List Test
-from_trip_rows feed = trips_tests (table_in feed.trips) ++ from_services feed
+regrouped : (a b c d e f g : List Test) → a ++ (b ++ ((c ++ (d ++ (e ++ f))) ++ g)) ≡ a ++ (b ++ (c ++ (d ++ (e ++ (f ++ g)))))
+regrouped a b c d e f g = simp append_assoc
 
-abbrev pub from_trips : Feed → List Test
-from_trips feed = opening_tests files.Trips feed.trips ++ from_trip_rows feed
-
-abbrev pub from_stop_rows : Feed → List Test
-from_stop_rows feed = stops_tests (table_in feed.stops) ++ from_trips feed
-
--- the sheets that were read are those of the feed
-pub stops_passed : (feed : Feed) (t : Table) → first_fault (opening_tests files.Stops feed.stops) ≡ None → t ≡ table_in feed.stops → first_fault (stops_tests t) ≡ None → StopsPass feed
-stops_passed feed t there is passed = (there, subst (λ (t : Table). first_fault (stops_tests t) ≡ None) is passed)
-
-pub trips_passed : (feed : Feed) (t : Table) → first_fault (opening_tests files.Trips feed.trips) ≡ None → t ≡ table_in feed.trips → first_fault (trips_tests t) ≡ None → TripsPass feed
-trips_passed feed t there is passed = (there, subst (λ (t : Table). first_fault (trips_tests t) ≡ None) is passed)
-
--- the first file that fails, behind files that pass
-pub no_stops : (k : FaultKind) (f : FeedFault) (feed : Feed) → Explains (first_fault (opening_tests files.Stops feed.stops)) k f → Explains (first_fault (feed_tests feed)) k f
+tests_are : (feed : Feed) → parts feed ≡ feed_tests feed
 unfolding feed_tests
-no_stops k f feed e = sooner k (opening_tests files.Stops feed.stops) (from_stop_rows feed) f e
+tests_are feed =
+    regrouped (opening_tests files.Stops feed.stops) (stops_tests (table_in feed.stops)) (opening_tests files.Trips feed.trips) (trips_tests (table_in feed.trips))
+    (services_tests feed.calendar feed.calendar_dates) (calls_tests (stop_ids (table_in feed.stops)) (trip_ids (table_in feed.trips)) feed.stop_times)
+    (optional_tests files.Transfers (transfers_tests (id_lists (table_in feed.stops))) feed.transfers)
 
-pub stops_fail : (k : FaultKind) (f : FeedFault) (feed : Feed) (t : Table) → first_fault (opening_tests files.Stops feed.stops) ≡ None → t ≡ table_in feed.stops
-    → Explains (first_fault (stops_tests t)) k f → Explains (first_fault (feed_tests feed)) k f
-unfolding feed_tests
-stops_fail k f feed t there is e =
-    later k (opening_tests files.Stops feed.stops) (from_stop_rows feed) f there
-    (sooner k (stops_tests (table_in feed.stops)) (from_trips feed) f (subst (λ (t : Table). Explains (first_fault (stops_tests t)) k f) is e))
-
-behind_stops : (k : FaultKind) (f : FeedFault) (feed : Feed) (rest : List Test) → StopsPass feed → Explains (first_fault rest) k f
-    → Explains (first_fault (opening_tests files.Stops feed.stops ++ (stops_tests (table_in feed.stops) ++ rest))) k f
-behind_stops k f feed rest passed e =
-    later k (opening_tests files.Stops feed.stops) (stops_tests (table_in feed.stops) ++ rest) f passed.0
-    (later k (stops_tests (table_in feed.stops)) rest f passed.1 e)
-
-behind_trips : (k : FaultKind) (f : FeedFault) (feed : Feed) (rest : List Test) → TripsPass feed → Explains (first_fault rest) k f
-    → Explains (first_fault (opening_tests files.Trips feed.trips ++ (trips_tests (table_in feed.trips) ++ rest))) k f
-behind_trips k f feed rest passed e =
-    later k (opening_tests files.Trips feed.trips) (trips_tests (table_in feed.trips) ++ rest) f passed.0
-    (later k (trips_tests (table_in feed.trips)) rest f passed.1 e)
-
-pub no_trips : (k : FaultKind) (f : FeedFault) (feed : Feed) → StopsPass feed → Explains (first_fault (opening_tests files.Trips feed.trips)) k f → Explains (first_fault (feed_tests feed)) k f
-unfolding feed_tests
-no_trips k f feed stops e = behind_stops k f feed (from_trips feed) stops (sooner k (opening_tests files.Trips feed.trips) (from_trip_rows feed) f e)
-
-pub trips_fail : (k : FaultKind) (f : FeedFault) (feed : Feed) (t : Table) → StopsPass feed → first_fault (opening_tests files.Trips feed.trips) ≡ None → t ≡ table_in feed.trips
-    → Explains (first_fault (trips_tests t)) k f → Explains (first_fault (feed_tests feed)) k f
-unfolding feed_tests
-trips_fail k f feed t stops there is e =
-    behind_stops k f feed (from_trips feed) stops (later k (opening_tests files.Trips feed.trips) (from_trip_rows feed) f there
-    (sooner k (trips_tests (table_in feed.trips)) (from_services feed) f (subst (λ (t : Table). Explains (first_fault (trips_tests t)) k f) is e)))
-
-pub services_fail : (k : FaultKind) (f : FeedFault) (feed : Feed) → StopsPass feed → TripsPass feed
-    → Explains (first_fault (services_tests feed.calendar feed.calendar_dates)) k f → Explains (first_fault (feed_tests feed)) k f
-unfolding feed_tests
-services_fail k f feed stops trips e =
-    behind_stops k f feed (from_trips feed) stops (behind_trips k f feed (from_services feed) trips (sooner k (services_tests feed.calendar feed.calendar_dates) (from_calls feed) f e))
-
-pub calls_fail : (k : FaultKind) (f : FeedFault) (feed : Feed) → StopsPass feed → TripsPass feed → first_fault (services_tests feed.calendar feed.calendar_dates) ≡ None
-    → Explains (first_fault (calls_tests feed)) k f → Explains (first_fault (feed_tests feed)) k f
-unfolding feed_tests
-calls_fail k f feed stops trips services e =
-    behind_stops k f feed (from_trips feed) stops (behind_trips k f feed (from_services feed) trips (later k (services_tests feed.calendar feed.calendar_dates) (from_calls feed) f services
-    (sooner k (calls_tests feed) (links_tests feed) f e)))
-
-pub links_fail : (k : FaultKind) (f : FeedFault) (feed : Feed) → StopsPass feed → TripsPass feed → first_fault (services_tests feed.calendar feed.calendar_dates) ≡ None
-    → first_fault (calls_tests feed) ≡ None → Explains (first_fault (links_tests feed)) k f → Explains (first_fault (feed_tests feed)) k f
-unfolding feed_tests
-links_fail k f feed stops trips services calls e =
-    behind_stops k f feed (from_trips feed) stops (behind_trips k f feed (from_services feed) trips (later k (services_tests feed.calendar feed.calendar_dates) (from_calls feed) f services
-    (later k (calls_tests feed) (links_tests feed) f calls e)))
-
--- all files pass
-pub feed_passes : (feed : Feed) → StopsPass feed → TripsPass feed → first_fault (services_tests feed.calendar feed.calendar_dates) ≡ None
-    → first_fault (calls_tests feed) ≡ None → first_fault (links_tests feed) ≡ None → first_fault (feed_tests feed) ≡ None
-unfolding feed_tests
-feed_passes feed stops trips services calls links =
-    first_more (opening_tests files.Stops feed.stops) (from_stop_rows feed) stops.0
-    ∙ first_more (stops_tests (table_in feed.stops)) (from_trips feed) stops.1
-    ∙ first_more (opening_tests files.Trips feed.trips) (from_trip_rows feed) trips.0
-    ∙ first_more (trips_tests (table_in feed.trips)) (from_services feed) trips.1
-    ∙ first_more (services_tests feed.calendar feed.calendar_dates) (from_calls feed) services
-    ∙ first_more (calls_tests feed) (links_tests feed) calls
-    ∙ links
+failed : (k : FaultKind) (f : FeedFault) (feed : Feed) → Explains (first_fault (parts feed)) k f → Explains (first_fault (feed_tests feed)) k f
+failed k f feed e = subst (λ (tests : List Test). Explains (first_fault tests) k f) (tests_are feed) e
 
 -- the lists of ids that were read are those of the table
-pub lists_are : (t : Table) (all stops stations : List (List ℕ)) → all ≡ (id_lists t).all → stops ≡ (id_lists t).stops → stations ≡ (id_lists t).stations
+ids_are : (t : Table) (all stops stations : List (List ℕ)) → all ≡ (id_lists t).all → stops ≡ (id_lists t).stops → stations ≡ (id_lists t).stations
     → ◌≡◌ {A = IdLists} (record { all = all; stops = stops; stations = stations }) (id_lists t)
-lists_are t all stops stations a b c = rw (a, b, c) refl
+ids_are t all stops stations a b c = rw (a, b, c) refl
 
--- the tests of calls and of transfers under the ids that were read are those of the feed
-abbrev pub calls_under : Feed → List (List ℕ) → List (List ℕ) → List Test
-calls_under feed stops trips = opening_tests files.StopTimes feed.stop_times ++ stop_times_tests stops trips (table_in feed.stop_times)
+lists_are : (bytes : Option (List ℕ)) (t : Table) (ids : StopIds) → t ≡ table_in bytes → AreStopIds t ids → lists_in ids ≡ id_lists (table_in bytes)
+lists_are bytes t ids is known = ids_are t (texts_in ids.all.keys) (texts_in ids.stops.keys) (texts_in ids.stations.keys) known.all known.stops known.stations ∙ ap id_lists is
 
-pub calls_failed : (k : FaultKind) (f : FeedFault) (feed : Feed) (stops trips : List (List ℕ)) → stops ≡ stop_ids (table_in feed.stops) → trips ≡ trip_ids (table_in feed.trips)
-    → Explains (first_fault (calls_under feed stops trips)) k f → Explains (first_fault (calls_tests feed)) k f
-calls_failed k f feed stops trips a b e =
-    subst (λ (s : List (List ℕ)). Explains (first_fault (calls_under feed s (trip_ids (table_in feed.trips)))) k f) a
-    (subst (λ (t : List (List ℕ)). Explains (first_fault (calls_under feed stops t)) k f) b e)
+-- the sheet of stops.txt that was read, which passed the tests so far
+abbrev pub IsOpened : Feed → Table → Type 0
+IsOpened feed t = (first_fault (opening_tests files.Stops feed.stops) ≡ None) × (t ≡ table_in feed.stops)
 
-pub calls_passed : (feed : Feed) (stops trips : List (List ℕ)) → stops ≡ stop_ids (table_in feed.stops) → trips ≡ trip_ids (table_in feed.trips)
-    → first_fault (calls_under feed stops trips) ≡ None → first_fault (calls_tests feed) ≡ None
-calls_passed feed stops trips a b e =
-    subst (λ (s : List (List ℕ)). first_fault (calls_under feed s (trip_ids (table_in feed.trips))) ≡ None) a
-    (subst (λ (t : List (List ℕ)). first_fault (calls_under feed stops t) ≡ None) b e)
+-- the first part that fails, behind parts that pass
+pub no_stops : (k : FaultKind) (f : FeedFault) (feed : Feed) → Explains (first_fault (opening_tests files.Stops feed.stops)) k f → Explains (first_fault (feed_tests feed)) k f
+no_stops k f feed e = failed k f feed (sooner k (opening_tests files.Stops feed.stops) (stops_tests (table_in feed.stops) ++ connection_part feed) f e)
 
-pub links_failed : (k : FaultKind) (f : FeedFault) (feed : Feed) (ids : IdLists) → ids ≡ id_lists (table_in feed.stops)
-    → Explains (first_fault (optional_tests files.Transfers (transfers_tests ids) feed.transfers)) k f → Explains (first_fault (links_tests feed)) k f
-links_failed k f feed ids a e = subst (λ (ids : IdLists). Explains (first_fault (optional_tests files.Transfers (transfers_tests ids) feed.transfers)) k f) a e
+pub stops_fail : (k : FaultKind) (f : FeedFault) (feed : Feed) (t : Table) → IsOpened feed t → Explains (first_fault (stops_tests t)) k f → Explains (first_fault (feed_tests feed)) k f
+stops_fail k f feed t opened e =
+    failed k f feed (second_fails k f (opening_tests files.Stops feed.stops) (stops_tests (table_in feed.stops)) (connection_part feed) opened.0
+    (subst (λ (t : Table). Explains (first_fault (stops_tests t)) k f) opened.1 e))
 
-pub links_passed : (feed : Feed) (ids : IdLists) → ids ≡ id_lists (table_in feed.stops)
-    → first_fault (optional_tests files.Transfers (transfers_tests ids) feed.transfers) ≡ None → first_fault (links_tests feed) ≡ None
-links_passed feed ids a e = subst (λ (ids : IdLists). first_fault (optional_tests files.Transfers (transfers_tests ids) feed.transfers) ≡ None) a e
+pub connections_fail : (k : FaultKind) (f : FeedFault) (feed : Feed) (t : Table) (ids : StopIds) → IsOpened feed t → first_fault (stops_tests t) ≡ None → AreStopIds t ids
+    → Explains (first_fault (connection_tests (lists_in ids) (schedule_bytes feed) feed.transfers)) k f → Explains (first_fault (feed_tests feed)) k f
+connections_fail k f feed t ids opened passed known e =
+    failed k f feed (rest_fails k f (opening_tests files.Stops feed.stops) (stops_tests (table_in feed.stops)) (connection_part feed) opened.0
+    (subst (λ (t : Table). first_fault (stops_tests t) ≡ None) opened.1 passed)
+    (subst (λ (ids : IdLists). Explains (first_fault (connection_tests ids (schedule_bytes feed) feed.transfers)) k f) (lists_are feed.stops t ids opened.1 known) e))
 
--- tables whose fields are the values of a feed
-pub values_are : (feed : Feed) (stops : List Stop) (stations : List Station) (services : List (List ℕ)) (trips : List Trip) (calendar : List CalendarRow) (dates : List CalendarDate)
-    (calls : List (List StopTime)) (transfers : List Transfer) (no_stop no_place : ℕ)
-    → stops ≡ (values_of feed).stops → stations ≡ (values_of feed).stations → services ≡ (values_of feed).services → trips ≡ (values_of feed).trips
-    → calendar ≡ (values_of feed).calendar → dates ≡ (values_of feed).calendar_dates → calls ≡ (values_of feed).calls → transfers ≡ (values_of feed).transfers
-    → no_stop ≡ (values_of feed).skipped.calls → no_place ≡ (values_of feed).skipped.transfers
-    → ◌≡◌ {A = TableValues} (record {
-      stops = stops;
-      stations = stations;
-      services = services;
-      trips = trips;
-      calendar = calendar;
-      calendar_dates = dates;
-      calls = calls;
-      transfers = transfers;
-      skipped = record { calls = no_stop; transfers = no_place };
-    }) (values_of feed)
-values_are feed stops stations services trips calendar dates calls transfers no_stop no_place a b c d e f g h i j = rw (a, b, c, d, e, f, g, h, i, j) refl
+-- what was read of times and of a schedule, part by part
+pub time_values_are : (stops trips : List (List ℕ)) (bytes : TimeBytes) (calendar : List CalendarRow) (dates : List CalendarDate) (calls : List (List StopTime)) (skipped : ℕ)
+    → calendar ≡ (time_values stops trips bytes).calendar → dates ≡ (time_values stops trips bytes).calendar_dates
+    → calls ≡ (time_values stops trips bytes).calls → skipped ≡ (time_values stops trips bytes).skipped
+    → ◌≡◌ {A = TimeValues} (record { calendar = calendar; calendar_dates = dates; calls = calls; skipped = skipped }) (time_values stops trips bytes)
+time_values_are stops trips bytes calendar dates calls skipped a b c d = rw (a, b, c, d) refl
+
+pub schedule_values_are : (stops : List (List ℕ)) (bytes : ScheduleBytes) (services : List (List ℕ)) (trips : List Trip) (times : TimeValues)
+    → services ≡ (schedule_values stops bytes).services → trips ≡ (schedule_values stops bytes).trips → times ≡ (schedule_values stops bytes).times
+    → ◌≡◌ {A = ScheduleValues} (record { services = services; trips = trips; times = times }) (schedule_values stops bytes)
+schedule_values_are stops bytes services trips times a b c = rw (a, b, c) refl
+
+pub connection_values_are : (ids : IdLists) (bytes : ScheduleBytes) (links : Option (List ℕ)) (schedule : ScheduleValues) (transfers : List Transfer) (skipped : ℕ)
+    → schedule ≡ (connection_values ids bytes links).schedule → transfers ≡ (connection_values ids bytes links).transfers → skipped ≡ (connection_values ids bytes links).skipped
+    → ◌≡◌ {A = ConnectionValues} (record { schedule = schedule; transfers = transfers; skipped = skipped }) (connection_values ids bytes links)
+connection_values_are ids bytes links schedule transfers skipped a b c = rw (a, b, c) refl
+
+tables_are : (feed : Feed) (stops : List Stop) (stations : List Station) (connections : ConnectionValues) → stops ≡ stop_values (table_in feed.stops)
+    → stations ≡ station_values (table_in feed.stops) → connections ≡ connection_values (id_lists (table_in feed.stops)) (schedule_bytes feed) feed.transfers
+    → tables_with stops stations connections ≡ values_of feed
+tables_are feed stops stations connections a b c = rw (a, b, c) refl
+
+-- where all was read
+pub all_read : (feed : Feed) (t : Table) (ids : StopIds) (stops : List Stop) (stations : List Station) (connections : ConnectionValues)
+    → IsOpened feed t → (first_fault (stops_tests t) ≡ None) × (stops ≡ stop_values t) → stations ≡ station_values t → AreStopIds t ids
+    → (first_fault (connection_tests (lists_in ids) (schedule_bytes feed) feed.transfers) ≡ None) × (connections ≡ connection_values (lists_in ids) (schedule_bytes feed) feed.transfers)
+    → (first_fault (feed_tests feed) ≡ None) × (tables_with stops stations connections ≡ values_of feed)
+all_read feed t ids stops stations connections opened rows placed known connected =
+    let lists = lists_are feed.stops t ids opened.1 known in (
+      subst (λ (tests : List Test). first_fault tests ≡ None) (tests_are feed)
+          (all_pass (opening_tests files.Stops feed.stops) (stops_tests (table_in feed.stops)) (connection_part feed) opened.0
+          (subst (λ (t : Table). first_fault (stops_tests t) ≡ None) opened.1 rows.0)
+          (subst (λ (ids : IdLists). first_fault (connection_tests ids (schedule_bytes feed) feed.transfers) ≡ None) lists connected.0)),
+      tables_are feed stops stations connections (rows.1 ∙ ap stop_values opened.1) (placed ∙ ap station_values opened.1)
+          (connected.1 ∙ ap (λ (ids : IdLists). connection_values ids (schedule_bytes feed) feed.transfers) lists),
+    )
+
+-- what holds of the tables of these connections
+pub tables_hold : (stops : List Stop) (stations : List Station) (n m : ℕ) (connections : Connections) → n ≡ length stops → m ≡ length stations → length stops ≤ 65_534
+    → All (λ stop. IfSome stop.station (λ i. i < length stations)) stops → AreConnections n m connections → AreTables (tables_with stops stations (connections_in connections))
+tables_hold stops stations n m connections a b few linked held =
+    let here : AreConnections (length stops) (length stations) connections = rw (← a, ← b) held in record {
+      few_stops = few;
+      few_trips = here.schedule.few_trips;
+      few_transfers = here.few;
+      stations = linked;
+      services = here.schedule.services;
+      trips = here.schedule.calls.count;
+      calls = here.schedule.calls.each;
+      transfers = here.transfers;
+    }

@@ -5,18 +5,25 @@ ghost use Rattle.std.specs.Option.{IfSome};
 ghost use Rattle.std.specs.List.{All};
 ghost use Rattle.gtfs_rows.specs.declared.fault.FeedFile.TheVariants as files;
 ghost use Rattle.gtfs_rows.specs.Faults.{Answers};
-ghost use Rattle.gtfs_rows.specs.Rows.{IsContent, optional_tests, table_in};
+ghost use Rattle.gtfs_rows.specs.Rows.{IsContent, optional_tests, table_in, texts_in};
 ghost use Rattle.gtfs_services.specs.Calendar.{calendar_values};
 ghost use Rattle.gtfs_services.specs.CalendarDates.{calendar_date_values};
 ghost use Rattle.gtfs_stops.specs.Stops.{lists_in};
 ghost use Rattle.gtfs_stops.specs.Transfers.{IsTransfer, transfers_tests, transfer_values, skipped_transfers};
 ghost use Rattle.gtfs_calls.specs.CallLists.{AreCallLists};
+ghost use Rattle.gtfs_tables.specs.Schedules.{AreConnections, AreScheduleReaders, IsSchedule, ScheduleBytes, TimeBytes};
+ghost use Rattle.gtfs_tables.specs.Schedules.{connection_tests, connection_values};
+ghost use Rattle.gtfs_tables.specs.Schedules.{connections_in, rows_in, schedule_in, schedule_tests, schedule_values, time_values, times_in, times_tests};
+ghost use Rattle.gtfs_tables.specs.Tables.{AreTables};
 ghost use Rattle.gtfs_tables.specs.Feed.{Feed, AreReaders, feed_tests, services_tests, values_of};
 
 use crate::tables::Tables;
 use gtfs_calls::{CallRows, read_stop_times};
-use gtfs_rows::{CalendarDate, CalendarRow, FaultKind, FeedFault, FeedFile, Skipped, open_sheet};
-use gtfs_services::{TripRows, read_calendar, read_calendar_dates, read_trips};
+use gtfs_rows::{
+    CalendarDate, CalendarRow, FaultKind, FeedFault, FeedFile, Id, Skipped, Station, Stop, Texts,
+    Trip, open_sheet,
+};
+use gtfs_services::{read_calendar, read_calendar_dates, read_trips};
 use gtfs_stops::{StopIds, StopRows, TransferRows, read_stops, read_transfers};
 use std::alloc::Global;
 use std::hash::RandomState;
@@ -90,42 +97,194 @@ fn read_calendars<R: Read + Drop>(
     Ok(Calendars { rows, dates })
 }
 
-// The tables of what was read of each file.
-fn tables_of(
-    stops: StopRows<'_>,
-    trips: TripRows<'_>,
+// When trips run: the days of their services, and their calls.
+#[derive(Drop)]
+struct Times {
     calendars: Calendars,
     calls: CallRows,
-    transfers: TransferRows,
-) -> Tables
-    requires few_stops { length stops.stops.items ≤ 65_534 }
-    requires few_trips { length trips.trips.items ≤ 999_999_999 }
-    requires few_transfers { length transfers.transfers.items ≤ 999_999_999 }
-    requires stations { All (λ stop. IfSome stop.station (λ n. n < length stops.stations.items)) stops.stops.items }
-    requires services { All (λ trip. trip.service < length trips.services.items) trips.trips.items }
-    requires calls { AreCallLists (length stops.stops.items) (length trips.trips.items) calls.calls }
-    requires transfers { All (IsTransfer (length stops.stops.items) (length stops.stations.items)) transfers.transfers.items }
-    ensures { result ≡ record {
-      stops = stops.entry.stops.items;
-      stations = stops.entry.stations.items;
-      services = trips.entry.services.items;
-      trips = trips.entry.trips.items;
-      calendar = calendars.rows.items;
-      calendar_dates = calendars.dates.items;
-      calls = calls.calls;
-      transfers = transfers.transfers.items;
-      skipped = record { calls = calls.skipped; transfers = transfers.skipped };
-    } }
+}
+
+// What the files of services and stop_times.txt say, under the ids of stops and trips.
+fn read_times<R: Read + Drop>(
+    alloc: Global,
+    keys: RandomState,
+    calendar: Option<R>,
+    calendar_dates: Option<R>,
+    stop_times: Option<R>,
+    stops: &Texts<'_>,
+    trips: &Texts<'_>,
+) -> Result<Times, FeedFault>
+    requires stops { length stops.now.keys ≤ 65_534 }
+    requires trips { length trips.now.keys ≤ 999_999_999 }
+    ensures times { (bytes : TimeBytes) → IsContent R.remaining calendar bytes.calendar
+        → IsContent R.remaining calendar_dates bytes.calendar_dates → IsContent R.remaining stop_times bytes.stop_times
+        → Answers times_in result (times_tests (texts_in stops.now.keys) (texts_in trips.now.keys) bytes)
+        (time_values (texts_in stops.now.keys) (texts_in trips.now.keys) bytes) }
+    ensures valid { IfOk result (λ times. AreCallLists (length stops.now.keys) (length trips.now.keys) times.calls.calls) }
 {
+    let calendars = read_calendars(alloc, keys, calendar, calendar_dates)?;
+    let calls = read_stop_times(alloc, keys, stop_times, stops, trips)?;
+    Ok(Times { calendars, calls })
+}
+
+// The files of a schedule, each as a reader where it is there.
+#[derive(Drop)]
+struct ScheduleFiles<R> {
+    trips: Option<R>,
+    calendar: Option<R>,
+    calendar_dates: Option<R>,
+    stop_times: Option<R>,
+}
+
+// The trips of a feed, the services that they name, and when they run.
+#[derive(Drop)]
+struct Schedule {
+    services: Vec<Id>,
+    trips: Vec<Trip>,
+    times: Times,
+}
+
+// The schedule that the files say, under the ids of stops.
+fn read_schedule<R: Read + Drop>(
+    alloc: Global,
+    keys: RandomState,
+    files: ScheduleFiles<R>,
+    stops: &Texts<'_>,
+) -> Result<Schedule, FeedFault>
+    requires { length stops.now.keys ≤ 65_534 }
+    ensures schedule { (bytes : ScheduleBytes) → AreScheduleReaders R.remaining files bytes
+        → Answers schedule_in result (schedule_tests (texts_in stops.now.keys) bytes) (schedule_values (texts_in stops.now.keys) bytes) }
+    ensures valid { IfOk result (IsSchedule (length stops.now.keys)) }
+{
+    let trips_sheet = open_sheet(alloc, FeedFile::Trips, files.trips)?;
+    let trips = read_trips(alloc, keys, &trips_sheet)?;
+    let times = read_times(
+        alloc,
+        keys,
+        files.calendar,
+        files.calendar_dates,
+        files.stop_times,
+        stops,
+        &trips.ids,
+    )?;
+    Ok(Schedule {
+        services: trips.services,
+        trips: trips.trips,
+        times,
+    })
+}
+
+// What connects stops: the schedule, and the rows of transfers.txt that are kept.
+#[derive(Drop)]
+struct Connections {
+    schedule: Schedule,
+    transfers: TransferRows,
+}
+
+// The connections that the files say, under the ids of stops.txt.
+fn read_connections<R: Read + Drop>(
+    alloc: Global,
+    keys: RandomState,
+    files: ScheduleFiles<R>,
+    transfers: Option<R>,
+    ids: &StopIds<'_>,
+) -> Result<Connections, FeedFault>
+    requires stops { length ids.now.stops.keys ≤ 65_534 }
+    requires stations { length ids.now.stations.keys ≤ 999_999_999 }
+    ensures connections { (bytes : ScheduleBytes) (links : Option (List ℕ)) → AreScheduleReaders R.remaining files bytes
+        → IsContent R.remaining transfers links
+        → Answers connections_in result (connection_tests (lists_in ids.now) bytes links)
+        (connection_values (lists_in ids.now) bytes links) }
+    ensures valid { IfOk result (AreConnections (length ids.now.stops.keys) (length ids.now.stations.keys)) }
+{
+    let schedule = read_schedule(alloc, keys, files, &ids.stops)?;
+    let transfers = read_optional_transfers(alloc, transfers, ids)?;
+    Ok(Connections {
+        schedule,
+        transfers,
+    })
+}
+
+// The connections, under ids that nobody needs behind them.
+fn connections_of<R: Read + Drop>(
+    alloc: Global,
+    keys: RandomState,
+    files: ScheduleFiles<R>,
+    transfers: Option<R>,
+    ids: StopIds<'_>,
+) -> Result<Connections, FeedFault>
+    requires stops { length ids.stops.keys ≤ 65_534 }
+    requires stations { length ids.stations.keys ≤ 999_999_999 }
+    ensures connections { (bytes : ScheduleBytes) (links : Option (List ℕ)) → AreScheduleReaders R.remaining files bytes
+        → IsContent R.remaining transfers links
+        → Answers connections_in result (connection_tests (lists_in ids.entry) bytes links)
+        (connection_values (lists_in ids.entry) bytes links) }
+    ensures valid { IfOk result (AreConnections (length ids.entry.stops.keys) (length ids.entry.stations.keys)) }
+{
+    read_connections(alloc, keys, files, transfers, &ids)
+}
+
+// What was read of all files.
+#[derive(Drop)]
+struct FeedRows {
+    stops: Vec<Stop>,
+    stations: Vec<Station>,
+    connections: Connections,
+}
+
+// The rows of all files, by the order of their tests.
+fn read_rows<R: Read + Drop>(
+    alloc: Global,
+    keys: RandomState,
+    files: Files<R>,
+) -> Result<FeedRows, FeedFault>
+    ensures rows { (feed : Feed) → AreReaders R.remaining files feed → Answers rows_in result (feed_tests feed) (values_of feed) }
+    ensures valid { IfOk result (λ rows. AreTables (rows_in rows)) }
+{
+    let schedule_files = ScheduleFiles {
+        trips: files.trips,
+        calendar: files.calendar,
+        calendar_dates: files.calendar_dates,
+        stop_times: files.stop_times,
+    };
+    let sheet = open_sheet(alloc, FeedFile::Stops, files.stops)?;
+    let StopRows {
+        stops,
+        stations,
+        ids,
+    } = read_stops(alloc, keys, &sheet)?;
+    let connections = connections_of(alloc, keys, schedule_files, files.transfers, ids)?;
+    Ok(FeedRows {
+        stops,
+        stations,
+        connections,
+    })
+}
+
+// The tables of these rows.
+fn tables_of(rows: FeedRows) -> Tables
+    requires { AreTables (rows_in rows) }
+    ensures { result ≡ rows_in rows }
+{
+    let FeedRows {
+        stops,
+        stations,
+        connections,
+    } = rows;
+    let Connections {
+        schedule,
+        transfers,
+    } = connections;
+    let Times { calendars, calls } = schedule.times;
     let skipped = Skipped {
         calls: calls.skipped,
         transfers: transfers.skipped,
     };
     Tables {
-        stops: stops.stops,
-        stations: stops.stations,
-        services: trips.services,
-        trips: trips.trips,
+        stops,
+        stations,
+        services: schedule.services,
+        trips: schedule.trips,
         calendar: calendars.rows,
         calendar_dates: calendars.dates,
         calls: calls.calls,
@@ -146,12 +305,6 @@ pub fn read_tables<R: Read + Drop>(
 ) -> Result<Tables, FeedFault>
     ensures { (feed : Feed) → AreReaders R.remaining files feed → Answers (λ tables. tables) result (feed_tests feed) (values_of feed) }
 {
-    let stops_sheet = open_sheet(alloc, FeedFile::Stops, files.stops)?;
-    let stops = read_stops(alloc, keys, &stops_sheet)?;
-    let trips_sheet = open_sheet(alloc, FeedFile::Trips, files.trips)?;
-    let trips = read_trips(alloc, keys, &trips_sheet)?;
-    let calendars = read_calendars(alloc, keys, files.calendar, files.calendar_dates)?;
-    let calls = read_stop_times(alloc, keys, files.stop_times, &stops.ids.stops, &trips.ids)?;
-    let transfers = read_optional_transfers(alloc, files.transfers, &stops.ids)?;
-    Ok(tables_of(stops, trips, calendars, calls, transfers))
+    let rows = read_rows(alloc, keys, files)?;
+    Ok(tables_of(rows))
 }

@@ -1,114 +1,71 @@
-use Rattle.std.proofs.Common.{◌≡◌, ◌∙◌, sym, ap, refl, arith, ℕ, true, false, List, [], ◌∷◌, codes, length, map, ◌≤◌, ◌<◌, ◌&&◌, nat_le, Bor, get_or}
-use Rattle.std.specs.Prelude.{is_some}
-use Rattle.std.specs.List.{list_all, All}
+use Rattle.std.proofs.Common.{◌≡◌, ◌∙◌, sym, ap, ℕ, List, length, map, ◌<◌, Bor, get_or}
+use Rattle.std.specs.List.{All}
 use Rattle.std.specs.Option.{IfSome}
 use Rattle.std.proofs.lemmas.List.{length-map}
 use Rattle.std.proofs.lemmas.List.Elements.{All-map, All-from_get_or}
 use Rattle.gtfs_rows.specs.declared.values.Stop.{Stop}
+use Rattle.gtfs_rows.specs.declared.values.Station.{Station}
 use Rattle.std.proofs.lemmas.Result.{err_from_is_err_and}
-use Rattle.std.proofs.lemmas.List.Kept.{AllPairs-filter}
-use Rattle.gtfs_text.specs.Sheets.{Table, column_of, row_count}
-use Rattle.std.specs.Str.{bytes_eq}
-use Rattle.gtfs_rows.specs.declared.fault.FeedFile.TheVariants as files
-use Rattle.gtfs_stops.specs.declared.stops.RowKind.{RowKind}
+use Rattle.gtfs_text.specs.Sheets.{Table}
 use Rattle.gtfs_stops.specs.declared.stops.RowKind.TheVariants as row_kinds
-use Rattle.gtfs_rows.specs.Rows.{distinct, AreApart, rows_of, texts_in, number_in}
-use Rattle.gtfs_stops.specs.Stops.{stop_id, stop_tests, has_few_stops, ids_of_kind, rows_of_kind, means, location_type, stop_among, station_of, parent_station}
-use Rattle.gtfs_rows.proofs.RowFacts.{is_there, table_rest, table_row_fault, too_many, few_and, not_few, is_few, length-filter_rows}
-use Rattle.gtfs_rows.proofs.TextFacts.{distinct_apart, length-texts_in, number_below}
+use Rattle.gtfs_rows.specs.Rows.{texts_in, number_in}
+use Rattle.gtfs_stops.specs.Stops.{stop_id, ids_of_kind, rows_of_kind, stop_among, station_of, parent_station}
+use Rattle.gtfs_rows.proofs.TextFacts.{length-texts_in, number_below}
 use Rattle.gtfs_stops.proofs.stops.read_stops.Goals as goal
 
-columns : (table : Table) → is_some (column_of table (codes "stop_id")) ≡ true → list_all (λ name. is_some (column_of table name)) (codes "stop_id" ∷ []) ≡ true
-columns table h = rw h refl
-
--- the ids of a kind, where no two rows have one
-ids_are : (table : Table) (kind : RowKind) (texts : List (List ℕ)) → AreApart (stop_id table) (rows_of table) → texts ≡ distinct (ids_of_kind kind table) → texts ≡ ids_of_kind kind table
-ids_are table kind texts apart held = held ∙ distinct_apart (stop_id table) (rows_of_kind kind table)
-    (AllPairs-filter (λ (a b : ℕ). bytes_eq (stop_id table b) (stop_id table a) ≡ false) (λ (row : ℕ). means kind (location_type table row)) (rows_of table) apart)
-
-pub returns-in_err-all-clause-stops : goal.returns-in_err-all-clause-stops
-returns-in_err-all-clause-stops c =
-    let p = err_from_is_err_and c.from_residual-in_err-all.result c.from_residual-in_err-all.ensures.1 in
-    let there = columns c.args.sheet.now (is_there c.stop_columns-columns.result.id (column_of c.args.sheet.now (codes "stop_id")) c.is_none.result c.stop_columns-columns.ensures.id c.is_none.ensures c.if-is_none.false) in
-    let f = c.in_err-all.field-0.0 in
-    rw (p.1, p.2) (table_row_fault files.Stops (codes "stop_id" ∷ []) stop_tests has_few_stops c.args.sheet.now f.kind f there c.in_err-all.ensures.tests)
-
-pub returns-then-rows-gt-ROW_LIMIT-clause-stops : goal.returns-then-rows-gt-ROW_LIMIT-clause-stops
-returns-then-rows-gt-ROW_LIMIT-clause-stops c =
-    let there = columns c.args.sheet.now (is_there c.stop_columns-columns.result.id (column_of c.args.sheet.now (codes "stop_id")) c.is_none.result c.stop_columns-columns.ensures.id c.is_none.ensures c.if-is_none.false) in
-    let small = too_many (row_count c.args.sheet.now) 999_999_999 (has_few_stops c.args.sheet.now) (omega (arith, c.rows.ensures, c.if-rows-gt-ROW_LIMIT.true)) in
-    rw c.new-then-rows-gt-ROW_LIMIT.ensures (table_rest files.Stops (codes "stop_id" ∷ []) stop_tests has_few_stops c.args.sheet.now false there c.in_ok-all.ensures.tests small)
-
--- how many stops there are
-stop_count : (table : Table) (keys : List (Bor (List ℕ))) (n : ℕ) → texts_in keys ≡ ids_of_kind row_kinds.Stop table → n ≡ length keys → length (ids_of_kind row_kinds.Stop table) ≡ n
-stop_count table keys n held len = ap length (sym held) ∙ length-texts_in keys ∙ sym len
-
-pub returns-then-len-gt-STOP_LIMIT-clause-stops : goal.returns-then-len-gt-STOP_LIMIT-clause-stops
-returns-then-len-gt-STOP_LIMIT-clause-stops c =
-    let table = c.args.sheet.now in
-    let there = columns table (is_there c.stop_columns-columns.result.id (column_of table (codes "stop_id")) c.is_none.result c.stop_columns-columns.ensures.id c.is_none.ensures c.if-is_none.false) in
-    let count = stop_count table c.in_ok-stops.stops.keys c.len.result (ids_are table row_kinds.Stop (texts_in c.in_ok-stops.stops.keys) c.in_ok-all.ensures.apart c.in_ok-stops.ensures) c.len.ensures.len in
-    let small : (nat_le (row_count table) 999_999_999 && has_few_stops table) ≡ false =
-    few_and (row_count table) 999_999_999 (has_few_stops table) (omega (arith, c.rows.ensures, c.if-rows-gt-ROW_LIMIT.false))
-    ∙ not_few (length (ids_of_kind row_kinds.Stop table)) 65_534 (omega (arith, count, c.if-len-gt-STOP_LIMIT.true)) in
-    rw c.new-then-len-gt-STOP_LIMIT.ensures (table_rest files.Stops (codes "stop_id" ∷ []) stop_tests has_few_stops table false there c.in_ok-all.ensures.tests small)
-
--- how many stations there are
-station_count : (table : Table) (keys : List (Bor (List ℕ))) → texts_in keys ≡ ids_of_kind row_kinds.Station table → length keys ≤ row_count table
-station_count table keys held =
-    let few = length-filter_rows (λ (row : ℕ). means row_kinds.Station (location_type table row)) table in
-    let count : length keys ≡ length (rows_of_kind row_kinds.Station table) = sym (length-texts_in keys) ∙ ap length held ∙ length-map (rows_of_kind row_kinds.Station table) (stop_id table) in
-    omega (arith, few, count)
+pub returns-in_err-ids-clause-stops : goal.returns-in_err-ids-clause-stops
+returns-in_err-ids-clause-stops c =
+    let p = err_from_is_err_and c.from_residual.result c.from_residual.ensures.1 in
+    rw (p.1, p.2) c.in_err-ids.ensures.tests
 
 pub keep_stops-requires-clause-few : goal.keep_stops-requires-clause-few
-keep_stops-requires-clause-few c =
-    let table = c.args.sheet.now in
-    let count = station_count table c.in_ok-stations.stations.keys (ids_are table row_kinds.Station (texts_in c.in_ok-stations.stations.keys) c.in_ok-all.ensures.apart c.in_ok-stations.ensures) in
-    omega (arith, count, c.rows.ensures, c.if-rows-gt-ROW_LIMIT.false)
+keep_stops-requires-clause-few c = c.in_ok-ids.ensures.few_stations
 
-pub returns-in_err-keep_stops-clause-stops : goal.returns-in_err-keep_stops-clause-stops
-returns-in_err-keep_stops-clause-stops c =
-    let p = err_from_is_err_and c.from_residual-in_err-keep_stops.result c.from_residual-in_err-keep_stops.ensures.1 in
+pub returns-in_err-stops-clause-stops : goal.returns-in_err-stops-clause-stops
+returns-in_err-stops-clause-stops c =
+    let p = err_from_is_err_and c.from_residual-in_err-stops.result c.from_residual-in_err-stops.ensures.1 in
     rw (p.1, p.2) tt
 
-pub returns-in_err-keep_stations-clause-stops : goal.returns-in_err-keep_stations-clause-stops
-returns-in_err-keep_stations-clause-stops c =
-    let p = err_from_is_err_and c.from_residual-in_err-keep_stations.result c.from_residual-in_err-keep_stations.ensures.1 in
+pub returns-in_err-stations-clause-stops : goal.returns-in_err-stations-clause-stops
+returns-in_err-stations-clause-stops c =
+    let p = err_from_is_err_and c.from_residual-in_err-stations.result c.from_residual-in_err-stations.ensures.1 in
     rw (p.1, p.2) tt
 
 pub returns-clause-stops : goal.returns-clause-stops
 returns-clause-stops c =
-    let table = c.args.sheet.now in
-    let there = columns table (is_there c.stop_columns-columns.result.id (column_of table (codes "stop_id")) c.is_none.result c.stop_columns-columns.ensures.id c.is_none.ensures c.if-is_none.false) in
-    let count = stop_count table c.in_ok-stops.stops.keys c.len.result (ids_are table row_kinds.Stop (texts_in c.in_ok-stops.stops.keys) c.in_ok-all.ensures.apart c.in_ok-stops.ensures) c.len.ensures.len in
-    let small : (nat_le (row_count table) 999_999_999 && has_few_stops table) ≡ true =
-    few_and (row_count table) 999_999_999 (has_few_stops table) (omega (arith, c.rows.ensures, c.if-rows-gt-ROW_LIMIT.false))
-    ∙ is_few (length (ids_of_kind row_kinds.Stop table)) 65_534 (omega (arith, count, c.if-len-gt-STOP_LIMIT.false)) in
-    let stations = ids_are table row_kinds.Station (texts_in c.in_ok-stations.stations.keys) c.in_ok-all.ensures.apart c.in_ok-stations.ensures in (
-      table_rest files.Stops (codes "stop_id" ∷ []) stop_tests has_few_stops table true there c.in_ok-all.ensures.tests small,
-      c.in_ok-keep_stops.ensures ∙ ap (λ (texts : List (List ℕ)). map (stop_among texts table) (rows_of_kind row_kinds.Stop table)) stations,
-    )
+    (c.in_ok-ids.ensures.tests, c.in_ok-stops.ensures ∙ ap (λ (texts : List (List ℕ)). map (stop_among texts c.args.sheet.now) (rows_of_kind row_kinds.Stop c.args.sheet.now)) c.in_ok-ids.ensures.ids.stations)
 
 pub returns-clause-stations : goal.returns-clause-stations
-returns-clause-stations c =
-    c.in_ok-keep_stations.ensures ∙ ap (map station_of) (ids_are c.args.sheet.now row_kinds.Station (texts_in c.in_ok-stations.stations.keys) c.in_ok-all.ensures.apart c.in_ok-stations.ensures)
+returns-clause-stations c = c.in_ok-stations.ensures ∙ ap (map station_of) c.in_ok-ids.ensures.ids.stations
 
 pub returns-clause-ids : goal.returns-clause-ids
-returns-clause-ids c =
-    let table = c.args.sheet.now in
-    record {
-      all = c.in_ok-all.ensures.ids;
-      stops = ids_are table row_kinds.Stop (texts_in c.in_ok-stops.stops.keys) c.in_ok-all.ensures.apart c.in_ok-stops.ensures;
-      stations = ids_are table row_kinds.Station (texts_in c.in_ok-stations.stations.keys) c.in_ok-all.ensures.apart c.in_ok-stations.ensures;
-    }
+returns-clause-ids c = c.in_ok-ids.ensures.ids
+
+-- as many stops as ids of stops, and as many stations as ids of stations
+as_many_stops : (table : Table) (keys : List (Bor (List ℕ))) (stations : List (List ℕ)) (stops : List Stop) → texts_in keys ≡ ids_of_kind row_kinds.Stop table
+    → stops ≡ map (stop_among stations table) (rows_of_kind row_kinds.Stop table) → length keys ≡ length stops
+as_many_stops table keys stations stops held are =
+    sym (length-texts_in keys) ∙ ap length held ∙ length-map (rows_of_kind row_kinds.Stop table) (stop_id table)
+    ∙ sym (ap length are ∙ length-map (rows_of_kind row_kinds.Stop table) (stop_among stations table))
+
+as_many_stations : (keys : List (Bor (List ℕ))) (stations : List Station) → stations ≡ map station_of (texts_in keys) → length keys ≡ length stations
+as_many_stations keys stations are = sym (length-texts_in keys) ∙ sym (ap length are ∙ length-map (texts_in keys) station_of)
+
+pub returns-clause-stop_ids : goal.returns-clause-stop_ids
+returns-clause-stop_ids c =
+    as_many_stops c.args.sheet.now c.in_ok-ids.ids.stops.keys (texts_in c.in_ok-ids.ids.stations.keys) c.in_ok-stops.stops.items c.in_ok-ids.ensures.ids.stops c.in_ok-stops.ensures
 
 pub returns-clause-few : goal.returns-clause-few
 returns-clause-few c =
-    let table = c.args.sheet.now in
-    let count = stop_count table c.in_ok-stops.stops.keys c.len.result (ids_are table row_kinds.Stop (texts_in c.in_ok-stops.stops.keys) c.in_ok-all.ensures.apart c.in_ok-stops.ensures) c.len.ensures.len in
-    let kept : length c.in_ok-keep_stops.field-0.items ≡ length (rows_of_kind row_kinds.Stop table) =
-    ap length c.in_ok-keep_stops.ensures ∙ length-map (rows_of_kind row_kinds.Stop table) (stop_among (texts_in c.in_ok-stations.stations.keys) table) in
-    omega (arith, count, kept, length-map (rows_of_kind row_kinds.Stop table) (stop_id table), c.if-len-gt-STOP_LIMIT.false)
+    rw (← as_many_stops c.args.sheet.now c.in_ok-ids.ids.stops.keys (texts_in c.in_ok-ids.ids.stations.keys) c.in_ok-stops.stops.items c.in_ok-ids.ensures.ids.stops c.in_ok-stops.ensures)
+    c.in_ok-ids.ensures.few
+
+pub returns-clause-station_ids : goal.returns-clause-station_ids
+returns-clause-station_ids c = as_many_stations c.in_ok-ids.ids.stations.keys c.in_ok-stations.stations.items c.in_ok-stations.ensures
+
+pub returns-clause-few_stations : goal.returns-clause-few_stations
+returns-clause-few_stations c =
+    rw (← as_many_stations c.in_ok-ids.ids.stations.keys c.in_ok-stations.stations.items c.in_ok-stations.ensures) c.in_ok-ids.ensures.few_stations
 
 -- each station's number is below how many there are
 linked : (texts : List (List ℕ)) (table : Table) (rows : List ℕ) (n : ℕ) → n ≡ length texts → All (λ stop. IfSome stop.station (λ m. m < n)) (map (stop_among texts table) rows)
@@ -118,25 +75,6 @@ linked texts table rows n e =
 
 pub returns-clause-linked : goal.returns-clause-linked
 returns-clause-linked c =
-    let texts = texts_in c.in_ok-stations.stations.keys in
-    let count : length c.in_ok-keep_stations.field-0.items ≡ length texts = ap length c.in_ok-keep_stations.ensures ∙ length-map texts station_of in
-    rw c.in_ok-keep_stops.ensures (linked texts c.args.sheet.now (rows_of_kind row_kinds.Stop c.args.sheet.now) (length c.in_ok-keep_stations.field-0.items) count)
-
-pub returns-clause-stop_ids : goal.returns-clause-stop_ids
-returns-clause-stop_ids c =
-    let table = c.args.sheet.now in
-    let held = ids_are table row_kinds.Stop (texts_in c.in_ok-stops.stops.keys) c.in_ok-all.ensures.apart c.in_ok-stops.ensures in
-    sym (length-texts_in c.in_ok-stops.stops.keys) ∙ ap length held ∙ length-map (rows_of_kind row_kinds.Stop table) (stop_id table)
-    ∙ sym (ap length c.in_ok-keep_stops.ensures ∙ length-map (rows_of_kind row_kinds.Stop table) (stop_among (texts_in c.in_ok-stations.stations.keys) table))
-
-pub returns-clause-station_ids : goal.returns-clause-station_ids
-returns-clause-station_ids c =
-    sym (length-texts_in c.in_ok-stations.stations.keys) ∙ sym (ap length c.in_ok-keep_stations.ensures ∙ length-map (texts_in c.in_ok-stations.stations.keys) station_of)
-
-pub returns-clause-few_stations : goal.returns-clause-few_stations
-returns-clause-few_stations c =
-    let table = c.args.sheet.now in
-    let count = station_count table c.in_ok-stations.stations.keys (ids_are table row_kinds.Station (texts_in c.in_ok-stations.stations.keys) c.in_ok-all.ensures.apart c.in_ok-stations.ensures) in
-    let kept : length c.in_ok-keep_stations.field-0.items ≡ length c.in_ok-stations.stations.keys =
-    ap length c.in_ok-keep_stations.ensures ∙ length-map (texts_in c.in_ok-stations.stations.keys) station_of ∙ length-texts_in c.in_ok-stations.stations.keys in
-    omega (arith, count, kept, c.rows.ensures, c.if-rows-gt-ROW_LIMIT.false)
+    let texts = texts_in c.in_ok-ids.ids.stations.keys in
+    let count : length c.in_ok-stations.stations.items ≡ length texts = ap length c.in_ok-stations.ensures ∙ length-map texts station_of in
+    rw c.in_ok-stops.ensures (linked texts c.args.sheet.now (rows_of_kind row_kinds.Stop c.args.sheet.now) (length c.in_ok-stations.stations.items) count)
