@@ -12,9 +12,9 @@ use Rattle.timetable.specs.Answers.{IsTimetable}
 use Rattle.timetable.specs.Names.{AreNamesOf}
 use Rattle.timetable.specs.Table.{stops_of}
 use Rattle.planner.specs.Places.{AreNames}
-use Rattle.commands.specs.Tasks.{question_of, day_of}
+use Rattle.command_line.specs.Tasks.{question_of, day_of}
 use Rattle.commands.specs.declared.basis.Basis.{Basis}
-use Rattle.commands.specs.declared.job.Job.{Job}
+use Rattle.command_line.specs.declared.job.Job.{Job}
 
 -- the job's words are that first covered date, that date to leave on, and that time
 pub record AreDateTime (job : Job) (first day : Date) (seconds : ℕ) : Type 0 where

@@ -5,7 +5,7 @@ ghost use Rattle.gtfs_tables.specs.Feed.{Feed, AreReaders};
 ghost use Rattle.commands.specs.Basis.{AreDateTime, IsBasis, IsSound};
 ghost use Rattle.commands.specs.Feeds.{IsBasisFault, IsWordFault};
 
-use crate::job::Job;
+use command_line::Job;
 use gtfs_tables::{Files, read_tables};
 use gtfs_text::{date, time};
 use jiff::civil::Date;

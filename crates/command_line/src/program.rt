@@ -1,10 +1,10 @@
-//! The command line.
+//! The commands and the words that each takes.
 
-ghost use Rattle.std.specs.Prelude.{◌≡◌, codes, false, IfOk, IfErr, map};
-ghost use Rattle.clap.specs.Words.{app_of, kind_of, subcommand_of, subcommand_rows_of, fault_of, FailsBy};
+ghost use Rattle.std.specs.Prelude.{◌≡◌, codes, false, IfOk, IfErr, IsOkAnd, map};
+ghost use Rattle.clap.specs.Words.{app_of, kind_of, subcommand_of, subcommand_rows_of, fault_of, with_subcommand, FailsBy};
 ghost use Rattle.clap.specs.declared.error.kind.ErrorKind.TheVariants.{OutOfMemory};
 ghost use Rattle.clap.specs.declared.builder.command.Command.TheViews.{out-Command as fields_of};
-ghost use Rattle.commands.specs.CommandLine.{ask_app, journey_app, program_app};
+ghost use Rattle.command_line.specs.CommandLine.{ask_app, journey_app, program_app};
 
 use clap::{ArgMatches, Command, Error};
 use programs::{common, flag, optional, required};
@@ -42,32 +42,27 @@ journeys of each stop, which are built first, in memory; that takes long on a la
 
 const DIRECT: &str = "Prints the least arrival of one ride from a stop to a stop, without walks.";
 
+const FROM: &str = "The id of the stop to leave from, for ask also of a station";
+
+const TO: &str = "The id of the stop to go to, for ask also of a station";
+
+const AT: &str =
+    "The time to leave at, on the first covered day where no other is named; hours up to 167";
+
+const ON: &str = "The covered day to leave on, where it isn't the first";
+
+const LEGS: &str = "Print the rides and walks of each journey below its line";
+
 // A command that goes from one stop to another, at a time.
 fn journey<'a>(alloc: Global, name: &'a str, about: &'a str) -> Result<Command<'a>, Error>
     ensures shape { IfOk result (λ c. app_of c ≡ journey_app name.entry.now) }
     ensures local { IfOk result (λ c. (fields_of c).has_globals ≡ false) }
     ensures err { IfErr result (λ e. kind_of e ≡ OutOfMemory) }
 {
-    let at = required(
-        alloc,
-        "at",
-        "HH:MM:SS",
-        "The time to leave at, on the first covered day where no other is named; hours up to 167",
-    );
     let command = common(alloc, name, about)?
-        .arg(required(
-            alloc,
-            "from",
-            "STOP",
-            "The id of the stop to leave from, for ask also of a station",
-        ))?
-        .arg(required(
-            alloc,
-            "to",
-            "STOP",
-            "The id of the stop to go to, for ask also of a station",
-        ))?
-        .arg(at)?;
+        .arg(required(alloc, "from", "STOP", FROM))?
+        .arg(required(alloc, "to", "STOP", TO))?
+        .arg(required(alloc, "at", "HH:MM:SS", AT))?;
     Ok(command)
 }
 
@@ -77,19 +72,38 @@ fn ask<'a>(alloc: Global) -> Result<Command<'a>, Error>
     ensures local { IfOk result (λ c. (fields_of c).has_globals ≡ false) }
     ensures err { IfErr result (λ e. kind_of e ≡ OutOfMemory) }
 {
-    let on = optional(
-        alloc,
-        "on",
-        "YYYYMMDD",
-        "The covered day to leave on, where it isn't the first",
-    );
-    let legs = flag(
-        alloc,
-        "legs",
-        "Print the rides and walks of each journey below its line",
-    );
-    let command = journey(alloc, "ask", ASK)?.arg(on)?.arg(legs)?;
+    let command = journey(alloc, "ask", ASK)?
+        .arg(optional(alloc, "on", "YYYYMMDD", ON))?
+        .arg(flag(alloc, "legs", LEGS))?;
     Ok(command)
+}
+
+// The program with one more command, where that could be made.
+fn with_command<'a>(
+    program: Command<'a>,
+    command: Result<Command<'a>, Error>,
+) -> Result<Command<'a>, Error>
+    requires local { IfOk command (λ c. (fields_of c).has_globals ≡ false) }
+    requires memory { IfErr command (λ e. kind_of e ≡ OutOfMemory) }
+    ensures shape { IfOk result (λ p. IsOkAnd command.entry (λ c. app_of p ≡ with_subcommand (app_of program.entry) (app_of c).top)) }
+    ensures err { IfErr result (λ e. kind_of e ≡ OutOfMemory) }
+{
+    Ok(program.subcommand(command?)?)
+}
+
+// The program's command line.
+fn program<'a>(alloc: Global) -> Result<Command<'a>, Error>
+    ensures shape { IfOk result (λ c. app_of c ≡ program_app) }
+    ensures err { IfErr result (λ e. kind_of e ≡ OutOfMemory) }
+{
+    let program = Command::new(alloc, "tp")
+        .about(ABOUT)
+        .after_help(EXAMPLES)
+        .subcommand_required(true);
+    let program = with_command(program, journey(alloc, "direct", DIRECT))?;
+    let program = with_command(program, journey(alloc, "scan", SCAN))?;
+    let program = with_command(program, ask(alloc))?;
+    Ok(program)
 }
 
 /// What the words match of the program's command line.
@@ -97,12 +111,5 @@ pub fn matches_of<'a>(alloc: Global, words: &'a [&'a str]) -> Result<ArgMatches<
     ensures rows { IfOk result (λ m. subcommand_rows_of m ≡ subcommand_of program_app (map (λ w. w.now) words.entry.now)) }
     ensures faults { FailsBy (fault_of program_app (map (λ w. w.now) words.entry.now)) result }
 {
-    let program = Command::new(alloc, "tp")
-        .about(ABOUT)
-        .after_help(EXAMPLES)
-        .subcommand_required(true)
-        .subcommand(journey(alloc, "direct", DIRECT)?)?
-        .subcommand(journey(alloc, "scan", SCAN)?)?
-        .subcommand(ask(alloc)?)?;
-    program.try_get_matches_from(words)
+    program(alloc)?.try_get_matches_from(words)
 }

@@ -4,10 +4,10 @@ use Rattle.std.specs.Option.{option_map}
 use Rattle.clap.specs.Words.{Row, Text, first_of}
 use Rattle.programs.specs.Settings.{HasSettings}
 use Rattle.programs.specs.Values.{HasFlag, HasText}
-use Rattle.commands.specs.declared.job.Job.{Job}
-use Rattle.commands.specs.declared.job.Question.{Question}
-use Rattle.commands.specs.declared.job.Task.{Task}
-use Rattle.commands.specs.declared.job.Task.TheVariants as task
+use Rattle.command_line.specs.declared.job.Job.{Job}
+use Rattle.command_line.specs.declared.job.Question.{Question}
+use Rattle.command_line.specs.declared.job.Task.{Task}
+use Rattle.command_line.specs.declared.job.Task.TheVariants as task
 
 -- the words of a question
 pub record IsQuestion (rows : List Row) (question : Question) : Type 0 where

@@ -1,7 +1,7 @@
 //! What the program is asked to do.
 
 ghost use Rattle.std.specs.Prelude.{◌≡◌};
-ghost use Rattle.commands.specs.Tasks.{question_of, day_of};
+ghost use Rattle.command_line.specs.Tasks.{question_of, day_of};
 
 use programs::Settings;
 

@@ -1,9 +1,9 @@
 use Rattle.std.proofs.Common.{List}
 use Rattle.clap.specs.Words.{Row, Text, rows_of, found_of}
-use Rattle.commands.specs.Jobs.{IsTask, LacksQuestion}
-use Rattle.commands.specs.declared.job.Task.{Task}
-use Rattle.commands.specs.declared.job.Task.TheVariants as task
-use Rattle.commands.proofs.words.task_of.Goals as goal
+use Rattle.command_line.specs.Jobs.{IsTask, LacksQuestion}
+use Rattle.command_line.specs.declared.job.Task.{Task}
+use Rattle.command_line.specs.declared.job.Task.TheVariants as task
+use Rattle.command_line.proofs.words.task_of.Goals as goal
 
 no_task : (name : Text) (rows : List Row) → LacksQuestion rows → (t : Task) → ¬ IsTask name rows t
 no_task name rows lacks (task.Direct question) h = lacks question h.1
