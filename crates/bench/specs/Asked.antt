@@ -1,10 +1,5 @@
--- The questions that are asked, and the answers to them.
-use Rattle.std.specs.Prelude.{◌≡◌, ◌≢◌, ℕ, ◌-◌, ◌<◌, ◌≤◌, List, Option, length, slice_get, option_map}
-use Rattle.timetable.specs.declared.parts.Leg.{Leg}
-use Rattle.timetable.specs.declared.parts.Numbers.{Numbers}
-use Rattle.timetable.specs.Table.{Table}
-use Rattle.timetable.specs.Journeys.{Serves, IsLeast, arrives}
-use Rattle.timetable.specs.Front.{AreFront}
+-- The questions that are asked.
+use Rattle.std.specs.Prelude.{◌≢◌, ℕ, ◌<◌, ◌≤◌}
 use Rattle.bench.specs.declared.questions.Question.{Question}
 use Rattle.bench.specs.declared.questions.Questions.{Questions}
 
@@ -22,16 +17,3 @@ pub record IsAsked (sources stops : ℕ) (question : Question) : Type 0 where
   pub different : question.from ≢ question.to
   pub early : 18_000 ≤ question.depart
   pub late : question.depart < 79_200
-
--- a ride that answers the question arrives then
-abbrev pub RideArrives : Table → Question → ℕ → Type 0
-RideArrives table question arrival = (leg : Leg) × Serves table question.from question.to question.depart leg × (arrives table leg ≡ arrival)
-
--- the least arrival of one ride, none only where there is no ride
-abbrev pub IsRideAnswer : Table → Question → Option ℕ → Type 0
-IsRideAnswer table question arrival = IsLeast (RideArrives table question) arrival
-
--- the arrival of the last of the best journeys of at most k rides, which is the one with the most rides and the earliest arrival
-abbrev pub IsJourneyAnswer : Table → ℕ → Question → Option ℕ → Type 0
-IsJourneyAnswer table k question arrival = (front : List Numbers) × AreFront table k question.from question.to question.depart front
-    × (arrival ≡ option_map (λ n. n.arrival) (slice_get front (length front - 1)))

@@ -1,5 +1,3 @@
 pub mod Asked
 pub mod CommandLine
-pub mod Statuses
-pub mod Totals
-pub mod Trees
+pub mod Times

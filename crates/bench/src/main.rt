@@ -3,7 +3,7 @@
 
 mod asking;
 mod building;
-mod fault;
+mod clock;
 mod measuring;
 mod questions;
 mod total;
@@ -41,6 +41,3 @@ fn status(rt: &HostRuntime) -> u8 {
 fn main(rt: HostRuntime) -> ExitCode {
     ExitCode::from(status(&rt))
 }
-
-#[cfg(test)]
-mod tests;

@@ -1,15 +1,15 @@
 //! What is measured, part by part.
 
-ghost use Rattle.std.specs.Prelude.{◌≡◌, ◌≤◌, None, Err, IfOk, length};
+ghost use Rattle.std.specs.Prelude.{◌≡◌, ◌<◌, None, Err};
 ghost use Rattle.gtfs_text.specs.Values.{date_of};
 ghost use Rattle.timetable.specs.Table.{stops_of};
+ghost use Rattle.rounds.specs.Scratch.{IsMadeFor as IsScratchFor};
 ghost use Rattle.direct_connections.specs.Direct.{IsMadeFor};
 ghost use Rattle.programs.specs.declared.fault.Fault.TheVariants.{BadDate};
-ghost use Rattle.bench.specs.Trees.{AreTrees, kept, most_rides};
 
-use crate::asking::{ask_direct, ask_plain, ask_rounds, ask_scan, ask_trees};
-use crate::building::{TreeSize, Trees};
-use crate::fault::Fault;
+use crate::asking::{ask_direct, ask_plain, ask_rounds, ask_trees};
+use crate::building::source_patterns;
+use crate::clock::{now, tell};
 use crate::total::times_faster;
 use crate::words::Measure;
 use direct_connections::Direct;
@@ -17,38 +17,25 @@ use gtfs_tables::{Tables, read_tables};
 use gtfs_text::date;
 use jiff::civil::Date;
 use lines::Lines;
+use pattern_query::Patterns;
 use pattern_tree::Arena;
-use programs::{NO_KEYS, Settings, open_feed};
+use programs::{Fault, NO_KEYS, Settings, open_feed};
 use rounds::{Rides, Scratch};
 use service_days::Cover;
-use std::alloc::Global;
+use std::alloc::{AllocError, Global};
 use std::hash::RandomState;
 use std::io::Write;
 use std::time::Instant;
 use timetable::{StopId, Timetable, assemble};
 
-// Now, by the system's clock.
-fn now(rt: &HostRuntime) -> Result<Instant, Fault> {
-    Instant::now(rt).map_err(|_| Fault::NoClock)
-}
-
-// Tells on standard error how long a part took that began at `start`, and how many things it was about. Gives its nanoseconds.
-fn tell(rt: &HostRuntime, name: &str, count: u64, start: Instant) -> Result<u64, Fault> {
-    let took = now(rt)?.duration_since(start);
-    let (seconds, micros) = (took.as_secs(), took.subsec_micros());
-    let _ = writeln!(rt.stderr(), "{name} {count} {seconds}.{micros:06}");
-    let nanos = seconds.saturating_mul(1_000_000_000);
-    Ok(nanos.saturating_add(u64::from(took.subsec_nanos())))
-}
-
 // The feed's tables.
-fn read(rt: &HostRuntime, folder: &str) -> Result<Tables, programs::Fault<'static>> {
+fn read(rt: &HostRuntime, folder: &str) -> Result<Tables, Fault<'static>> {
     let alloc = rt.alloc();
     let Ok(keys) = RandomState::new(rt) else {
-        return Err(programs::Fault::Feed(NO_KEYS));
+        return Err(Fault::Feed(NO_KEYS));
     };
     let Ok(files) = open_feed(rt, alloc, folder) else {
-        return Err(programs::Fault::Memory);
+        return Err(Fault::Memory);
     };
     Ok(read_tables(alloc, keys, files)?)
 }
@@ -59,7 +46,7 @@ fn timetable_of(
     tables: &Tables,
     first: Date,
     settings: &Settings<'_>,
-) -> Result<Timetable, programs::Fault<'static>> {
+) -> Result<Timetable, Fault<'static>> {
     let cover = Cover::new(first, settings.days, settings.zone)?;
     Ok(assemble(alloc, tables, &cover, settings.default_walk)?)
 }
@@ -69,30 +56,15 @@ fn measure_making(
     rt: &HostRuntime,
     first: Date,
     settings: &Settings<'_>,
-) -> Result<Timetable, Fault> {
-    let start = now(rt)?;
+) -> Result<Timetable, Fault<'static>> {
+    let start = now(rt);
     let tables = read(rt, settings.feed)?;
-    tell(rt, "read", tables.trips().len() as u64, start)?;
+    tell(rt, "read", tables.trips().len() as u64, start);
 
-    let start = now(rt)?;
+    let start = now(rt);
     let timetable = timetable_of(rt.alloc(), &tables, first, settings)?;
-    tell(rt, "assemble", timetable.instances().len() as u64, start)?;
+    tell(rt, "assemble", timetable.instances().len() as u64, start);
     Ok(timetable)
-}
-
-// Measures how the lines and their places by stop come about.
-fn measure_lines(rt: &HostRuntime, timetable: &Timetable) -> Result<(Lines, Direct), Fault>
-    ensures { IfOk result (λ made. IsMadeFor timetable.now made.0 made.1) }
-{
-    let alloc = rt.alloc();
-    let start = now(rt)?;
-    let lines = Lines::of(alloc, timetable)?;
-    tell(rt, "lines", lines.lines().len() as u64, start)?;
-
-    let start = now(rt)?;
-    let connections = Direct::of(alloc, timetable, &lines)?;
-    tell(rt, "connections", timetable.stops() as u64, start)?;
-    Ok((lines, connections))
 }
 
 // Measures rides from a stop to a stop: by the lines, and looking at each trip.
@@ -102,89 +74,106 @@ fn measure_rides(
     lines: &Lines,
     connections: &Direct,
     job: &Measure<'_>,
-) -> Result<(), Fault>
+)
     requires { IsMadeFor timetable.now lines.now connections.now }
 {
-    let start = now(rt)?;
+    let start = now(rt);
     let direct = ask_direct(timetable, lines, connections, job.direct, job.seed);
-    let fast = tell(rt, "direct", u64::from(job.direct), start)?;
+    let fast = tell(rt, "direct", u64::from(job.direct), start);
 
-    let start = now(rt)?;
+    let start = now(rt);
     let plain = ask_plain(timetable, job.plain, job.seed);
-    let slow = tell(rt, "plain_direct", u64::from(job.plain), start)?;
+    let slow = tell(rt, "plain_direct", u64::from(job.plain), start);
     let times = times_faster(slow, job.plain, fast, job.direct);
     let _ = writeln!(rt.stderr(), "times_faster {times}");
 
     let _ = writeln!(rt.stdout(), "direct {direct}\nplain_direct {plain}");
-    Ok(())
 }
 
-// Measures the best journeys.
+// Measures the best journeys between any stops, from `start` on.
 fn measure_journeys(
     rt: &HostRuntime,
     timetable: &Timetable,
+    scratch: &mut Scratch,
     job: &Measure<'_>,
-) -> Result<(), Fault> {
-    let rides = Rides::new(job.settings.rides);
-    let start = now(rt)?;
-    let scan = ask_scan(rt.alloc(), timetable, rides, job.queries, job.seed)?;
-    tell(rt, "scan", u64::from(job.queries), start)?;
+    start: Option<Instant>,
+) -> Result<(), AllocError>
+    requires { IsScratchFor scratch.old timetable.now }
+    ensures { IsScratchFor scratch.new timetable.now }
+{
+    let scan = ask_rounds(timetable, scratch, timetable.stops(), job.queries, job.seed)?;
+    tell(rt, "scan", u64::from(job.queries), start);
     let _ = writeln!(rt.stdout(), "scan {scan}");
     Ok(())
 }
 
-// Measures the trees of the first sources, one after the other: each is built in the arena's memory, and its patterns are kept.
-fn measure_trees(rt: &HostRuntime, timetable: &Timetable, job: &Measure<'_>) -> Result<Trees, Fault>
-    ensures trees { IfOk result (λ trees. AreTrees timetable.now (most_rides trees) (kept trees)) }
-    ensures sources { IfOk result (λ trees. length (kept trees) ≤ stops_of timetable.now) }
-    ensures rides { IfOk result (λ trees. most_rides trees ≡ job.now.settings.rides) }
+// Measures the tree of a stop, which is built in the arena's memory, and keeps its patterns.
+fn measure_tree(
+    rt: &HostRuntime,
+    timetable: &Timetable,
+    source: StopId,
+    scratch: &mut Scratch,
+    arena: &mut Arena,
+    trees: &mut Vec<Patterns>,
+) -> Result<(), Fault<'static>>
+    requires made { IsScratchFor scratch.old timetable.now }
+    requires known { source < stops_of timetable.now }
+    ensures { IsScratchFor scratch.new timetable.now }
 {
     let alloc = rt.alloc();
-    let rides = Rides::new(job.settings.rides);
-    let mut scratch = Scratch::new(alloc, timetable, rides)?;
-    let mut arena = Arena::new(alloc)?;
-    let mut trees = Trees::new(alloc, rides);
-    let sources = timetable.stops().min(job.sources as usize);
-    let begin = now(rt)?;
-    for number in 0..sources {
-        let source = StopId::new(number as u16);
-        let start = now(rt)?;
-        let size = trees.grow(alloc, &arena, timetable, source, &mut scratch)?;
-        arena.renew(alloc)?;
-        tell(rt, "tree", number as u64, start)?;
-        let TreeSize { nodes, ends } = size;
-        let _ = writeln!(rt.stdout(), "tree {number} {nodes} {ends}");
-    }
-    tell(rt, "build", sources as u64, begin)?;
-    Ok(trees)
+    let start = now(rt);
+    let (patterns, size) = source_patterns(alloc, arena, timetable, source, scratch)?;
+    trees.push(patterns).map_err(AllocError::from)?;
+    arena.renew(alloc)?;
+    let number = source.number();
+    tell(rt, "tree", number as u64, start);
+    let _ = writeln!(rt.stdout(), "tree {number} {} {}", size.nodes, size.ends);
+    Ok(())
 }
 
-// Measures questions from the sources of the trees: from the trees, and the same ones by the rounds. Without trees nothing is asked.
+// Measures the trees of the first sources, one after the other, and keeps them.
+fn measure_trees(
+    rt: &HostRuntime,
+    timetable: &Timetable,
+    scratch: &mut Scratch,
+    arena: &mut Arena,
+    trees: &mut Vec<Patterns>,
+    sources: u32,
+) -> Result<(), Fault<'static>>
+    requires { IsScratchFor scratch.old timetable.now }
+    ensures { IsScratchFor scratch.new timetable.now }
+{
+    let sources = timetable.stops().min(sources as usize);
+    let start = now(rt);
+    for number in 0..sources {
+        let source = StopId::new(number as u16);
+        measure_tree(rt, timetable, source, scratch, arena, trees)?;
+    }
+    tell(rt, "build", sources as u64, start);
+    Ok(())
+}
+
+// Measures questions from the sources of the trees: from the trees, and the same ones by the rounds.
 fn measure_answers(
     rt: &HostRuntime,
     timetable: &Timetable,
     lines: &Lines,
     connections: &Direct,
-    trees: &Trees,
+    scratch: &mut Scratch,
+    trees: &[Patterns],
     job: &Measure<'_>,
-) -> Result<(), Fault>
+) -> Result<(), AllocError>
     requires tables { IsMadeFor timetable.now lines.now connections.now }
-    requires trees { AreTrees timetable.now (most_rides trees.now) (kept trees.now) }
-    requires sources { length (kept trees.now) ≤ stops_of timetable.now }
+    requires made { IsScratchFor scratch.old timetable.now }
 {
-    let sources = trees.count();
-    if sources == 0 {
-        return Ok(());
-    }
     let (queries, seed) = (job.queries, job.seed);
-    let mut scratch = Scratch::new(rt.alloc(), timetable, trees.rides())?;
-    let start = now(rt)?;
+    let start = now(rt);
     let asked = ask_trees(timetable, lines, connections, trees, queries, seed);
-    let fast = tell(rt, "ask", u64::from(queries), start)?;
+    let fast = tell(rt, "ask", u64::from(queries), start);
 
-    let start = now(rt)?;
-    let scanned = ask_rounds(timetable, &mut scratch, sources, queries, seed)?;
-    let slow = tell(rt, "scan_same", u64::from(queries), start)?;
+    let start = now(rt);
+    let scanned = ask_rounds(timetable, scratch, trees.len(), queries, seed)?;
+    let slow = tell(rt, "scan_same", u64::from(queries), start);
     let times = times_faster(slow, queries, fast, queries);
     let _ = writeln!(rt.stderr(), "ask_times_faster {times}");
 
@@ -192,19 +181,65 @@ fn measure_answers(
     Ok(())
 }
 
-/// Measures all parts: how long each took goes to standard error, what the answers add up to to standard output. No contract says
-/// what a clock gives or what a system's streams take; what is asked and added up is that of `ask_direct`, `ask_plain`, `ask_scan`,
-/// `ask_trees` and `ask_rounds`, and the trees and their sizes are those of `Trees::grow`.
-pub fn measure(rt: &HostRuntime, job: &Measure<'_>) -> Result<(), Fault>
-    ensures date { date_of job.now.settings.date.now ≡ None → result ≡ Err (Fault.Common BadDate) }
+// Measures searches for journeys: by the rounds, and from the trees of the first stops. Without trees nothing is asked of them.
+fn measure_searches(
+    rt: &HostRuntime,
+    timetable: &Timetable,
+    lines: &Lines,
+    connections: &Direct,
+    job: &Measure<'_>,
+) -> Result<(), Fault<'static>>
+    requires { IsMadeFor timetable.now lines.now connections.now }
+{
+    let alloc = rt.alloc();
+    let mut arena = Arena::new(alloc)?;
+    let start = now(rt);
+    let mut scratch = Scratch::new(alloc, timetable, Rides::new(job.settings.rides))?;
+    measure_journeys(rt, timetable, &mut scratch, job, start)?;
+
+    let mut trees = Vec::new(alloc);
+    measure_trees(
+        rt,
+        timetable,
+        &mut scratch,
+        &mut arena,
+        &mut trees,
+        job.sources,
+    )?;
+    if !trees.is_empty() {
+        let trees = trees.as_slice();
+        measure_answers(rt, timetable, lines, connections, &mut scratch, trees, job)?;
+    }
+    Ok(())
+}
+
+// Measures how the lines and their places by stop come about, and then the questions.
+fn measure_questions(
+    rt: &HostRuntime,
+    timetable: &Timetable,
+    job: &Measure<'_>,
+) -> Result<(), Fault<'static>> {
+    let alloc = rt.alloc();
+    let start = now(rt);
+    let lines = Lines::of(alloc, timetable)?;
+    tell(rt, "lines", lines.lines().len() as u64, start);
+
+    let start = now(rt);
+    let connections = Direct::of(alloc, timetable, &lines)?;
+    tell(rt, "connections", timetable.stops() as u64, start);
+
+    measure_rides(rt, timetable, &lines, &connections, job);
+    measure_searches(rt, timetable, &lines, &connections, job)
+}
+
+/// Measures all parts: how long each took goes to standard error, what the answers add up to, and how large the trees are, to standard
+/// output. No contract says what a clock gives or what a system's streams take.
+pub fn measure(rt: &HostRuntime, job: &Measure<'_>) -> Result<(), Fault<'static>>
+    ensures date { date_of job.now.settings.date.now ≡ None → result ≡ Err BadDate }
 {
     let Some(first) = date(job.settings.date) else {
-        return Err(Fault::Common(programs::Fault::BadDate));
+        return Err(Fault::BadDate);
     };
     let timetable = measure_making(rt, first, &job.settings)?;
-    let (lines, connections) = measure_lines(rt, &timetable)?;
-    measure_rides(rt, &timetable, &lines, &connections, job)?;
-    measure_journeys(rt, &timetable, job)?;
-    let trees = measure_trees(rt, &timetable, job)?;
-    measure_answers(rt, &timetable, &lines, &connections, &trees, job)
+    measure_questions(rt, &timetable, job)
 }

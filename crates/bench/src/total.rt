@@ -1,7 +1,7 @@
 //! What the answers add up to.
 
 ghost use Rattle.std.specs.Prelude.{◌≡◌};
-ghost use Rattle.bench.specs.Totals.{times_faster as times_faster_of};
+ghost use Rattle.bench.specs.Times.{times_faster as times_faster_of};
 
 use std::fmt;
 
@@ -14,12 +14,8 @@ pub struct Total {
 }
 
 impl Total {
-    ghost use Rattle.bench.specs.Totals.{with_answer};
-
     /// Adds an answer: when it arrives, if there is a way at all. At 2^64 - 1 the numbers stay.
-    pub fn add(&mut self, arrival: Option<u32>)
-        ensures { self.new ≡ with_answer arrival self.old }
-    {
+    pub fn add(&mut self, arrival: Option<u32>) {
         if let Some(arrival) = arrival {
             self.answered = self.answered.saturating_add(1);
             self.arrivals = self.arrivals.saturating_add(u64::from(arrival));
@@ -28,11 +24,6 @@ impl Total {
 }
 
 impl fmt::Display for Total {
-    ghost use Rattle.std.specs.Prelude.{Some};
-    ghost use Rattle.bench.specs.Totals.{total_text};
-
-    ghost output = { λ total. Some (total_text total) };
-
     fn fmt<W: fmt::Write>(&self, f: &mut fmt::Formatter<W>) -> fmt::Result {
         write!(f, "{} {}", self.answered, self.arrivals)
     }

@@ -17,8 +17,20 @@ const ABOUT: &str =
 NAME COUNT SECONDS for each part, on standard output how many questions had an answer and the sum of their arrivals, and the nodes \
 and ends of each tree.";
 
+const DIRECT: &str = "How many questions for one ride are asked, up to 10000000";
+
+const PLAIN: &str = "How many of these are answered by looking at each trip, too, up to 1000000";
+
+const QUERIES: &str =
+    "How many questions for the best journeys are asked, and of the trees once more, up to 1000000";
+
+const SEED: &str = "Where the random numbers begin: the same seed asks the same questions";
+
+const SOURCES: &str =
+    "The trees of how many sources are built and asked, from the first stop on, up to 65534";
+
 /// What to measure.
-#[derive(Clone, Copy, Debug, PartialEq, Eq)]
+#[derive(Clone, Copy, Debug)]
 pub struct Measure<'a> {
     pub settings: Settings<'a>,
     /// How many questions for one ride are asked.
@@ -39,57 +51,12 @@ fn command<'a>(alloc: Global) -> Result<Command<'a>, Error>
     ensures local { IfOk result (λ c. (fields_of c).has_globals ≡ false) }
     ensures err { IfErr result (λ e. kind_of e ≡ OutOfMemory) }
 {
-    let direct = number(
-        alloc,
-        "direct",
-        "N",
-        "100000",
-        0,
-        10_000_000,
-        "How many questions for one ride are asked, up to 10000000",
-    );
-    let plain = number(
-        alloc,
-        "plain",
-        "N",
-        "100",
-        0,
-        1_000_000,
-        "How many of these are answered by looking at each trip, too, up to 1000000",
-    );
-    let queries = number(
-        alloc,
-        "queries",
-        "N",
-        "1000",
-        0,
-        1_000_000,
-        "How many questions for the best journeys are asked, and of the trees once more, up to 1000000",
-    );
-    let seed = number(
-        alloc,
-        "seed",
-        "S",
-        "1",
-        0,
-        u32::MAX,
-        "Where the random numbers begin: the same seed asks the same questions",
-    );
-    let sources = number(
-        alloc,
-        "sources",
-        "N",
-        "0",
-        0,
-        65_534,
-        "The trees of how many sources are built and asked, from the first stop on, up to 65534",
-    );
     let command = common(alloc, "bench", ABOUT)?
-        .arg(direct)?
-        .arg(plain)?
-        .arg(queries)?
-        .arg(seed)?
-        .arg(sources)?;
+        .arg(number(alloc, "direct", "N", "100000", 0, 10_000_000, DIRECT))?
+        .arg(number(alloc, "plain", "N", "100", 0, 1_000_000, PLAIN))?
+        .arg(number(alloc, "queries", "N", "1000", 0, 1_000_000, QUERIES))?
+        .arg(number(alloc, "seed", "S", "1", 0, u32::MAX, SEED))?
+        .arg(number(alloc, "sources", "N", "0", 0, 65_534, SOURCES))?;
     Ok(command)
 }
 

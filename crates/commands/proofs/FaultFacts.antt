@@ -13,7 +13,7 @@ use Rattle.commands.specs.Feeds.{HasDateTime, IsBasisFault, IsRowFault, IsWordFa
 use Rattle.programs.specs.Faults.{of_days, of_feed, of_kind}
 use Rattle.programs.specs.declared.fault.Fault.{Fault}
 use Rattle.programs.specs.declared.fault.Fault.TheVariants as faults
-use Rattle.commands.specs.declared.job.Job.{Job}
+use Rattle.command_line.specs.declared.job.Job.{Job}
 
 pub of_words : (feed : Feed) (job : Job) (f : Fault) → IsWordFault job f → IsBasisFault feed job f
 of_words feed job faults.BadDate h = h

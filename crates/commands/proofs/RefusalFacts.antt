@@ -22,7 +22,7 @@ use Rattle.programs.specs.Faults.{of_tree}
 use Rattle.programs.specs.declared.fault.Fault.{Fault}
 use Rattle.programs.specs.declared.fault.Fault.TheVariants as told
 use Rattle.commands.specs.declared.basis.Basis.{Basis}
-use Rattle.commands.specs.declared.job.Question.{Question}
+use Rattle.command_line.specs.declared.job.Question.{Question}
 
 nothing : (b : List ℕ) → None ≡ Some b → ⊥
 nothing b e = cc

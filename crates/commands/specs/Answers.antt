@@ -11,13 +11,14 @@ use Rattle.commands.specs.declared.answer.Answer.{Answer}
 use Rattle.commands.specs.declared.answer.Answer.TheVariants as answers
 use Rattle.commands.specs.declared.answer.Point.{Point}
 use Rattle.commands.specs.declared.basis.Basis.{Basis}
-use Rattle.commands.specs.declared.job.Job.{Job}
-use Rattle.commands.specs.declared.job.Question.{Question}
-use Rattle.commands.specs.declared.job.Task.{Task}
-use Rattle.commands.specs.declared.job.Task.TheVariants as tasks
+use Rattle.command_line.specs.declared.job.Job.{Job}
+use Rattle.command_line.specs.declared.job.Question.{Question}
+use Rattle.command_line.specs.declared.job.Task.{Task}
+use Rattle.command_line.specs.declared.job.Task.TheVariants as tasks
 use Rattle.commands.specs.declared.stages.Stage.{Stage}
 use Rattle.commands.specs.Stages.{Says, ShowsPart, parts_of}
-use Rattle.commands.specs.Tasks.{question_of, stops_for}
+use Rattle.command_line.specs.Tasks.{question_of}
+use Rattle.commands.specs.Tasks.{stops_for}
 
 -- the leg is a ride from one of the first stops to one of the others that departs at d or later
 abbrev pub IsRideBetween : Basis → List ℕ → List ℕ → ℕ → Leg → Type 0

@@ -6,21 +6,26 @@ use Rattle.jiff.specs.Placed.{IsPosixZone}
 use Rattle.gtfs_text.specs.Values.{date_of, time_of, ymd}
 use Rattle.gtfs_rows.specs.Faults.{first_fault}
 use Rattle.gtfs_tables.specs.Feed.{Feed, feed_tests, values_of}
+use Rattle.gtfs_tables.specs.Tables.{TableValues}
 use Rattle.service_days.specs.Answers.{IsCoverOf, IsMoment}
 use Rattle.service_days.specs.Cover.{CoverDays}
 use Rattle.timetable.specs.Answers.{IsTimetable}
 use Rattle.timetable.specs.Names.{AreNamesOf}
 use Rattle.timetable.specs.Table.{stops_of}
 use Rattle.planner.specs.Places.{AreNames}
-use Rattle.commands.specs.Tasks.{question_of, day_of}
+use Rattle.command_line.specs.Tasks.{question_of, day_of}
 use Rattle.commands.specs.declared.basis.Basis.{Basis}
-use Rattle.commands.specs.declared.job.Job.{Job}
+use Rattle.command_line.specs.declared.job.Job.{Job}
 
 -- the job's words are that first covered date, that date to leave on, and that time
 pub record AreDateTime (job : Job) (first day : Date) (seconds : ℕ) : Type 0 where
   pub first_is : date_of job.settings.date.now ≡ Some (ymd first)
   pub day_is : date_of (day_of job) ≡ Some (ymd day)
   pub time : time_of (question_of job.task).at.now ≡ Some seconds
+
+-- every test of the feed holds, and the tables are its values
+abbrev pub AreTablesOf : Feed → TableValues → Type 0
+AreTablesOf feed tables = (first_fault (feed_tests feed) ≡ None) × (tables ≡ values_of feed)
 
 -- every test of the feed holds, the zone's rule is one, and these days from the first on are covered
 pub record AreDays (feed : Feed) (job : Job) (first : Date) (cover : CoverDays) : Type 0 where

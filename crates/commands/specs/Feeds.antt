@@ -11,12 +11,12 @@ use Rattle.timetable.specs.Answers.{IsFault}
 use Rattle.commands.specs.Answers.{IsAnswer}
 use Rattle.commands.specs.Basis.{AreDateTime, AreDays, IsBasis}
 use Rattle.commands.specs.Refusals.{IsRefusal}
-use Rattle.commands.specs.Tasks.{question_of, day_of}
+use Rattle.command_line.specs.Tasks.{question_of, day_of}
 use Rattle.commands.specs.declared.answer.Answer.{Answer}
 use Rattle.commands.specs.declared.basis.Basis.{Basis}
 use Rattle.programs.specs.declared.fault.Fault.{Fault}
 use Rattle.programs.specs.declared.fault.Fault.TheVariants as faults
-use Rattle.commands.specs.declared.job.Job.{Job}
+use Rattle.command_line.specs.declared.job.Job.{Job}
 
 -- the answer is that over the timetable of the feed's rows on the covered days, between the stops that have the ids, leaving
 -- at the moment of the words

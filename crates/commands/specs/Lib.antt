@@ -1,8 +1,6 @@
 pub mod Answers
 pub mod Basis
-pub mod CommandLine
 pub mod Feeds
-pub mod Jobs
 pub mod Points
 pub mod Printed
 pub mod Refusals

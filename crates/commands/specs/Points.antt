@@ -7,7 +7,7 @@ use Rattle.timetable.specs.Journeys.{Journey, from, to}
 use Rattle.pattern_query.specs.Answer.{PointData, AreBest, numbers}
 use Rattle.planner.specs.Places.{stops_at}
 use Rattle.planner.specs.Questions.{ReachesBetween}
-use Rattle.commands.specs.declared.job.Question.{Question}
+use Rattle.command_line.specs.declared.job.Question.{Question}
 use Rattle.commands.specs.declared.answer.Point.{Point}
 use Rattle.commands.specs.declared.basis.Basis.{Basis}
 use Rattle.commands.specs.declared.parts.Part.{Part}

@@ -5,11 +5,12 @@ use Rattle.pattern_tree.specs.Completeness.{TooManyAreEarned}
 use Rattle.programs.specs.declared.fault.Fault.{Fault}
 use Rattle.programs.specs.declared.fault.Fault.TheVariants as faults
 use Rattle.commands.specs.declared.basis.Basis.{Basis}
-use Rattle.commands.specs.declared.job.Job.{Job}
-use Rattle.commands.specs.declared.job.Question.{Question}
-use Rattle.commands.specs.declared.job.Task.{Task}
-use Rattle.commands.specs.declared.job.Task.TheVariants as tasks
-use Rattle.commands.specs.Tasks.{question_of, stops_for}
+use Rattle.command_line.specs.declared.job.Job.{Job}
+use Rattle.command_line.specs.declared.job.Question.{Question}
+use Rattle.command_line.specs.declared.job.Task.{Task}
+use Rattle.command_line.specs.declared.job.Task.TheVariants as tasks
+use Rattle.command_line.specs.Tasks.{question_of}
+use Rattle.commands.specs.Tasks.{stops_for}
 
 -- the id stands for some stops
 abbrev pub IsKnown : (List ℕ → Option (List ℕ)) → List ℕ → Type 0

@@ -7,7 +7,7 @@ use Rattle.commands.specs.Printed.{answer_text}
 use Rattle.programs.specs.Faults.{status_of}
 use Rattle.commands.specs.declared.answer.Answer.{Answer}
 use Rattle.programs.specs.declared.fault.Fault.{Fault}
-use Rattle.commands.specs.declared.job.Job.{Job}
+use Rattle.command_line.specs.declared.job.Job.{Job}
 
 -- the answer stands on standard output, as lines
 pub record IsPrinted (feed : Feed) (job : Job) (old new : Option (List ℕ)) (status : ℕ) : Type 0 where

@@ -12,9 +12,9 @@ ghost use Rattle.commands.specs.Tasks.{stop_alone};
 
 use crate::answer::Answer;
 use crate::basis::Basis;
-use crate::job::{Job, Question, Task};
 use crate::moment::day_time;
 use crate::points::{points_of, told};
+use command_line::{Job, Question, Task};
 use direct_connections::Direct;
 use lines::Lines;
 use pattern_tree::TreeFault;

@@ -2,11 +2,11 @@
 
 ghost use Rattle.std.specs.Prelude.{IfOk, IfErr};
 ghost use Rattle.gtfs_tables.specs.Feed.{Feed, AreReaders};
-ghost use Rattle.commands.specs.Basis.{AreDateTime, IsBasis, IsSound};
+ghost use Rattle.commands.specs.Basis.{AreDateTime, AreTablesOf, IsBasis, IsSound};
 ghost use Rattle.commands.specs.Feeds.{IsBasisFault, IsWordFault};
 
-use crate::job::Job;
-use gtfs_tables::{Files, read_tables};
+use command_line::Job;
+use gtfs_tables::{Files, Tables, read_tables};
 use gtfs_text::{date, time};
 use jiff::civil::Date;
 use programs::{Fault, NO_KEYS};
@@ -57,6 +57,32 @@ fn date_time<'a>(job: &Job<'a>) -> Result<DateTime, Fault<'a>>
     })
 }
 
+// What a job's question is asked of, over the feed's tables and what the words say of days and times.
+fn basis_over<'a>(
+    alloc: Global,
+    keys: RandomState,
+    job: &Job<'a>,
+    words: DateTime,
+    tables: &Tables,
+) -> Result<Basis, Fault<'a>>
+    requires { AreDateTime job.now words.first words.day words.seconds }
+    ensures basis { (feed : Feed) → AreTablesOf feed tables.now → IfOk result (IsBasis feed job.now) }
+    ensures sound { IfOk result IsSound }
+    ensures fault { (feed : Feed) → AreTablesOf feed tables.now → IfErr result (IsBasisFault feed job.now) }
+{
+    let settings = &job.settings;
+    let cover = Cover::new(words.first, settings.days, settings.zone)?;
+    let timetable = assemble(alloc, tables, &cover, settings.default_walk)?;
+    let names = Names::of(alloc, keys, tables)?;
+    let moment = cover.moment(words.day, words.seconds);
+    Ok(Basis {
+        timetable,
+        names,
+        cover,
+        moment,
+    })
+}
+
 /// What a job's question is asked of, over the feed's files. It is given only where the job's dates, time and zone are ones, and every
 /// test of the feed holds. Where there are no `keys` for the look-up of ids, that is a feed whose reader failed.
 pub fn basis_of<'a, R: Read + Drop>(
@@ -69,20 +95,10 @@ pub fn basis_of<'a, R: Read + Drop>(
     ensures sound { IfOk result IsSound }
     ensures fault { (feed : Feed) → AreReaders R.remaining files feed → IfErr result (IsBasisFault feed job.now) }
 {
-    let settings = &job.settings;
     let words = date_time(job)?;
     let Some(keys) = keys else {
         return Err(Fault::Feed(NO_KEYS));
     };
     let tables = read_tables(alloc, keys, files)?;
-    let cover = Cover::new(words.first, settings.days, settings.zone)?;
-    let timetable = assemble(alloc, &tables, &cover, settings.default_walk)?;
-    let names = Names::of(alloc, keys, &tables)?;
-    let moment = cover.moment(words.day, words.seconds);
-    Ok(Basis {
-        timetable,
-        names,
-        cover,
-        moment,
-    })
+    basis_over(alloc, keys, job, words, &tables)
 }

@@ -8,7 +8,7 @@ ghost use Rattle.commands.specs.Runs.{IsRun};
 use crate::answer::Answer;
 use crate::asking::perform;
 use crate::basis::basis_of;
-use crate::job::Job;
+use command_line::Job;
 use gtfs_tables::Files;
 use programs::Fault;
 use std::alloc::Global;

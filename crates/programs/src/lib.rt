@@ -17,6 +17,3 @@ pub use refusal::refuse;
 pub use settings::Settings;
 pub use start::{given_words, out_of_memory, show, texts, unread};
 pub use values::{byte_of, flag_of, number_of, settings_of, text_of};
-
-#[cfg(test)]
-mod tests;

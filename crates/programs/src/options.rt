@@ -4,11 +4,19 @@ ghost use Rattle.std.specs.Prelude.{◌≡◌, false, IfOk, IfErr};
 ghost use Rattle.clap.specs.Words.{app_of, rule_of, kind_of};
 ghost use Rattle.clap.specs.declared.error.kind.ErrorKind.TheVariants.{OutOfMemory};
 ghost use Rattle.clap.specs.declared.builder.command.Command.TheViews.{out-Command as fields_of};
-ghost use Rattle.programs.specs.Options.{required_rule, optional_rule, flag_rule, defaulted_rule, number_rule, common_app};
+ghost use Rattle.programs.specs.Options.{required_rule, optional_rule, flag_rule, defaulted_rule, number_rule, feed_app, common_app};
 
 use clap::builder::ValueParser;
 use clap::{Arg, ArgAction, Command, Error};
 use std::alloc::Global;
+
+const DAYS: &str = "How many days are covered, 1 to 14";
+
+const ZONE: &str = "The feed's time zone as a POSIX rule, as CET-1CEST,M3.5.0,M10.5.0/3";
+
+const RIDES: &str = "The most rides of a journey, 1 to 8";
+
+const WALK: &str = "The seconds of a walk or change whose row gives none, up to 86400";
 
 /// An option that may be left out: it has no value then. `shown` is how its value is shown in the help.
 pub fn optional<'a>(alloc: Global, name: &'a str, shown: &'a str, help: &'a str) -> Arg<'a>
@@ -72,6 +80,20 @@ pub fn number<'a>(
     defaulted(alloc, name, shown, value, help).value_parser(parser)
 }
 
+// A command with the feed and the covered days. An error is want of memory.
+fn of_feed<'a>(alloc: Global, name: &'a str, about: &'a str) -> Result<Command<'a>, Error>
+    ensures shape { IfOk result (λ c. app_of c ≡ feed_app name.entry.now) }
+    ensures local { IfOk result (λ c. (fields_of c).has_globals ≡ false) }
+    ensures err { IfErr result (λ e. kind_of e ≡ OutOfMemory) }
+{
+    let command = Command::new(alloc, name)
+        .about(about)
+        .arg(required(alloc, "feed", "DIR", "The folder of the feed's files"))?
+        .arg(required(alloc, "date", "YYYYMMDD", "The first covered day"))?
+        .arg(number(alloc, "days", "N", "1", 0, 255, DAYS))?;
+    Ok(command)
+}
+
 /// A command with the options that all commands have: the feed, the covered days, the zone, the rides and the walks. An
 /// error is want of memory.
 pub fn common<'a>(alloc: Global, name: &'a str, about: &'a str) -> Result<Command<'a>, Error>
@@ -79,47 +101,9 @@ pub fn common<'a>(alloc: Global, name: &'a str, about: &'a str) -> Result<Comman
     ensures local { IfOk result (λ c. (fields_of c).has_globals ≡ false) }
     ensures err { IfErr result (λ e. kind_of e ≡ OutOfMemory) }
 {
-    let days = number(
-        alloc,
-        "days",
-        "N",
-        "1",
-        0,
-        255,
-        "How many days are covered, 1 to 14",
-    );
-    let zone = defaulted(
-        alloc,
-        "zone",
-        "RULE",
-        "UTC0",
-        "The feed's time zone as a POSIX rule, as CET-1CEST,M3.5.0,M10.5.0/3",
-    );
-    let rides = number(
-        alloc,
-        "rides",
-        "K",
-        "3",
-        1,
-        8,
-        "The most rides of a journey, 1 to 8",
-    );
-    let walk = number(
-        alloc,
-        "default-walk",
-        "SECONDS",
-        "120",
-        0,
-        86_400,
-        "The seconds of a walk or change whose row gives none, up to 86400",
-    );
-    let command = Command::new(alloc, name)
-        .about(about)
-        .arg(required(alloc, "feed", "DIR", "The folder of the feed's files"))?
-        .arg(required(alloc, "date", "YYYYMMDD", "The first covered day"))?
-        .arg(days)?
-        .arg(zone)?
-        .arg(rides)?
-        .arg(walk)?;
+    let command = of_feed(alloc, name, about)?
+        .arg(defaulted(alloc, "zone", "RULE", "UTC0", ZONE))?
+        .arg(number(alloc, "rides", "K", "3", 1, 8, RIDES))?
+        .arg(number(alloc, "default-walk", "SECONDS", "120", 0, 86_400, WALK))?;
     Ok(command)
 }

@@ -1,7 +1,8 @@
 //! The journey planner's program.
 #![tactic(auto)]
 
-use commands::{Job, read_words, run};
+use command_line::{Job, read_words};
+use commands::run;
 use programs::{given_words, open_feed, out_of_memory, show, texts, unread};
 use std::hash::RandomState;
 use std::process::ExitCode;

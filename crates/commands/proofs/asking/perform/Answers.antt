@@ -1,8 +1,9 @@
 use Rattle.std.proofs.Common.{ℕ, sym, subst, IfErr}
 use Rattle.planner.specs.Places.{stops_at}
 use Rattle.commands.specs.Refusals.{IsTooLarge, IsUnanswered, KeepsTooMuch}
-use Rattle.commands.specs.Tasks.{question_of, stops_for}
-use Rattle.commands.specs.declared.job.Task.{Task}
+use Rattle.command_line.specs.Tasks.{question_of}
+use Rattle.commands.specs.Tasks.{stops_for}
+use Rattle.command_line.specs.declared.job.Task.{Task}
 use Rattle.commands.proofs.asking.perform.Goals as goal
 
 pub returns-in-Direct-clause-refusal : goal.returns-in-Direct-clause-refusal

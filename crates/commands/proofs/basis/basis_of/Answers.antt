@@ -1,12 +1,7 @@
-use Rattle.std.proofs.Common.{subst, inl, inr}
+use Rattle.std.proofs.Common.{inl}
 use Rattle.std.proofs.lemmas.Result.{err_from_is_err_and}
-use Rattle.gtfs_tables.specs.Tables.{TableValues}
-use Rattle.timetable.specs.Answers.{IsFault, IsTimetable}
-use Rattle.timetable.specs.Names.{AreNamesOf}
-use Rattle.commands.specs.Basis.{AreDays}
 use Rattle.commands.specs.Feeds.{HasDateTime}
-use Rattle.commands.proofs.FaultFacts.{of_cover, of_rows, of_words}
-use Rattle.commands.proofs.BasisFacts.{is_sound}
+use Rattle.commands.proofs.FaultFacts.{of_rows, of_words}
 use Rattle.commands.proofs.basis.basis_of.Goals as goal
 
 pub returns-in_err-words-clause-fault : goal.returns-in_err-words-clause-fault
@@ -25,49 +20,8 @@ returns-in_err-tables-clause-fault g c = λ feed h.
     let dated : HasDateTime c.args.job.now words.first = (words.day, words.seconds, c.in_ok-words.ensures.ok) in
     rw (p.1, p.2) (of_rows feed c.args.job.now c.in_err-tables.field-0.0 words.first dated (inl (c.in_err-tables.ensures feed h)))
 
-pub returns-in_err-cover-clause-fault : goal.returns-in_err-cover-clause-fault
-returns-in_err-cover-clause-fault g c = λ feed h.
-    let p = err_from_is_err_and c.from_residual-in_err-cover.result c.from_residual-in_err-cover.ensures.1 in
-    let words = c.in_ok-words.words in
-    let dated : HasDateTime c.args.job.now words.first = (words.day, words.seconds, c.in_ok-words.ensures.ok) in
-    rw (p.1, p.2) (of_cover feed c.args.job.now words.first c.in_err-cover.field-0.0 dated (c.in_ok-tables.ensures feed h).0 c.in_err-cover.ensures)
-
-pub returns-in_err-timetable-clause-fault : goal.returns-in_err-timetable-clause-fault
-returns-in_err-timetable-clause-fault g c = λ feed h.
-    let p = err_from_is_err_and c.from_residual-in_err-timetable.result c.from_residual-in_err-timetable.ensures.1 in
-    let job = c.args.job.now in
-    let fault = c.in_err-timetable.field-0.0 in
-    let cover = c.in_ok-cover.cover in
-    let words = c.in_ok-words.words in
-    let dated : HasDateTime job words.first = (words.day, words.seconds, c.in_ok-words.ensures.ok) in
-    let tables = c.in_ok-tables.ensures feed h in
-    let covered = c.in_ok-cover.ensures in
-    let days : AreDays feed job words.first cover = record { zone = covered.1; faultless = tables.0; rule = covered.2; covered = covered.3 } in
-    rw (p.1, p.2) (of_rows feed job fault words.first dated
-    (inr (cover, days, subst (λ (t : TableValues). IsFault t cover job.settings.default_walk fault) tables.1 c.in_err-timetable.ensures.fault)))
-
-pub returns-in_err-names-clause-fault : goal.returns-in_err-names-clause-fault
-returns-in_err-names-clause-fault g c = λ feed h.
-    let p = err_from_is_err_and c.from_residual-in_err-names.result c.from_residual-in_err-names.ensures.1 in
-    rw (p.1, p.2) tt
-
 pub returns-clause-basis : goal.returns-clause-basis
-returns-clause-basis g c = λ feed h.
-    let job = c.args.job.now in
-    let cover = c.in_ok-cover.cover in
-    let tables = c.in_ok-tables.ensures feed h in
-    let covered = c.in_ok-cover.ensures in
-    record {
-      first = c.in_ok-words.words.first;
-      day = c.in_ok-words.words.day;
-      seconds = c.in_ok-words.words.seconds;
-      words = c.in_ok-words.ensures.ok;
-      days = record { zone = covered.1; faultless = tables.0; rule = covered.2; covered = covered.3 };
-      timetable = subst (λ (t : TableValues). IsTimetable t cover job.settings.default_walk c.in_ok-timetable.timetable) tables.1 c.in_ok-timetable.ensures.ok;
-      named = subst (λ (t : TableValues). AreNamesOf t c.in_ok-names.names) tables.1 c.in_ok-names.ensures;
-      leaves = c.moment-moment.ensures;
-    }
+returns-clause-basis g c = λ feed h. c.basis_over.ensures.basis feed (c.in_ok-tables.ensures feed h)
 
-pub returns-clause-sound : goal.returns-clause-sound
-returns-clause-sound g c =
-    is_sound c.in_ok-tables.tables c.in_ok-cover.cover c.args.job.now.settings.default_walk _ c.in_ok-timetable.ensures.ok c.in_ok-names.ensures
+pub returns-clause-fault : goal.returns-clause-fault
+returns-clause-fault g c = λ feed h. c.basis_over.ensures.fault feed (c.in_ok-tables.ensures feed h)

@@ -1,6 +1,6 @@
 use Rattle.std.proofs.Common.{◌∙◌, sym, ap, option_map}
 use Rattle.gtfs_text.specs.Values.{date_of, time_of, ymd}
-use Rattle.commands.specs.declared.job.Question.{Question}
+use Rattle.command_line.specs.declared.job.Question.{Question}
 use Rattle.commands.proofs.basis.date_time.Goals as goal
 
 pub returns-in_default-time-clause-err : goal.returns-in_default-time-clause-err

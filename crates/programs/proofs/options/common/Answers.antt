@@ -1,24 +1,14 @@
-use Rattle.std.proofs.Common.{◌∙◌, ap, ap₂}
+use Rattle.std.proofs.Common.{◌∙◌, ap₂}
 use Rattle.clap.specs.Words.{with_rule}
-use Rattle.clap.specs.Simple.{app_of_fields}
 use Rattle.programs.proofs.options.common.Goals as goal
 
 pub returns-clause-shape : goal.returns-clause-shape
 returns-clause-shape c =
-    c.in_ok-command.ensures.shape c.number-walk.ensures.local
+    c.in_ok-command.ensures.shape c.number-2.ensures.local
     ∙ ap₂ with_rule (
-    c.in_ok-arg-5.ensures.shape c.number-rides.ensures.local
+    c.in_ok-arg-2.ensures.shape c.number.ensures.local
     ∙ ap₂ with_rule (
-    c.in_ok-arg-4.ensures.shape c.defaulted-zone.ensures.local
-    ∙ ap₂ with_rule (
-    c.in_ok-arg-3.ensures.shape c.number-days.ensures.local
-    ∙ ap₂ with_rule (
-    c.in_ok-arg-2.ensures.shape c.required-2.ensures.local
-    ∙ ap₂ with_rule (
-    c.in_ok-arg.ensures.shape c.required.ensures.local
-    ∙ ap₂ with_rule (ap app_of_fields c.about.ensures ∙ c.new.ensures.app) c.required.ensures.rule)
-    c.required-2.ensures.rule)
-    c.number-days.ensures.rule)
-    c.defaulted-zone.ensures.rule)
-    c.number-rides.ensures.rule)
-    c.number-walk.ensures.rule
+    c.in_ok-arg.ensures.shape c.defaulted.ensures.local
+    ∙ ap₂ with_rule c.in_ok-of_feed.ensures.shape c.defaulted.ensures.rule)
+    c.number.ensures.rule)
+    c.number-2.ensures.rule

@@ -1,4 +1,0 @@
-pub mod AnswerFacts
-pub mod ScratchFacts
-pub mod TotalFacts
-pub mod TreeFacts

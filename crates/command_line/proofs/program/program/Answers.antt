@@ -1,0 +1,31 @@
+use Rattle.std.proofs.Common.{◌≡◌, ◌∙◌, ap, codes, Result, Ok, Err, IfOk}
+use Rattle.std.specs.Result.{IsOkAnd}
+use Rattle.clap.specs.Words.{App, app_of, with_subcommand}
+use Rattle.clap.specs.Simple.{app_of_fields}
+use Rattle.clap.specs.declared.builder.command.Command.{Command}
+use Rattle.clap.specs.declared.error.Error.{Error}
+use Rattle.command_line.specs.CommandLine.{ask_app, journey_app, needs_subcommand}
+use Rattle.command_line.proofs.program.program.Goals as goal
+
+-- a program with a command more whose command line is known
+added : (made : Result Command Error) (old new : Command) (line : App) → IsOkAnd made (λ c. app_of new ≡ with_subcommand (app_of old) (app_of c).top)
+    → IfOk made (λ c. app_of c ≡ line) → app_of new ≡ with_subcommand (app_of old) line.top
+added (Ok c) old new line grown is = grown ∙ ap (λ (a : App). with_subcommand (app_of old) a.top) is
+added (Err e) old new line grown is = absurd grown
+
+pub returns-clause-shape : goal.returns-clause-shape
+returns-clause-shape c =
+    let direct : App = journey_app (codes "direct") in
+    let scan : App = journey_app (codes "scan") in
+    let none : Command = c.subcommand_required-program.result in
+    let one : Command = c.in_ok-program.program in
+    let two : Command = c.in_ok-program-2.program in
+    let three : Command = c.in_ok-program-3.program in
+    added c.ask.result two three ask_app c.in_ok-program-3.ensures.shape c.ask.ensures.shape
+    ∙ ap (λ (a : App). with_subcommand a ask_app.top) (
+    added c.journey-2.result one two scan c.in_ok-program-2.ensures.shape c.journey-2.ensures.shape
+    ∙ ap (λ (a : App). with_subcommand a scan.top) (
+    added c.journey.result none one direct c.in_ok-program.ensures.shape c.journey.ensures.shape
+    ∙ ap (λ (a : App). with_subcommand a direct.top) (
+    ap app_of_fields c.subcommand_required-program.ensures
+    ∙ ap needs_subcommand (ap app_of_fields c.after_help.ensures ∙ ap app_of_fields c.about.ensures ∙ c.new.ensures.app))))

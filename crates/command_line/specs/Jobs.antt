@@ -1,0 +1,49 @@
+-- The job that words give, by the program's command line.
+use Rattle.std.specs.Prelude.{◌≡◌, ◌↔◌, IsTrue, List, Option, None, Some, codes}
+use Rattle.std.specs.Option.{option_map}
+use Rattle.clap.specs.Words.{Row, Text, first_of}
+use Rattle.programs.specs.Settings.{HasSettings}
+use Rattle.programs.specs.Values.{HasFlag, HasText}
+use Rattle.command_line.specs.declared.job.Job.{Job}
+use Rattle.command_line.specs.declared.job.Question.{Question}
+use Rattle.command_line.specs.declared.job.Task.{Task}
+use Rattle.command_line.specs.declared.job.Task.TheVariants as task
+
+-- the words of a question
+pub record IsQuestion (rows : List Row) (question : Question) : Type 0 where
+  pub from : HasText rows (codes "from") question.from.now
+  pub to : HasText rows (codes "to") question.to.now
+  pub at : HasText rows (codes "at") question.at.now
+
+-- an own word of the command has no value
+abbrev pub LacksQuestion : List Row → Type 0
+LacksQuestion rows = (question : Question) → ¬ IsQuestion rows question
+
+-- the command, and its own words
+abbrev pub IsTask : Text → List Row → Task → Type 0
+IsTask name rows (task.Direct question) = (name ≡ codes "direct") × IsQuestion rows question
+IsTask name rows (task.Scan question) = (name ≡ codes "scan") × IsQuestion rows question
+IsTask name rows (task.Ask question on legs) =
+    (name ≡ codes "ask") × IsQuestion rows question × (option_map (λ text. text.now) on ≡ first_of (codes "on") rows)
+    × (IsTrue legs ↔ HasFlag rows (codes "legs"))
+
+-- no task has this name and these rows
+abbrev pub NamesNoTask : Text → List Row → Type 0
+NamesNoTask name rows = (task : Task) → ¬ IsTask name rows task
+
+-- a command's name and rows give this job
+pub record IsJobOf (name : Text) (rows : List Row) (job : Job) : Type 0 where
+  pub settings : HasSettings rows job.settings
+  pub task : IsTask name rows job.task
+
+abbrev pub IsJob : Option (Text × List Row) → Job → Type 0
+IsJob None job = ⊥
+IsJob (Some met) job = IsJobOf met.0 met.1 job
+
+-- no job has this name and these rows
+abbrev pub NamesNoJobOf : Text → List Row → Type 0
+NamesNoJobOf name rows = (job : Job) → ¬ IsJobOf name rows job
+
+-- there is no command, or one without a value for each of its words
+abbrev pub NamesNoJob : Option (Text × List Row) → Type 0
+NamesNoJob met = (job : Job) → ¬ IsJob met job

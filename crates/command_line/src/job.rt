@@ -1,0 +1,65 @@
+//! What the program is asked to do.
+
+ghost use Rattle.std.specs.Prelude.{◌≡◌};
+ghost use Rattle.command_line.specs.Tasks.{question_of, day_of};
+
+use programs::Settings;
+
+/// From which place to which, and when.
+#[derive(Clone, Copy, Debug, PartialEq, Eq)]
+pub struct Question<'a> {
+    /// The id of the stop, or for `ask` the station, to leave from.
+    pub from: &'a str,
+    /// The id of the stop, or for `ask` the station, to go to.
+    pub to: &'a str,
+    /// The time to leave at, as it is written.
+    pub at: &'a str,
+}
+
+/// A command, with the words that are its own.
+#[derive(Clone, Copy, Debug, PartialEq, Eq)]
+pub enum Task<'a> {
+    /// The least arrival of one ride.
+    Direct(Question<'a>),
+    /// The best arrivals, by how many rides they take.
+    Scan(Question<'a>),
+    /// The best journeys, from the pattern trees of the stops to leave from.
+    Ask {
+        question: Question<'a>,
+        /// The date to leave on, as it is written: the first covered day where there is none.
+        on: Option<&'a str>,
+        /// Whether the rides and walks of each journey are told.
+        legs: bool,
+    },
+}
+
+impl<'a> Task<'a> {
+    /// Where from, where to, and when.
+    pub fn question(&self) -> Question<'a>
+        ensures { result ≡ question_of self.now }
+    {
+        match self {
+            Task::Direct(question) | Task::Scan(question) => *question,
+            Task::Ask { question, .. } => *question,
+        }
+    }
+}
+
+/// The words of the program, read.
+#[derive(Clone, Copy, Debug, PartialEq, Eq)]
+pub struct Job<'a> {
+    pub settings: Settings<'a>,
+    pub task: Task<'a>,
+}
+
+impl<'a> Job<'a> {
+    /// The date to leave on, as it is written.
+    pub fn day(&self) -> &'a str
+        ensures { result.now ≡ day_of self.now }
+    {
+        match self.task {
+            Task::Ask { on: Some(day), .. } => day,
+            _ => self.settings.date,
+        }
+    }
+}

@@ -1,0 +1,9 @@
+//! The command line of the journey planner's program: from its words to what it is asked to do.
+#![tactic(auto)]
+
+mod job;
+mod program;
+mod words;
+
+pub use job::{Job, Question, Task};
+pub use words::read_words;

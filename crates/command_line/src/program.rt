@@ -1,0 +1,115 @@
+//! The commands and the words that each takes.
+
+ghost use Rattle.std.specs.Prelude.{◌≡◌, codes, false, IfOk, IfErr, IsOkAnd, map};
+ghost use Rattle.clap.specs.Words.{app_of, kind_of, subcommand_of, subcommand_rows_of, fault_of, with_subcommand, FailsBy};
+ghost use Rattle.clap.specs.declared.error.kind.ErrorKind.TheVariants.{OutOfMemory};
+ghost use Rattle.clap.specs.declared.builder.command.Command.TheViews.{out-Command as fields_of};
+ghost use Rattle.command_line.specs.CommandLine.{ask_app, journey_app, program_app};
+
+use clap::{ArgMatches, Command, Error};
+use programs::{common, flag, optional, required};
+use std::alloc::Global;
+
+const ABOUT: &str = "Plans journeys over a GTFS Schedule feed.";
+
+const EXAMPLES: &str = "\
+Example: tp scan --feed demo/feed-m --date 20240102 --from A --to D --at 08:00:00
+
+A fault is one line on standard error, its code and name; for a fault of the feed with the file and the row:
+  F1 MissingFile    DIR lacks the file: unpack a zipped feed first
+  F2 to F8, F10     the row is at fault; row 0 is the header or the whole file
+  F9 ReadFailed     the file can't be read, or DIR is no folder: unpack a zipped feed first
+  S1 BadRange       --days is 1 to 14
+  S2 BadZone        --zone is a POSIX rule, as CET-1CEST,M3.5.0,M10.5.0/3
+  A1 BadDate        --date and --on are days of the calendar, as 20240102
+  A2 BadTime        --at is a time up to 167:59:59, as 08:00:00
+  Q1 UnknownStop    stops.txt has no stop with that stop_id; a station is a stop for ask alone
+  Q2 NotCovered     the time isn't within the covered days
+  N1 TooLarge       a stop's tree has too many patterns: ask with fewer --days or --rides, or scan
+
+Statuses: 0 done, 1 the feed or its days are at fault, 2 the words are, 3 a tree would be too large, 6 the
+question is at fault (an unknown stop, a day that isn't covered), 7 memory ran out, 8 standard output refused
+a write.";
+
+const SCAN: &str =
+    "Prints the best arrivals from a stop to a stop by walks and at most K rides: for each number of rides that \
+arrives earlier than all with fewer, a line.";
+
+const ASK: &str =
+    "Prints the best journeys from a stop or station to a stop or station by walks and at most K rides: for each \
+number of rides that arrives earlier than all with fewer, a line. The answer comes from the patterns of the best \
+journeys of each stop, which are built first, in memory; that takes long on a large feed.";
+
+const DIRECT: &str = "Prints the least arrival of one ride from a stop to a stop, without walks.";
+
+const FROM: &str = "The id of the stop to leave from, for ask also of a station";
+
+const TO: &str = "The id of the stop to go to, for ask also of a station";
+
+const AT: &str =
+    "The time to leave at, on the first covered day where no other is named; hours up to 167";
+
+const ON: &str = "The covered day to leave on, where it isn't the first";
+
+const LEGS: &str = "Print the rides and walks of each journey below its line";
+
+// A command that goes from one stop to another, at a time.
+fn journey<'a>(alloc: Global, name: &'a str, about: &'a str) -> Result<Command<'a>, Error>
+    ensures shape { IfOk result (λ c. app_of c ≡ journey_app name.entry.now) }
+    ensures local { IfOk result (λ c. (fields_of c).has_globals ≡ false) }
+    ensures err { IfErr result (λ e. kind_of e ≡ OutOfMemory) }
+{
+    let command = common(alloc, name, about)?
+        .arg(required(alloc, "from", "STOP", FROM))?
+        .arg(required(alloc, "to", "STOP", TO))?
+        .arg(required(alloc, "at", "HH:MM:SS", AT))?;
+    Ok(command)
+}
+
+// The command that answers from pattern trees.
+fn ask<'a>(alloc: Global) -> Result<Command<'a>, Error>
+    ensures shape { IfOk result (λ c. app_of c ≡ ask_app) }
+    ensures local { IfOk result (λ c. (fields_of c).has_globals ≡ false) }
+    ensures err { IfErr result (λ e. kind_of e ≡ OutOfMemory) }
+{
+    let command = journey(alloc, "ask", ASK)?
+        .arg(optional(alloc, "on", "YYYYMMDD", ON))?
+        .arg(flag(alloc, "legs", LEGS))?;
+    Ok(command)
+}
+
+// The program with one more command, where that could be made.
+fn with_command<'a>(
+    program: Command<'a>,
+    command: Result<Command<'a>, Error>,
+) -> Result<Command<'a>, Error>
+    requires local { IfOk command (λ c. (fields_of c).has_globals ≡ false) }
+    requires memory { IfErr command (λ e. kind_of e ≡ OutOfMemory) }
+    ensures shape { IfOk result (λ p. IsOkAnd command.entry (λ c. app_of p ≡ with_subcommand (app_of program.entry) (app_of c).top)) }
+    ensures err { IfErr result (λ e. kind_of e ≡ OutOfMemory) }
+{
+    Ok(program.subcommand(command?)?)
+}
+
+// The program's command line.
+fn program<'a>(alloc: Global) -> Result<Command<'a>, Error>
+    ensures shape { IfOk result (λ c. app_of c ≡ program_app) }
+    ensures err { IfErr result (λ e. kind_of e ≡ OutOfMemory) }
+{
+    let program = Command::new(alloc, "tp")
+        .about(ABOUT)
+        .after_help(EXAMPLES)
+        .subcommand_required(true);
+    let program = with_command(program, journey(alloc, "direct", DIRECT))?;
+    let program = with_command(program, journey(alloc, "scan", SCAN))?;
+    let program = with_command(program, ask(alloc))?;
+    Ok(program)
+}
+
+/// What the words match of the program's command line.
+pub fn matches_of<'a>(alloc: Global, words: &'a [&'a str]) -> Result<ArgMatches<'a>, Error>
+    ensures rows { IfOk result (λ m. subcommand_rows_of m ≡ subcommand_of program_app (map (λ w. w.now) words.entry.now)) }
+    ensures faults { FailsBy (fault_of program_app (map (λ w. w.now) words.entry.now)) result }
+{
+    program(alloc)?.try_get_matches_from(words)
+}

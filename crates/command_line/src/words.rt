@@ -1,0 +1,80 @@
+//! From the program's words to a job.
+
+ghost use Rattle.std.specs.Prelude.{◌≡◌, IfOk, IfErr, IfSome, IfNone, OnOk, [], map};
+ghost use Rattle.clap.specs.Words.{subcommand_rows_of, subcommand_of, rows_of, found_of, fault_of};
+ghost use Rattle.programs.specs.Statuses.{IsStatus};
+ghost use Rattle.command_line.specs.CommandLine.{program_app};
+ghost use Rattle.command_line.specs.Jobs.{IsJob, IsJobOf, IsQuestion, IsTask, LacksQuestion, NamesNoJob, NamesNoJobOf, NamesNoTask};
+
+use crate::job::{Job, Question, Task};
+use crate::program::matches_of;
+use clap::ArgMatches;
+use programs::{flag_of, refuse, settings_of, text_of};
+use std::alloc::Global;
+use std::io::Write;
+
+// The question among the words: none where one of its words isn't there.
+fn question_of<'a>(found: &ArgMatches<'a>) -> Option<Question<'a>>
+    ensures question { IfSome result (IsQuestion (rows_of (found_of found.now))) }
+    ensures none { IfNone result (LacksQuestion (rows_of (found_of found.now))) }
+{
+    let from = text_of(found, "from")?;
+    let to = text_of(found, "to")?;
+    let at = text_of(found, "at")?;
+    Some(Question { from, to, at })
+}
+
+// The task of a command's name and words: none where it is no command's, or a word isn't there.
+fn task_of<'a>(name: &str, found: &ArgMatches<'a>) -> Option<Task<'a>>
+    ensures task { IfSome result (IsTask name.now (rows_of (found_of found.now))) }
+    ensures none { IfNone result (NamesNoTask name.now (rows_of (found_of found.now))) }
+{
+    let question = question_of(found)?;
+    match name {
+        "direct" => Some(Task::Direct(question)),
+        "scan" => Some(Task::Scan(question)),
+        "ask" => Some(Task::Ask {
+            question,
+            on: text_of(found, "on"),
+            legs: flag_of(found, "legs"),
+        }),
+        _ => None,
+    }
+}
+
+fn command_job<'a>(name: &str, found: &ArgMatches<'a>) -> Option<Job<'a>>
+    ensures job { IfSome result (IsJobOf name.now (rows_of (found_of found.now))) }
+    ensures none { IfNone result (NamesNoJobOf name.now (rows_of (found_of found.now))) }
+{
+    let settings = settings_of(found)?;
+    let task = task_of(name, found)?;
+    Some(Job { settings, task })
+}
+
+// The job of the command that was met: none where there is none, or a word isn't there.
+fn job_of<'a>(matches: &ArgMatches<'a>) -> Option<Job<'a>>
+    ensures job { IfSome result (IsJob (subcommand_rows_of matches.now)) }
+    ensures none { IfNone result (NamesNoJob (subcommand_rows_of matches.now)) }
+{
+    let (name, found) = matches.subcommand()?;
+    command_job(name, found)
+}
+
+/// Reads the words of the program, the first of which is its name: the job that they name, with exactly their values. An `Err`
+/// is the status to end with, and what the user is to be told stands in `err`: the help that was asked for with status 0, a
+/// fault of words with 2, want of memory with 7.
+pub fn read_words<'a, E: Write>(
+    alloc: Global,
+    words: &'a [&'a str],
+    err: &mut E,
+) -> Result<Job<'a>, u8>
+    ensures job { IfOk result (IsJob (subcommand_of program_app (map (λ w. w.now) words.entry.now))) }
+    ensures faultless { OnOk result (fault_of program_app (map (λ w. w.now) words.entry.now) ≡ []) }
+    ensures status { IfErr result (IsStatus (fault_of program_app (map (λ w. w.now) words.entry.now))
+        (NamesNoJob (subcommand_of program_app (map (λ w. w.now) words.entry.now)))) }
+{
+    match matches_of(alloc, words) {
+        Ok(matches) => job_of(&matches).ok_or(2),
+        Err(error) => Err(refuse("tp", &error, err)),
+    }
+}

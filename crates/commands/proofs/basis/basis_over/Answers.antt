@@ -1,0 +1,55 @@
+use Rattle.std.proofs.Common.{subst, inr}
+use Rattle.std.proofs.lemmas.Result.{err_from_is_err_and}
+use Rattle.gtfs_tables.specs.Tables.{TableValues}
+use Rattle.timetable.specs.Answers.{IsFault, IsTimetable}
+use Rattle.timetable.specs.Names.{AreNamesOf}
+use Rattle.commands.specs.Basis.{AreDays}
+use Rattle.commands.specs.Feeds.{HasDateTime}
+use Rattle.commands.proofs.FaultFacts.{of_cover, of_rows}
+use Rattle.commands.proofs.BasisFacts.{is_sound}
+use Rattle.commands.proofs.basis.basis_over.Goals as goal
+
+pub returns-in_err-cover-clause-fault : goal.returns-in_err-cover-clause-fault
+returns-in_err-cover-clause-fault c = λ feed h.
+    let p = err_from_is_err_and c.from_residual.result c.from_residual.ensures.1 in
+    let words = c.args.words in
+    let dated : HasDateTime c.args.job.now words.first = (words.day, words.seconds, c.requires) in
+    rw (p.1, p.2) (of_cover feed c.args.job.now words.first c.in_err-cover.field-0.0 dated h.0 c.in_err-cover.ensures)
+
+pub returns-in_err-timetable-clause-fault : goal.returns-in_err-timetable-clause-fault
+returns-in_err-timetable-clause-fault c = λ feed h.
+    let p = err_from_is_err_and c.from_residual-in_err-timetable.result c.from_residual-in_err-timetable.ensures.1 in
+    let job = c.args.job.now in
+    let fault = c.in_err-timetable.field-0.0 in
+    let cover = c.in_ok-cover.cover in
+    let words = c.args.words in
+    let dated : HasDateTime job words.first = (words.day, words.seconds, c.requires) in
+    let covered = c.in_ok-cover.ensures in
+    let days : AreDays feed job words.first cover = record { zone = covered.1; faultless = h.0; rule = covered.2; covered = covered.3 } in
+    rw (p.1, p.2) (of_rows feed job fault words.first dated
+    (inr (cover, days, subst (λ (t : TableValues). IsFault t cover job.settings.default_walk fault) h.1 c.in_err-timetable.ensures.fault)))
+
+pub returns-in_err-names-clause-fault : goal.returns-in_err-names-clause-fault
+returns-in_err-names-clause-fault c = λ feed h.
+    let p = err_from_is_err_and c.from_residual-in_err-names.result c.from_residual-in_err-names.ensures.1 in
+    rw (p.1, p.2) tt
+
+pub returns-clause-basis : goal.returns-clause-basis
+returns-clause-basis c = λ feed h.
+    let job = c.args.job.now in
+    let cover = c.in_ok-cover.cover in
+    let covered = c.in_ok-cover.ensures in
+    record {
+      first = c.args.words.first;
+      day = c.args.words.day;
+      seconds = c.args.words.seconds;
+      words = c.requires;
+      days = record { zone = covered.1; faultless = h.0; rule = covered.2; covered = covered.3 };
+      timetable = subst (λ (t : TableValues). IsTimetable t cover job.settings.default_walk c.in_ok-timetable.timetable) h.1 c.in_ok-timetable.ensures.ok;
+      named = subst (λ (t : TableValues). AreNamesOf t c.in_ok-names.names) h.1 c.in_ok-names.ensures;
+      leaves = c.moment-moment.ensures;
+    }
+
+pub returns-clause-sound : goal.returns-clause-sound
+returns-clause-sound c =
+    is_sound c.args.tables.now c.in_ok-cover.cover c.args.job.now.settings.default_walk _ c.in_ok-timetable.ensures.ok c.in_ok-names.ensures
