@@ -1,11 +1,10 @@
-//! Answers from trees of any kind, with their rides.
-
-ghost use Rattle.std.specs.Prelude.{◌<◌};
+//! Answers from a tree, with their rides.
 
 use direct_connections::Direct;
 use lines::Lines;
-use pattern_query::{Answer, Patterns, ask};
-use pattern_tree::{PatternTree, TreeFault};
+use pattern_query::{Answer, ask};
+use planner::{Forest, Trees};
+use rounds::Rides;
 use sample_feed::demo;
 use std::alloc::{AllocError, Global};
 use std::fmt::Write;
@@ -13,27 +12,6 @@ use std::test::Fail;
 use timetable::StopId;
 
 const EIGHT: u32 = 28_800;
-
-fn step(board: u16, alight: u16) -> (StopId, StopId)
-    requires board { board < 65_534 }
-    requires alight { alight < 65_534 }
-{
-    (StopId::new(board), StopId::new(alight))
-}
-
-// The patterns of A: what best journeys have, but for the straight ride to D, and besides what no ride serves and what isn't a
-// journey from A. Of the stops 60,000 there is none.
-fn patterns_of_a(alloc: Global) -> Result<Patterns, TreeFault> {
-    let d = StopId::new(3);
-    let mut tree = PatternTree::new_in(alloc, StopId::new(0));
-    tree.insert(&[step(1, 0), step(0, 3)], d)?;
-    tree.insert(&[step(0, 60_000)], d)?;
-    tree.insert(&[step(0, 1)], d)?;
-    tree.insert(&[step(0, 1), step(1, 3)], d)?;
-    tree.insert(&[step(0, 2)], StopId::new(4))?;
-    tree.insert(&[step(0, 2)], StopId::new(60_000))?;
-    Ok(Patterns::of(alloc, &tree)?)
-}
 
 // The points of an answer, each as a line of text: how many rides, between which stops, when it arrives, and of each ride the
 // instance and the places.
@@ -55,10 +33,15 @@ fn text_of(alloc: Global, answer: &Answer) -> Result<String, AllocError> {
     Ok(text)
 }
 
-// To D one changes at B, to E one walks, at A one stays.
+// From A: to D by the straight ride, or sooner with a change at B; to E by a walk from C; at A one stays; no stop has the number
+// 60,000.
 const ANSWERS: [(u16, u32, &str); 5] = [
-    (3, EIGHT, "2 from 0 to 3 at 31200: 0 0-1 1 0-1\n"),
-    (3, EIGHT + 1, ""),
+    (
+        3,
+        EIGHT,
+        "1 from 0 to 3 at 32400: 2 0-1\n2 from 0 to 3 at 31200: 0 0-1 1 0-1\n",
+    ),
+    (3, EIGHT + 1, "1 from 0 to 3 at 32400: 2 0-1\n"),
     (4, EIGHT, "1 from 0 to 4 at 30840: 0 0-2\n"),
     (0, EIGHT, "0 from 0 to 0 at 28800:\n"),
     (60_000, EIGHT, ""),
@@ -69,16 +52,13 @@ fn answers_of_a_tree(rt: HostRuntime) -> Result<(), Fail> {
     let table = demo(&rt)?;
     let lines = Lines::of(rt.alloc(), &table)?;
     let direct = Direct::of(rt.alloc(), &table, &lines)?;
-    let patterns = patterns_of_a(rt.alloc())?;
-    assert_eq!(rt; patterns.source(), StopId::new(0));
+    let forest = Forest::build(rt.alloc(), &table, Rides::new(3))?;
+    let patterns = forest.patterns(StopId::new(0)).ok_or("no tree")?;
     for (to, depart, wanted) in ANSWERS {
         let to = StopId::new(to.min(60_000));
-        let answer = ask(&table, &lines, &direct, &patterns, to, depart.min(100_000));
-        assert_eq!(rt;
-            text_of(rt.alloc(), &answer)?.as_str(),
-            wanted,
-            "{to:?} at {depart}"
-        );
+        let answer = ask(&table, &lines, &direct, patterns, to, depart.min(100_000));
+        let text = text_of(rt.alloc(), &answer)?;
+        assert_eq!(rt; text.as_str(), wanted, "{to:?} at {depart}");
     }
     Ok(())
 }
