@@ -6,6 +6,3 @@ mod direct;
 mod places;
 
 pub use direct::Direct;
-
-#[cfg(test)]
-mod tests;

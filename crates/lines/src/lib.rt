@@ -10,6 +10,3 @@ mod places;
 
 pub use line::{Halt, Line, Times};
 pub use lines::{LinePlace, Lines};
-
-#[cfg(test)]
-mod tests;

@@ -9,6 +9,3 @@ mod finished;
 
 pub use building::build;
 pub use finished::Finished;
-
-#[cfg(test)]
-mod tests;

@@ -12,6 +12,3 @@ pub use answer::{Answer, Point};
 pub use asking::ask;
 pub use best_so_far::BestSoFar;
 pub use patterns::Patterns;
-
-#[cfg(test)]
-mod tests;

@@ -10,6 +10,3 @@ pub use asking::ask_on;
 pub use fault::AskFault;
 pub use forest::Forest;
 pub use trees::Trees;
-
-#[cfg(test)]
-mod tests;

@@ -22,6 +22,3 @@ pub use parts::{Path, Rides};
 pub use plain::plain_rounds;
 pub use scratch::Scratch;
 pub use view::{RoundView, Rounds};
-
-#[cfg(test)]
-mod tests;
