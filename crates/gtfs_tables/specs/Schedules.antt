@@ -1,4 +1,5 @@
--- The schedule of a feed: its trips, when their services run, and their calls, under the stops that calls may name.
+-- The schedule of a feed: its trips, when their services run, and their calls, under the stops that calls may name. Only private clauses
+-- cite these words.
 use Rattle.std.specs.Prelude.{ℕ, List, ◌++◌, Option, length, ◌<◌, ◌≤◌}
 use Rattle.std.specs.List.{All}
 use Rattle.gtfs_rows.specs.declared.fault.FeedFile.TheVariants as files
