@@ -15,3 +15,7 @@ pub mod Taken
 pub mod FrontSteps
 pub mod Shifting
 pub mod NameFacts
+pub mod FieldFacts
+pub mod CanonicalFacts
+pub mod WritingFacts
+pub mod EqualLists

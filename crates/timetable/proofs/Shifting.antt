@@ -68,8 +68,10 @@ module _ (stops trip start : ℕ) (rows : List StopTime) (times : List CallTimes
       let h : (get_or times i zero_time).departure ≤ (get_or times j zero_time).arrival = rising.rides i j zero_time lt (long j later) in
       subst₂ (λ (a b : Call). a.departure ≤ b.arrival) (sym (the_call i c row zero_time sooner)) (sym (the_call j c row zero_time later)) (omega (arith, h))
 
-  pub run_from : (day : ℕ) → 2 ≤ length rows → IsRun stops (record { trip = trip; day = day; calls = calls_from start rows })
-  run_from day many = record {
+  pub run_from : 2 ≤ length rows → IsRun stops (record { trip = 0; day = 0; calls = calls_from start rows })
+  run_from many = record {
+    trip_fits = omega arith;
+    day_fits = omega arith;
     each = call_is;
     rising = calls_rise;
     many = omega (arith, many_calls);
@@ -120,9 +122,11 @@ call_more start rows place time stop row in' is same =
     sym (take_more (calls_from start rows) place d (let lt : place < length (calls_from start rows) = omega (arith, length-calls_from start rows) in lt)
     ∙ ap (λ x. take place (calls_from start rows) ++ x ∷ []) read)
 
--- it is the calls that make a run
-pub same_run : (stops : ℕ) (a b : Run) → IsRun stops a → b.calls ≡ a.calls → IsRun stops b
-same_run stops a b is same = record {
+-- it is the calls that make a run, of a trip and a day with small numbers
+pub same_run : (stops : ℕ) (a b : Run) → IsRun stops a → b.calls ≡ a.calls → b.trip < 4_294_967_296 → b.day < 256 → IsRun stops b
+same_run stops a b is same trip_fits day_fits = record {
+  trip_fits = trip_fits;
+  day_fits = day_fits;
   each = subst (All (IsCall stops)) (sym same) is.each;
   rising = subst (AllPairs (λ a b. a.departure ≤ b.arrival)) (sym same) is.rising;
   many = subst (λ (cs : List Call). 2 ≤ length cs) (sym same) is.many;

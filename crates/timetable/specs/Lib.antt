@@ -14,3 +14,5 @@ pub mod Answers
 pub mod Limits
 pub mod NameLists
 pub mod Names
+pub mod Canonical
+pub mod Writing

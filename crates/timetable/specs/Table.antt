@@ -52,8 +52,10 @@ pub record IsCall (stops : ℕ) (call : Call) : Type 0 where
   pub waits : call.arrival ≤ call.departure
   pub early : call.departure ≤ latest
 
--- calls in the order of time
+-- calls in the order of time; the numbers of the trip and of the day take four bytes and one
 pub record IsRun (stops : ℕ) (run : Run) : Type 0 where
+  pub trip_fits : run.trip < 4_294_967_296
+  pub day_fits : run.day < 256
   pub each : All (IsCall stops) run.calls
   pub rising : AllPairs (λ a b. a.departure ≤ b.arrival) run.calls
   pub many : 2 ≤ length run.calls

@@ -54,7 +54,7 @@ fn calls_on(
     requires several { 2 ≤ length (calls_of tables.now trip) }
     requires start { start ≤ 2_246_400 }
     ensures calls { IfOk result (λ calls. calls.items ≡ calls_from start (calls_of tables.now trip)) }
-    ensures run { IfOk result (λ calls. IsRun (length tables.now.stops) (record { trip = trip; day = 0; calls = calls.items })) }
+    ensures run { IfOk result (λ calls. IsRun (length tables.now.stops) (record { trip = 0; day = 0; calls = calls.items })) }
 {
     let rows = tables.calls(trip);
     fill_times(rows, times)?;

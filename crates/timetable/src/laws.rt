@@ -1,6 +1,7 @@
-//! Laws of journeys. Each holds of every timetable, and the function that states it does nothing.
+//! Laws of journeys and of canonical bytes. Each holds of every timetable, and the function that states it does nothing.
 
 ghost use Rattle.timetable.specs.Laws.{WaitingIsFree, MoreRidesArriveEarlier};
+ghost use Rattle.timetable.specs.Canonical.{CanonicalApart, CanonicalIsShort};
 
 use crate::table::Timetable;
 
@@ -12,4 +13,14 @@ pub fn waiting_is_free(_table: &Timetable)
 /// Of two best numbers of a pair of stops, those with more rides arrive earlier.
 pub fn more_rides_arrive_earlier(_table: &Timetable)
     ensures { MoreRidesArriveEarlier _table.now }
+{}
+
+/// Two timetables share their canonical bytes exactly where they are equal.
+pub fn canonical_apart()
+    ensures { CanonicalApart }
+{}
+
+/// The canonical bytes of a timetable are fewer than 2^32, so that their number fits four bytes.
+pub fn canonical_is_short()
+    ensures { CanonicalIsShort }
 {}

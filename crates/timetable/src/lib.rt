@@ -2,6 +2,8 @@
 #![tactic(auto)]
 
 mod assembly;
+mod canonical;
+mod copying;
 mod direct;
 mod groups;
 mod instances;
@@ -9,7 +11,9 @@ pub mod laws;
 mod leg_readers;
 mod names;
 mod parts;
+mod rides;
 mod running;
+mod sameness;
 mod table;
 mod transfers;
 mod walks;
@@ -18,6 +22,7 @@ pub use assembly::{MOST_CALLS, MOST_INSTANCES, MOST_WALKS, assemble};
 pub use direct::plain_direct;
 pub use names::{Names, Place};
 pub use parts::{Call, Leg, MOST_STOPS, Numbers, StopId, Walk};
+pub use rides::Rides;
 pub use table::{Instance, Timetable};
 
 #[cfg(test)]

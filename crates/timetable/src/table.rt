@@ -3,6 +3,7 @@
 ghost use Rattle.std.specs.Prelude.{◌≡◌, ℕ, ◌+◌, ◌<◌, ◌≤◌, ◌↔◌, IsTrue, length, slice_get, slice_index_or, Some};
 
 use crate::parts::{Call, StopId, Walk};
+use std::alloc::AllocError;
 use std::marker::Model;
 
 /// A trip on one covered day on which it runs.
@@ -50,6 +51,15 @@ impl Instance {
     }
 }
 
+impl Clone for Instance {
+    ghost is_clone = { λ a b. b ≡ a };
+
+    fn clone(&self) -> Result<Instance, AllocError> {
+        let calls = self.calls.clone()?;
+        Ok(Instance::new(self.trip, self.day, calls))
+    }
+}
+
 /// The walks from one stop, by rising stops.
 #[derive(Debug, Drop)]
 pub(crate) struct Walks {
@@ -70,6 +80,22 @@ impl Walks {
         ensures { result ≡ row.items }
     {
         Walks { row }
+    }
+
+    /// The walks.
+    pub(crate) fn row(&self) -> &[Walk]
+        ensures { result.now ≡ self.now }
+    {
+        &self.row
+    }
+}
+
+impl Clone for Walks {
+    ghost is_clone = { λ a b. b ≡ a };
+
+    fn clone(&self) -> Result<Walks, AllocError> {
+        let row = self.row.clone()?;
+        Ok(Walks::new(row))
     }
 }
 
@@ -162,6 +188,22 @@ impl Timetable {
     {
         let found = self.walks_from(p).iter().find(|walk| walk.to == q)?;
         Some(found.seconds)
+    }
+
+    // The changes at all stops.
+    pub(crate) fn changes(&self) -> &[Option<u32>]
+        ensures value { result.now ≡ self.now.changes }
+        ensures valid { IsTable self.now }
+    {
+        &self.changes
+    }
+
+    // The walks from all stops.
+    pub(crate) fn walks(&self) -> &[Walks]
+        ensures value { result.now ≡ self.now.walks }
+        ensures valid { IsTable self.now }
+    {
+        &self.walks
     }
 
     /// The walks from the stop, by rising stops; none where there is no such stop.

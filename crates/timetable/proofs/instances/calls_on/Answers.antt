@@ -44,4 +44,4 @@ returns-clause-run c =
     let early = c.in_ok-fill_times.ensures.early (length c.args.tables.now.stops) c.args.trip valid in
     rw (c.loop-place.invariant, whole c.args.start rows c.loop-place.place c.loop-place-test.false)
     (run_from (length c.args.tables.now.stops) c.args.trip c.args.start rows c.fill_times.new.times.items valid c.in_ok-fill_times.ensures.filled rising early
-    c.requires.start 0 several)
+    c.requires.start several)

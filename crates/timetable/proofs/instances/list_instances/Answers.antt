@@ -22,7 +22,9 @@ loop-trip-preserved c = elim c.if-is_due.branch [
             ∙ (ap (λ x. listed c.args.tables.now c.args.cover.now c.args.running.now c.loop-day.day c.loop-trip.trip ++ x ∷ []) made
             ∙ sym (listed_due c.args.tables.now c.args.cover.now c.args.running.now c.loop-day.day c.loop-trip.trip due));
         runs = All-push (IsRun (length c.args.tables.now.stops)) c.loop-trip.instances.items w.new.result c.loop-trip.invariant.runs
-            (same_run (length c.args.tables.now.stops) _ w.new.result w.in_ok-calls.ensures.run (ap (λ (r : Run). r.calls) w.new.ensures));
+            (same_run (length c.args.tables.now.stops) _ w.new.result w.in_ok-calls.ensures.run (ap (λ (r : Run). r.calls) w.new.ensures)
+            (omega (arith, ap (λ (r : Run). r.trip) w.new.ensures, c.loop-trip-test.true, ap (length {A = Trip}) c.trips-trip-end.ensures.value, c.trips-trip-end.ensures.valid.few_trips))
+            (omega (arith, ap (λ (r : Run). r.day) w.new.ensures, c.loop-day-test.true, c.days-day-end.ensures.within)));
       })
   | else-is_due w ↦
       rw w.instances-is (record {
