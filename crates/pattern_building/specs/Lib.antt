@@ -1,3 +1,2 @@
 pub mod RoundPairs
 pub mod Arrivals
-pub mod Finished

@@ -5,7 +5,7 @@
 
 mod arrivals;
 mod building;
-mod finished;
+mod finishing;
 
 pub use building::build;
-pub use finished::Finished;
+pub use finishing::finish;

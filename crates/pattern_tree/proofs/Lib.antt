@@ -10,3 +10,4 @@ pub mod CountFacts
 pub mod WalkFacts
 pub mod PairOrderFacts
 pub mod OrderFacts
+pub mod WithinFacts

@@ -6,3 +6,5 @@ pub mod Siblings
 pub mod Added
 pub mod Walks
 pub mod Completeness
+pub mod Within
+pub mod Finished

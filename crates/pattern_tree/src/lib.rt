@@ -6,7 +6,9 @@
 mod arena;
 mod copying;
 mod fault;
+mod finished;
 mod growth;
+pub mod laws;
 mod measure;
 mod node;
 mod search;
@@ -16,6 +18,7 @@ mod walking;
 
 pub use arena::Arena;
 pub use fault::TreeFault;
+pub use finished::Finished;
 pub use node::Node;
 pub use tree::{MOST_ENDS, MOST_NODES, PatternTree};
 pub use walking::Visitor;

@@ -18,7 +18,8 @@ mod walking;
 
 pub use best::scan;
 pub use events::departures;
-pub use parts::{Path, Rides};
+pub use parts::Path;
 pub use plain::plain_rounds;
 pub use scratch::Scratch;
+pub use timetable::Rides;
 pub use view::{RoundView, Rounds};

@@ -13,12 +13,11 @@ ghost use Rattle.rounds.specs.Scratch.{IsMadeFor, IsAlike, rides_of, rounds_of};
 use crate::best::points;
 use crate::by_lines::line_rounds;
 use crate::label::{Label, no_labels};
-use crate::parts::Rides;
 use crate::view::{Round, RoundView};
 use arrayvec::ArrayVec;
 use lines::Lines;
 use std::alloc::{AllocError, Global};
-use timetable::{Numbers, StopId, Timetable};
+use timetable::{Numbers, Rides, StopId, Timetable};
 
 /// Runs of the rounds over one timetable, one after the other. It keeps what the last run found, for the view of it.
 #[derive(Debug, Drop)]

@@ -19,3 +19,4 @@ pub mod FieldFacts
 pub mod CanonicalFacts
 pub mod WritingFacts
 pub mod EqualLists
+pub mod KnownStops

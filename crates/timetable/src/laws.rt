@@ -1,6 +1,6 @@
 //! Laws of journeys and of canonical bytes. Each holds of every timetable, and the function that states it does nothing.
 
-ghost use Rattle.timetable.specs.Laws.{WaitingIsFree, MoreRidesArriveEarlier};
+ghost use Rattle.timetable.specs.Laws.{WaitingIsFree, MoreRidesArriveEarlier, JourneysKeepToStops};
 ghost use Rattle.timetable.specs.Canonical.{CanonicalApart, CanonicalIsShort};
 
 use crate::table::Timetable;
@@ -14,6 +14,13 @@ pub fn waiting_is_free(_table: &Timetable)
 pub fn more_rides_arrive_earlier(_table: &Timetable)
     ensures { MoreRidesArriveEarlier _table.now }
 {}
+
+/// A journey of one ride or more boards, alights and ends at stops of the timetable.
+pub fn journeys_keep_to_stops(table: &Timetable)
+    ensures { JourneysKeepToStops table.now }
+{
+    let _ = table.stops();
+}
 
 /// Two timetables share their canonical bytes exactly where they are equal.
 pub fn canonical_apart()

@@ -5,7 +5,7 @@ ghost use Rattle.std.specs.Arc.{arc_value};
 ghost use Rattle.timetable.specs.Table.{stops_of};
 ghost use Rattle.rounds.specs.Scratch.{IsMadeFor, rides_of};
 
-use pattern_building::{Finished, build};
+use pattern_building::{build, finish};
 use pattern_tree::{Arena, PatternTree, TreeFault, Visitor};
 use rounds::{Rides, Scratch};
 use sample_feed::demo;
@@ -76,8 +76,8 @@ fn makes(alloc: Global, table: &Arc<Timetable>, arena: &mut Arena) -> Result<boo
 {
     let k = Rides::new(3);
     let mut scratch = Scratch::new(alloc, table, k)?;
-    let of_a = Finished::make(alloc, table, StopId::new(0), k, &mut scratch, arena)?;
-    let of_b = Finished::make(alloc, table, StopId::new(1), k, &mut scratch, arena)?;
+    let of_a = finish(alloc, table, StopId::new(0), k, &mut scratch, arena)?;
+    let of_b = finish(alloc, table, StopId::new(1), k, &mut scratch, arena)?;
     Ok(has_pairs(alloc, of_a.tree(), OF_A) && has_pairs(alloc, &of_b.into_tree(), OF_B))
 }
 
