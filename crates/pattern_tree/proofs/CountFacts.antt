@@ -5,7 +5,7 @@ use Rattle.std.proofs.lemmas.List.{length-map}
 use Rattle.pattern_tree.specs.Forest.{Forest, none, node, Step, Pair, pairs, IsBefore, IsBeforeFirst, IsOrdered, HasItem, node_count, end_count, levels}
 use Rattle.pattern_tree.specs.Content.{shared, known_rides, beginnings, longest}
 use Rattle.pattern_tree.specs.Added.{missing_count}
-use Rattle.pattern_tree.proofs.StepFacts.{before_trans}
+use Rattle.pattern_tree.proofs.StepFacts.{first_trans}
 use Rattle.pattern_tree.proofs.PairFacts.{under, ending}
 use Rattle.pattern_tree.proofs.AdditionFacts.{compared}
 use Rattle.pattern_tree.proofs.KeptFacts.{branch_of, missing_first, missing_later, missing_end_here, missing_here}
@@ -98,10 +98,6 @@ known_under s q (x ∷ y ∷ xs) h = omega (arith, shared_same s q x.0, known_un
 known_under_empty : (s : Step) (p : List Step) (xs : List Pair) → length xs ≡ 0 → known_rides p (all_under s xs) ≡ 0
 known_under_empty s p [] h = refl
 known_under_empty s p (x ∷ xs) h = absurd (omega (arith, h))
-
-pub first_trans : (s t : Step) (f : Forest) → IsBefore s t → IsBeforeFirst t f → IsBeforeFirst s f
-first_trans s t none less h = tt
-first_trans s t (node b a ends next rest) less h = before_trans s t (b, a) less h
 
 known_node : (p : List Step) (b a : ℕ) (ends : List ℕ) (next rest : Forest) → known_rides p (pairs (node b a ends next rest)) ≡ max (known_rides p (ends_of (b, a) ends)) (max (known_rides p (all_under (b, a) (pairs next))) (known_rides p (pairs rest)))
 known_node p b a ends next rest =

@@ -5,9 +5,8 @@ use Rattle.std.proofs.lemmas.List.Kept.{AllPairs-cons}
 use Rattle.std.proofs.lemmas.List.Elements.{All-from_get_or}
 use Rattle.pattern_tree.specs.Forest.{Forest, none, node, Step, Pair, pairs, IsBefore, IsBeforeFirst, IsOrdered, Rises}
 use Rattle.pattern_tree.specs.Paths.{Has, IsIn}
-use Rattle.pattern_tree.proofs.StepFacts.{before_irreflexive}
+use Rattle.pattern_tree.proofs.StepFacts.{first_trans, before_irreflexive}
 use Rattle.pattern_tree.proofs.PairFacts.{under, ending, in_append, map_in, in_index, contains_in, rises_from, rises_tail, in_has, pair_is, nonempty, tail_steps}
-use Rattle.pattern_tree.proofs.CountFacts.{first_trans}
 
 abbrev Distinct : {X : Type 0} → List X → Type 0
 Distinct [] = Unit {0}

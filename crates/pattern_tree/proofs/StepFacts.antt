@@ -1,7 +1,7 @@
--- The order of steps, and places among siblings.
+-- The order of steps, and places among siblings. Crates above cite what is said of the order from here.
 use Rattle.std.proofs.Common.{◌≡◌, ℕ, ◌+◌, ◌<◌, ◌≤◌, List, length, get_or, inl, inr, arith, subst}
 use Rattle.std.proofs.lemmas.Bool.{cases_lt}
-use Rattle.pattern_tree.specs.Forest.{Branch, Step, IsBefore, step_of}
+use Rattle.pattern_tree.specs.Forest.{Branch, Forest, none, node, Step, IsBefore, IsBeforeFirst, step_of}
 use Rattle.pattern_tree.specs.Siblings.{StepsRise}
 
 pub before_trans : (s t u : Step) → IsBefore s t → IsBefore t u → IsBefore s u
@@ -13,6 +13,11 @@ before_trans s t u (inr a) (inr b) = inr (omega (arith, a.0, b.0), omega (arith,
 pub before_irreflexive : (s : Step) → IsBefore s s → ⊥
 before_irreflexive s (inl a) = absurd (omega (arith, a))
 before_irreflexive s (inr a) = absurd (omega (arith, a.1))
+
+-- what comes before a step comes before the siblings behind it
+pub first_trans : (s t : Step) (f : Forest) → IsBefore s t → IsBeforeFirst t f → IsBeforeFirst s f
+first_trans s t none less h = tt
+first_trans s t (node b a ends next rest) less h = before_trans s t (b, a) less h
 
 -- those up to the middle come before s where the middle does
 pub below_middle : (bs : List Branch) (s : Step) (m : ℕ) → StepsRise bs → m < length bs → ((d : Branch) → IsBefore (step_of (get_or bs m d)) s) → (k : ℕ) (d : Branch) → k < m + 1 → IsBefore (step_of (get_or bs k d)) s

@@ -1,0 +1,4 @@
+pub mod Text
+pub mod Widths
+pub mod Reading
+pub mod Writing

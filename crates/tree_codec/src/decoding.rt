@@ -1,0 +1,187 @@
+//! Reading a tree. The bytes are from strangers: nothing is reserved by a count before its items are read, and nodes are
+//! read no deeper than 8 levels.
+
+ghost use Rattle.std.specs.Prelude.{None, ℕ, ◌≡◌, ◌≢◌, ◌<◌, ◌≤◌, ◌++◌, ◌-◌, min, List, length, take, MatchResult};
+ghost use Rattle.pattern_tree.specs.Forest.{forest};
+ghost use Rattle.pattern_tree.specs.Branch.{branch, branches};
+ghost use Rattle.pattern_tree.specs.Content.{Content};
+ghost use Rattle.tree_codec.specs.Text.{TreeText};
+ghost use Rattle.tree_codec.specs.Widths.{byte_count};
+ghost use Rattle.tree_codec.specs.Reading.{Gives, remaining, end_follows, step_follows, ends_at, node_at, children_at, level_at, tree_at};
+
+use crate::fault::CodecFault;
+use crate::input::Input;
+use crate::width::{StopForm, Width};
+use pattern_tree::{MOST_ENDS, MOST_NODES, Node, PatternTree};
+use std::alloc::Allocator;
+use timetable::{MOST_STOPS, StopId};
+
+/// How many levels of nodes a tree has at most.
+const MOST_LEVELS: u8 = 8;
+
+/// How many nodes and ends may still come.
+#[derive(Drop)]
+struct Room {
+    nodes: u32,
+    ends: u32,
+}
+
+/// Whether `end` comes after the last one, where there is one.
+fn end_follows(last: Option<StopId>, end: StopId) -> bool
+    ensures { result ≡ end_follows last end }
+{
+    match last {
+        None => true,
+        Some(last) => last < end,
+    }
+}
+
+/// Whether a step comes after the last one, where there is one.
+fn step_follows(last: Option<(StopId, StopId)>, board: StopId, alight: StopId) -> bool
+    ensures { result ≡ step_follows last (board, alight) }
+{
+    match last {
+        None => true,
+        Some(last) => last.0 < board || last.0 == board && last.1 < alight,
+    }
+}
+
+/// Reads so many ends.
+fn ends<A: Allocator>(
+    alloc: A,
+    input: &mut Input,
+    form: StopForm,
+    count: u32,
+) -> Result<Vec<StopId, A>, CodecFault>
+    ensures { Gives (λ ends. (ends.items, input.new.bytes.now)) result
+        (ends_at (byte_count form.width) form.stops count None input.old.bytes.now) }
+{
+    let mut ends = Vec::new(alloc);
+    let mut last = None;
+    for _ in 0..count {
+        let end = input.stop(form)?;
+        if !end_follows(last, end) {
+            return Err(CodecFault::NotRising);
+        }
+        ends.push(end)?;
+        last = Some(end);
+    }
+    Ok(ends)
+}
+
+/// Reads a node with all below it, on at most so many levels.
+#[cycle(nodes)]
+#[tactic(auto, unfolding(crate::specs::Reading::node_at))]
+fn node<A: Allocator + Clone>(
+    alloc: &A,
+    input: &mut Input,
+    room: &mut Room,
+    form: StopForm,
+    below: u8,
+    last: Option<(StopId, StopId)>,
+) -> Result<Node<A>, CodecFault>
+    ensures { Gives (λ node. (branch node, remaining input.new.bytes.now room.new.nodes room.new.ends)) result
+        (node_at (byte_count form.width) form.stops (children_at (byte_count form.width) form.stops below) last
+            (remaining input.old.bytes.now room.old.nodes room.old.ends)) }
+{
+    if room.nodes == 0 {
+        return Err(CodecFault::TooLarge);
+    }
+    let board = input.stop(form)?;
+    let alight = input.stop(form)?;
+    if !step_follows(last, board, alight) {
+        return Err(CodecFault::NotRising);
+    }
+    let count = input.number(form.width)?;
+    if room.ends < count {
+        return Err(CodecFault::TooLarge);
+    }
+    let ends = ends(alloc.clone()?, input, form, count)?;
+    let children = input.number(Width::Four)?;
+    if count == 0 && children == 0 {
+        return Err(CodecFault::EmptyNode);
+    }
+    room.nodes -= 1;
+    room.ends -= count;
+    let next = level(alloc, input, room, form, below, children)?;
+    Ok(Node {
+        board,
+        alight,
+        ends,
+        next,
+    })
+}
+
+/// Reads so many siblings with all below them, on at most so many levels.
+#[cycle(nodes)]
+fn level<A: Allocator + Clone>(
+    alloc: &A,
+    input: &mut Input,
+    room: &mut Room,
+    form: StopForm,
+    levels: u8,
+    count: u32,
+) -> Result<Vec<Node<A>, A>, CodecFault>
+    ensures { Gives (λ nodes. (forest (branches nodes.items), remaining input.new.bytes.now room.new.nodes room.new.ends)) result
+        (level_at (byte_count form.width) form.stops levels count None (remaining input.old.bytes.now room.old.nodes room.old.ends)) }
+{
+    let mut nodes = Vec::new(alloc.clone()?);
+    let mut last = None;
+    for _ in 0..count {
+        if levels == 0 {
+            return Err(CodecFault::TooDeep);
+        }
+        let node = node(alloc, input, room, form, levels - 1, last)?;
+        last = Some((node.board, node.alight));
+        nodes.push(node)?;
+    }
+    Ok(nodes)
+}
+
+/// Reads a tree: its source and its first nodes.
+#[tactic(auto, unfolding(crate::specs::Reading::tree_at))]
+fn tree<A: Allocator + Clone>(
+    alloc: &A,
+    input: &mut Input,
+    room: &mut Room,
+    form: StopForm,
+) -> Result<(StopId, Vec<Node<A>, A>), CodecFault>
+    requires nodes { room.old.nodes ≡ 1_000_000 }
+    requires ends { room.old.ends ≡ 16_000_000 }
+    ensures { Gives (λ read. (read.0, forest (branches read.1.items), remaining input.new.bytes.now room.new.nodes room.new.ends)) result
+        (tree_at (byte_count form.width) form.stops input.old.bytes.now) }
+{
+    let source = input.stop(form)?;
+    let count = input.number(Width::Four)?;
+    let first = level(alloc, input, room, form, MOST_LEVELS, count)?;
+    Ok((source, first))
+}
+
+/// The tree whose text the bytes begin with, and how many bytes the text takes. Each stop's number is below `n_stops`;
+/// no tree has a stop from 65,534 on. What follows the text isn't looked at.
+pub fn decode<A: Allocator + Clone>(
+    alloc: A,
+    bytes: &[u8],
+    n_stops: usize,
+) -> Result<(PatternTree<A>, usize), CodecFault>
+    ensures { MatchResult result
+        (λ read. (read.1 ≤ length bytes.now) × TreeText 2 (min n_stops 65534) (take read.1 bytes.now) read.0)
+        (λ fault. fault ≢ CodecFault.Memory
+            → (text rest : List ℕ) (tree : Content) → TreeText 2 (min n_stops 65534) text tree → bytes.now ≢ text ++ rest) }
+{
+    let stops = n_stops.min(MOST_STOPS as usize) as u16;
+    let form = StopForm {
+        width: Width::Two,
+        stops,
+    };
+    let mut input = Input { bytes };
+    let mut room = Room {
+        nodes: MOST_NODES,
+        ends: MOST_ENDS,
+    };
+    let (source, first) = tree(&alloc, &mut input, &mut room, form)?;
+    let nodes = MOST_NODES - room.nodes;
+    let ends = MOST_ENDS - room.ends;
+    let used = bytes.len() - input.bytes.len();
+    Ok((PatternTree::from_nodes(source, nodes, ends, first), used))
+}
