@@ -82,7 +82,7 @@ fn node<A: Allocator + Clone>(
 ) -> Result<Node<A>, CodecFault>
     ensures { Gives (λ node. (branch node, remaining input.new.bytes.now room.new.nodes room.new.ends)) result
         (node_at (byte_count form.width) form.stops (children_at (byte_count form.width) form.stops below) last
-            (remaining input.old.bytes.now room.old.nodes room.old.ends)) }
+        (remaining input.old.bytes.now room.old.nodes room.old.ends)) }
 {
     if room.nodes == 0 {
         return Err(CodecFault::TooLarge);
@@ -167,7 +167,7 @@ pub fn decode<A: Allocator + Clone>(
     ensures { MatchResult result
         (λ read. (read.1 ≤ length bytes.now) × TreeText 2 (min n_stops 65534) (take read.1 bytes.now) read.0)
         (λ fault. fault ≢ CodecFault.Memory
-            → (text rest : List ℕ) (tree : Content) → TreeText 2 (min n_stops 65534) text tree → bytes.now ≢ text ++ rest) }
+        → (text rest : List ℕ) (tree : Content) → TreeText 2 (min n_stops 65534) text tree → bytes.now ≢ text ++ rest) }
 {
     let stops = n_stops.min(MOST_STOPS as usize) as u16;
     let form = StopForm {

@@ -59,7 +59,11 @@ fn put_node<A: Allocator>(out: &mut Vec<u8>, width: Width, node: &Node<A>) -> Re
 }
 
 /// Writes siblings and all below them.
-fn put_level<A: Allocator>(out: &mut Vec<u8>, width: Width, level: &[Node<A>]) -> Result<(), AllocError>
+fn put_level<A: Allocator>(
+    out: &mut Vec<u8>,
+    width: Width,
+    level: &[Node<A>],
+) -> Result<(), AllocError>
     ensures ok { OnOk result (out.new.items ≡ out.old.items ++ nodes_text (byte_count width) (forest (branches level.now))) }
     ensures below { OnOk result (StopsBelow 65534 (forest (branches level.now))) }
     ensures err { OnErr result (Grown out.old.items out.new.items) }
@@ -72,7 +76,11 @@ fn put_level<A: Allocator>(out: &mut Vec<u8>, width: Width, level: &[Node<A>]) -
 }
 
 /// Writes the text of a tree.
-fn put_tree<A: Allocator>(tree: &PatternTree<A>, width: Width, out: &mut Vec<u8>) -> Result<(), AllocError>
+fn put_tree<A: Allocator>(
+    tree: &PatternTree<A>,
+    width: Width,
+    out: &mut Vec<u8>,
+) -> Result<(), AllocError>
     ensures ok { OnOk result (AppendsText (byte_count width) 65534 out.old.items out.new.items tree.now) }
     ensures err { OnErr result (Grown out.old.items out.new.items) }
 {

@@ -1,4 +1,4 @@
-use Rattle.std.proofs.Common.{rules, ◌<◌, length, ℕ, arith, sym, subst, IsTrue, ◌↔◌, List, ◌∙◌, []}
+use Rattle.std.proofs.Common.{rules, ◌<◌, length, ℕ, arith, sym, subst, IsTrue, ◌↔◌, List, ◌∙◌}
 use Rattle.std.proofs.lemmas.Bool.{eqb-true, eqb-false}
 use Rattle.std.proofs.lemmas.List.{length-map}
 use Rattle.pattern_tree.specs.Forest.{IsOrdered, Rises, forest, Step}

@@ -1,5 +1,5 @@
-use Rattle.std.proofs.Common.{◌≡◌, ◌≤◌, ◌+◌, ◌++◌, ◌∷◌, ◌∙◌, [], List, length, map, arith, ap, subst, rules, sym, lit<, ◌<◌}
-use Rattle.pattern_tree.specs.Forest.{Forest, forest, levels, pairs, step_of, Branch, Pair}
+use Rattle.std.proofs.Common.{◌≡◌, ◌≤◌, ◌+◌, ◌++◌, ◌∷◌, ◌∙◌, [], List, length, map, arith, ap, subst, rules, lit<, ◌<◌}
+use Rattle.pattern_tree.specs.Forest.{Forest, forest, levels, pairs, step_of, Branch}
 use Rattle.pattern_tree.specs.Branch.{branch, branches}
 use Rattle.pattern_tree.specs.Walks.{ShownAll, ending, after}
 use Rattle.pattern_tree.proofs.NodeFacts.{ends_out, next_out}

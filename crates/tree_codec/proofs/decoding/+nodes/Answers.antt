@@ -1,4 +1,4 @@
-use Rattle.std.proofs.Common.{◌≡◌, ℕ, Ok, ◌<◌, ◌≤◌, ◌-◌, ◌+◌, true, subst, None, Some, arith}
+use Rattle.std.proofs.Common.{◌≡◌, ◌<◌, ◌≤◌, ◌-◌, ◌+◌, true, subst, None, Some, arith}
 use Rattle.std.proofs.lemmas.Result.{err_from_is_err_and}
 use Rattle.pattern_tree.specs.Forest.{Step, forest}
 use Rattle.pattern_tree.specs.Branch.{branch, branches}

@@ -1,6 +1,3 @@
-use Rattle.std.proofs.Common.{◌≡◌, ◌++◌, length, ap, ◌∙◌}
-use Rattle.byteorder.specs.Endian.{big_bytes}
-use Rattle.tree_codec.specs.Text.{numbers_text}
 use Rattle.tree_codec.specs.Widths.{byte_count}
 use Rattle.tree_codec.proofs.Writings.{grown_after, head_put, head_below, on_ok, on_err, always_ok, always_err}
 use Rattle.tree_codec.proofs.encoding.put_node.Goals as goal

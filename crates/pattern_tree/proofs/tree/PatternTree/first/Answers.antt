@@ -1,6 +1,4 @@
-use Rattle.std.proofs.Common.{◌≡◌, ◌≤◌, ap, sym, subst, arith}
-use Rattle.pattern_tree.specs.Forest.{Forest, pairs, forest, node_count, end_count, levels, IsOrdered}
-use Rattle.pattern_tree.specs.Branch.{branches}
+use Rattle.std.proofs.Common.{ap, arith}
 use Rattle.pattern_tree.specs.Content.{Content}
 use Rattle.pattern_tree.proofs.tree.PatternTree.first.Goals as goal
 
