@@ -4,3 +4,4 @@ mod Filled
 pub mod Moments
 mod Replayed
 mod Sound
+mod Stretches

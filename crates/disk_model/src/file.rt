@@ -5,8 +5,8 @@ ghost use Rattle.disk_model.specs.Disk.{last_count};
 ghost use Rattle.disk_model.specs.File.{failures_in, unknown_state};
 
 use crate::disk::Disk;
-use crate::fault::DiskFault;
-use std::fs::{File, OpenOptions};
+use crate::fault::{DiskFault, FileFault};
+use std::fs::{File, OpenOptions, TryLockError};
 use std::io;
 use std::os::unix::fs::FileExt;
 use std::rt::Files;
@@ -17,9 +17,11 @@ use std::rt::Files;
 /// a read says no more bytes than its buffer has. What a store over it promises rests on the file doing as an honest disk
 /// does: a read gives what was written last, and after `sync` the bytes and the length stand through a crash.
 ///
-/// A second process that writes the file breaks that: nothing here locks it. So may a file on a network share, and a
-/// drive that answers before it has written. On a full disk a write fails and may have been done in part, as any write
-/// that fails.
+/// A second process that writes the file would break that, so a disk holds the system's exclusive lock of its file, and
+/// who opens it as a disk meanwhile, to write or only to read, is refused. The system drops the lock when the disk is
+/// dropped and when its process ends, in whatever way: a crash leaves no lock behind. The lock binds only those that ask
+/// for it. A file on a network share may break the premise too, and so may a drive that answers before it has written.
+/// On a full disk a write fails and may have been done in part, as any write that fails.
 ///
 /// Opening a file brings its name to the disk too, so that a crash can't lose a file that was just made. Where the path is
 /// a link, that is the name of the link.
@@ -38,25 +40,37 @@ fn folder_of(path: &str) -> &str {
     }
 }
 
-// Opens the file, and brings its name to the disk.
-fn open_file<R: Files<File = File>>(rt: &R, path: &str) -> io::Result<File> {
+// Brings the name of a file to the disk.
+fn sync_name<R: Files<File = File>>(rt: &R, path: &str) -> io::Result<()> {
+    File::open(rt, folder_of(path))?.sync_all()
+}
+
+// Opens the file, locks it, and brings its name to the disk.
+fn open_file<R: Files<File = File>>(rt: &R, path: &str) -> Result<File, FileFault> {
     let mut options = OpenOptions::new();
     options.read(true).write(true).create(true);
-    let file = options.open(rt, path)?;
-    File::open(rt, folder_of(path))?.sync_all()?;
-    Ok(file)
+    let Ok(file) = options.open(rt, path) else {
+        return Err(FileFault::Failed);
+    };
+    match file.try_lock() {
+        Ok(()) => match sync_name(rt, path) {
+            Ok(()) => Ok(file),
+            Err(_) => Err(FileFault::Failed),
+        },
+        Err(TryLockError::WouldBlock) => Err(FileFault::InUse),
+        Err(TryLockError::Error(_)) => Err(FileFault::Failed),
+    }
 }
 
 impl FileDisk {
-    /// Opens a file for reading and writing, and makes it empty where it isn't there. It is a fault where the system
-    /// refuses, as for a folder, without leave to write, or where the folder that the file lies in can't be synced.
-    pub fn open<R: Files<File = File>>(rt: &R, path: &str) -> Result<FileDisk, DiskFault>
+    /// Opens a file for reading and writing, and makes it empty where it isn't there. The file is locked as long as the
+    /// disk lives: `InUse` comes where it is open as a disk already, in this process or another. `Failed` comes where the
+    /// system refuses, as for a folder, without leave to write, or where the folder that the file lies in can't be synced.
+    pub fn open<R: Files<File = File>>(rt: &R, path: &str) -> Result<FileDisk, FileFault>
         ensures { IfOk result (λ disk. failures_in disk ≡ 0) }
     {
-        match open_file(rt, path) {
-            Ok(file) => Ok(FileDisk { file, failures: 0 }),
-            Err(_) => Err(DiskFault::Failed),
-        }
+        let file = open_file(rt, path)?;
+        Ok(FileDisk { file, failures: 0 })
     }
 
     // Counts a call that failed.

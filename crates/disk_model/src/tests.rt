@@ -420,11 +420,23 @@ fn a_file_as_a_disk(rt: HostRuntime) -> Result<(), Fail> {
     Ok(())
 }
 
+// A file is one disk at a time, and free again once the disk is dropped.
+#[test]
+fn a_file_that_is_in_use(rt: HostRuntime) -> Result<(), Fail> {
+    let path = "disk_model_a_file_that_is_in_use";
+    let disk = FileDisk::open(&rt, path)?;
+    assert_eq!(rt; FileDisk::open(&rt, path).err(), Some(FileFault::InUse));
+    drop(disk);
+    assert!(rt; FileDisk::open(&rt, path).is_ok());
+    fs::remove_file(&rt, path)?;
+    Ok(())
+}
+
 #[test]
 fn files_that_cannot_be_opened(rt: HostRuntime) {
     // a folder, a file in a folder that isn't there, and a program that runs, which nobody may write
     for path in ["/", "/no such folder/disk", "/proc/self/exe"] {
-        assert!(rt; FileDisk::open(&rt, path).is_err(), "{path}");
+        assert_eq!(rt; FileDisk::open(&rt, path).err(), Some(FileFault::Failed), "{path}");
     }
 }
 

@@ -1,0 +1,5 @@
+pub mod Fault
+pub mod Laws
+pub mod Sections
+pub mod Step
+pub mod Store

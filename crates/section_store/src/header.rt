@@ -1,0 +1,151 @@
+//! Begins a store in a fresh file.
+
+ghost use Rattle.std.specs.Prelude.{◌≡◌, ◌↔◌, ◌⊎◌, ◌≤◌, ◌+◌, ◌++◌, [], ◌∷◌, length, OnOk, IfOk, MatchResult};
+ghost use Rattle.std.specs.Arc.{arc_value};
+ghost use Rattle.disk_model.specs.Moments.{LeavesOnly};
+ghost use Rattle.disk_model.specs.Disk.{Grew};
+ghost use Rattle.disk_model.specs.Calls.{FailsByCalls};
+ghost use Rattle.section_store.specs.Sections.{Form, StandsForNone, IsFresh, form_of, header, header_tail};
+ghost use Rattle.section_store.specs.Store.{IsRest, IsFreshRest, IsShort, IsClosed, IsWhole, Holds};
+
+use crate::body::put_size;
+use crate::fault::PutFault;
+use crate::form::Form as FormOf;
+use crate::step::Step;
+use crate::store::SectionStore;
+use disk_model::{Disk, DiskFault, cut_and_sync, write_and_sync};
+use std::alloc::{AllocError, Global};
+use std::sync::Arc;
+use timetable::{Rides, Timetable};
+
+// An open gate.
+const OPEN: u8 = 0xA5;
+
+/// Cuts a fresh file to at most one byte.
+fn shorten<D: Disk>(disk: &mut D) -> Result<(), DiskFault>
+    requires { D.honest disk.old → IsFreshRest (D.state disk.old) }
+    ensures short { D.honest disk.old → OnOk result (IsShort (D.state disk.new)) }
+    ensures moments { D.honest disk.old → LeavesOnly (D.state disk.old) (D.state disk.new) IsFresh }
+    ensures honest { D.honest disk.old ↔ D.honest disk.new }
+    ensures failed { FailsByCalls result (D.failures disk.old) (D.failures disk.new) }
+{
+    match disk.len() {
+        Ok(len) => {
+            if len > 1 {
+                cut_and_sync(disk, 1)
+            } else {
+                Ok(())
+            }
+        }
+        Err(fault) => Err(fault),
+    }
+}
+
+/// Closes the gate of the header.
+fn close_header<D: Disk>(disk: &mut D) -> Result<(), DiskFault>
+    requires { D.honest disk.old → IsShort (D.state disk.old) }
+    ensures closed { D.honest disk.old → OnOk result (IsClosed (D.state disk.new)) }
+    ensures moments { D.honest disk.old → LeavesOnly (D.state disk.old) (D.state disk.new) IsFresh }
+    ensures honest { D.honest disk.old ↔ D.honest disk.new }
+    ensures failed { FailsByCalls result (D.failures disk.old) (D.failures disk.new) }
+{
+    write_and_sync(disk, 0, &[0])
+}
+
+/// Writes the header behind its closed gate, and the first closed gate.
+fn write_header<D: Disk>(disk: &mut D, rest: &[u8]) -> Result<(), DiskFault>
+    requires { D.honest disk.old → IsClosed (D.state disk.old) }
+    ensures whole { D.honest disk.old → OnOk result (IsWhole rest.now (D.state disk.new)) }
+    ensures moments { D.honest disk.old → LeavesOnly (D.state disk.old) (D.state disk.new) IsFresh }
+    ensures honest { D.honest disk.old ↔ D.honest disk.new }
+    ensures failed { FailsByCalls result (D.failures disk.old) (D.failures disk.new) }
+{
+    write_and_sync(disk, 1, rest)
+}
+
+/// Opens the gate of the header.
+fn open_header<D: Disk>(disk: &mut D) -> Result<(), DiskFault>
+    ensures rest { (form : Form) → D.honest disk.old → IsWhole (header_tail form ++ 0 ∷ []) (D.state disk.old)
+        → OnOk result (IsRest form [] (length (header form)) (D.state disk.new)) }
+    ensures moments { (form : Form) → D.honest disk.old → IsWhole (header_tail form ++ 0 ∷ []) (D.state disk.old)
+        → LeavesOnly (D.state disk.old) (D.state disk.new) (StandsForNone form) }
+    ensures honest { D.honest disk.old ↔ D.honest disk.new }
+    ensures failed { FailsByCalls result (D.failures disk.old) (D.failures disk.new) }
+{
+    write_and_sync(disk, 0, &[OPEN])
+}
+
+// The four steps, one after the other.
+fn begin_file<D: Disk>(disk: &mut D, rest: &[u8]) -> Result<(), DiskFault>
+    requires { D.honest disk.old → IsFreshRest (D.state disk.old) }
+    ensures rest { (form : Form) → D.honest disk.old → rest.now ≡ header_tail form ++ 0 ∷ []
+        → OnOk result (IsRest form [] (length (header form)) (D.state disk.new)) }
+    ensures moments { (form : Form) → D.honest disk.old → rest.now ≡ header_tail form ++ 0 ∷ []
+        → LeavesOnly (D.state disk.old) (D.state disk.new) (StandsForNone form) }
+    ensures honest { D.honest disk.old ↔ D.honest disk.new }
+    ensures failed { FailsByCalls result (D.failures disk.old) (D.failures disk.new) }
+{
+    shorten(disk)?;
+    close_header(disk)?;
+    write_header(disk, rest)?;
+    open_header(disk)
+}
+
+/// The header's bytes behind its gate.
+pub fn header_bytes(alloc: Global, table: &Timetable, rides: Rides) -> Result<Vec<u8>, AllocError>
+    ensures { IfOk result (λ bytes. bytes.items ≡ header_tail (form_of table.now rides)) }
+{
+    let _ = table.stops();
+    let mut bytes = vec![in alloc; 84, 80, 83, 84, 79, 82, 69, 1, rides.number(), 0, 0, 0, 0]?;
+    table.write_canonical(&mut bytes)?;
+    put_size(&mut bytes, 13);
+    Ok(bytes)
+}
+
+// The header's bytes behind its gate, and a closed gate.
+fn rest_of_header(alloc: Global, table: &Timetable, rides: Rides) -> Result<Vec<u8>, AllocError>
+    ensures { IfOk result (λ bytes. bytes.items ≡ header_tail (form_of table.now rides) ++ 0 ∷ []) }
+{
+    let mut bytes = header_bytes(alloc, table, rides)?;
+    bytes.push(0)?;
+    Ok(bytes)
+}
+
+/// Begins a store of trees of that timetable and for journeys of at most `rides` rides, in a fresh file, which is made
+/// shorter where need be. A crash at any moment leaves a file that stands for no trees. What a read gives and what a crash
+/// leaves must be one and the same fresh file, as after a sync. The disk comes back with each fault: `Memory`, which comes
+/// before any call of the disk, or `Device`.
+pub fn begin<D: Disk>(
+    alloc: Global,
+    disk: D,
+    table: &Arc<Timetable>,
+    rides: Rides,
+) -> Result<SectionStore<D>, (PutFault, D)>
+    requires { D.honest disk → IsFreshRest (D.state disk) }
+    ensures holds { D.honest disk → IfOk result (λ store. Holds (form_of (arc_value table.now) rides) [] store.place store.stored.items (D.state store.disk)) }
+    ensures moments { D.honest disk → MatchResult result
+        (λ store. LeavesOnly (D.state disk) (D.state store.disk) (StandsForNone (form_of (arc_value table.now) rides)))
+        (λ e. LeavesOnly (D.state disk) (D.state e.1) (StandsForNone (form_of (arc_value table.now) rides))) }
+    ensures honest { MatchResult result (λ store. D.honest disk ↔ D.honest store.disk) (λ e. D.honest disk ↔ D.honest e.1) }
+    ensures cause { MatchResult result (λ store. D.failures store.disk ≡ D.failures disk)
+        (λ e. ((e.0 ≡ PutFault.Memory) × (e.1 ≡ disk)) ⊎ ((e.0 ≡ PutFault.Device) × Grew (D.failures disk) (D.failures e.1))) }
+    ensures ready { IfOk result (λ store. (store.next ≡ Step.WriteBody) × (store.form ≡ form_of (arc_value table.now) rides)) }
+{
+    let Ok(kept) = Arc::try_clone(table) else {
+        return Err((PutFault::Memory, disk));
+    };
+    let Ok(rest) = rest_of_header(alloc, table, rides) else {
+        return Err((PutFault::Memory, disk));
+    };
+    let mut disk = disk;
+    match begin_file(&mut disk, &rest) {
+        Ok(()) => Ok(SectionStore::resume(
+            alloc,
+            disk,
+            FormOf::new(kept, rides),
+            Vec::new(alloc),
+            rest.len() as u64,
+        )),
+        Err(_) => Err((PutFault::Device, disk)),
+    }
+}

@@ -1,0 +1,21 @@
+//! The file that keeps finished trees: sections behind gates, put so that a crash at any moment leaves the list of trees
+//! before a put or the list after it.
+#![tactic(auto)]
+
+mod body;
+mod calls;
+mod fault;
+mod form;
+mod header;
+pub mod laws;
+mod put;
+mod sources;
+mod step;
+mod store;
+
+pub use fault::PutFault;
+pub use form::Form;
+pub use header::{begin, header_bytes};
+pub use sources::is_new;
+pub use step::Step;
+pub use store::{Receipt, SectionStore};

@@ -1,0 +1,48 @@
+//! Puts a tree.
+
+ghost use Rattle.std.specs.Prelude.{◌≡◌, ◌↔◌, ◌++◌, [], ◌∷◌, List, length, OnOk, IfOk, IfErr, MatchResult};
+ghost use Rattle.disk_model.specs.Moments.{LeavesOnly};
+ghost use Rattle.pattern_tree.specs.Content.{Content};
+ghost use Rattle.section_store.specs.Fault.{HasCause, IsTooLarge};
+ghost use Rattle.section_store.specs.Sections.{IsBeforeOrAfter, IsNew};
+ghost use Rattle.section_store.specs.Store.{Holds};
+
+use crate::fault::PutFault;
+use crate::step::Step;
+use crate::store::{Receipt, SectionStore};
+use disk_model::Disk;
+use pattern_tree::Finished;
+
+impl<D: Disk> SectionStore<D> {
+    /// Puts a tree behind those that are stored. A crash at any moment leaves the list before, or that list and this tree;
+    /// after a Receipt it leaves the latter. A fault but `Device` comes before any call of the disk and changes nothing;
+    /// after `Device` each put is refused, until the file is recovered.
+    pub fn put(&mut self, tree: &Finished) -> Result<Receipt, PutFault>
+        ensures holds { (trees : List Content) → D.honest self.old.disk
+            → Holds self.old.form trees self.old.place self.old.stored.items (D.state self.old.disk)
+            → OnOk result (Holds self.old.form (trees ++ tree.now.tree ∷ []) self.new.place self.new.stored.items (D.state self.new.disk)) }
+        ensures moments { (trees : List Content) → D.honest self.old.disk
+            → Holds self.old.form trees self.old.place self.old.stored.items (D.state self.old.disk)
+            → LeavesOnly (D.state self.old.disk) (D.state self.new.disk) (IsBeforeOrAfter self.old.form trees tree.now.tree) }
+        ensures honest { D.honest self.old.disk ↔ D.honest self.new.disk }
+        ensures cause { HasCause result (self.old.next ≡ Step.WriteBody)
+            ((tree.now.table ≡ self.old.form.table) × (tree.now.rides ≡ self.old.form.rides))
+            (IsNew tree.now.tree.source self.old.stored.items)
+            (IsTooLarge self.old.form tree.now.tree self.old.place)
+            (D.failures self.old.disk) (D.failures self.new.disk) }
+        ensures same { IfErr result (λ fault. ¬ (fault ≡ PutFault.Device)
+            → (self.new.disk ≡ self.old.disk) × (self.new.place ≡ self.old.place) × (self.new.next ≡ self.old.next)) }
+        ensures failed { IfErr result (λ fault. fault ≡ PutFault.Device → self.new.next ≡ Step.Failed) }
+        ensures next { OnOk result (self.new.next ≡ Step.WriteBody) }
+        ensures form { self.new.form ≡ self.old.form }
+        ensures stored { MatchResult result
+            (λ _. self.new.stored.items ≡ self.old.stored.items ++ tree.now.tree.source ∷ [])
+            (λ _. self.new.stored.items ≡ self.old.stored.items) }
+        ensures receipt { IfOk result (λ r. (r.source ≡ tree.now.tree.source) × (r.number ≡ length self.old.stored.items)) }
+    {
+        self.write_body(tree)?;
+        self.sync_body()?;
+        self.open_gate()?;
+        self.sync_gate()
+    }
+}

@@ -1,0 +1,99 @@
+//! A store: a file to which trees are put.
+
+ghost use Rattle.std.specs.Prelude.{◌≡◌, ◌↔◌, ◌<◌, ◌≤◌, ◌+◌, ◌^◌, length, vec_len, vec_capacity};
+ghost use Rattle.section_store.specs.Step.{IsBegun};
+
+use crate::form::Form;
+use crate::step::Step;
+use disk_model::{Disk, MemDisk};
+use std::alloc::Global;
+use timetable::StopId;
+
+/// That a source is stored, and its number in the list, from 0.
+#[derive(Debug, Drop)]
+pub struct Receipt {
+    pub source: StopId,
+    pub number: usize,
+}
+
+/// A file of finished trees, and what is known of it: what it is a store of, where the closed gate stands, how long the
+/// section that was written behind it is and whose, and whose trees are stored. The bytes of a section are made in a
+/// buffer that is kept.
+#[derive(Drop)]
+pub struct SectionStore<D: Disk> {
+    pub(crate) disk: D,
+    pub(crate) form: Form,
+    pub(crate) place: u64,
+    pub(crate) extent: u64,
+    pub(crate) source: StopId,
+    pub(crate) stored: Vec<StopId>,
+    pub(crate) next: Step,
+    pub(crate) body: Vec<u8>,
+    ghost inside: { D.honest disk → place + extent + 1 ≤ length (D.state disk).read },
+    ghost low: { place + extent < 2 ^ 64 },
+    ghost room: { IsBegun next → vec_len stored < vec_capacity stored },
+}
+
+impl<D: Disk> SectionStore<D> {
+    /// A store as it was found in a file: these sources are stored, and the closed gate stands at `place`.
+    pub fn resume(
+        alloc: Global,
+        disk: D,
+        form: Form,
+        stored: Vec<StopId>,
+        place: u64,
+    ) -> Self
+        requires { D.honest disk → place < length (D.state disk).read }
+        ensures disk { result.disk ≡ disk }
+        ensures form { result.form ≡ form }
+        ensures place { result.place ≡ place }
+        ensures stored { result.stored ≡ stored }
+        ensures next { result.next ≡ Step.WriteBody }
+    {
+        SectionStore {
+            disk,
+            form,
+            place,
+            extent: 0,
+            source: StopId::default(),
+            stored,
+            next: Step::WriteBody,
+            body: Vec::new(alloc),
+        }
+    }
+
+    /// Whose trees are stored, in storing order.
+    pub fn stored(&self) -> &[StopId]
+        ensures { result.now ≡ self.now.stored.items }
+    {
+        &self.stored
+    }
+
+    /// The disk.
+    pub fn disk(&self) -> &D
+        ensures { result.now ≡ self.now.disk }
+    {
+        &self.disk
+    }
+
+    /// The disk, given back.
+    pub fn into_disk(self) -> D
+        ensures { result ≡ self.disk }
+    {
+        self.disk
+    }
+
+    /// The timetable and the most rides that the trees are for.
+    pub fn form(&self) -> &Form
+        ensures { result.now ≡ self.now.form }
+    {
+        &self.form
+    }
+
+    /// Which call of the disk comes next.
+    pub fn next_step(&self) -> Step
+        ensures { result ≡ self.now.next }
+    {
+        self.next
+    }
+}
