@@ -54,7 +54,11 @@ pub fn read_up_to<D: Disk>(
     let mut piece = [0u8; PIECE];
     for _ in 0..count {
         let left = count - out.len() as u64;
-        let ask = if left < PIECE as u64 { left as usize } else { PIECE };
+        let ask = if left < PIECE as u64 {
+            left as usize
+        } else {
+            PIECE
+        };
         if ask == 0 {
             return Ok(());
         }

@@ -436,7 +436,11 @@ fn a_file_that_is_in_use(rt: HostRuntime) -> Result<(), Fail> {
 fn files_that_cannot_be_opened(rt: HostRuntime) {
     // a folder, a file in a folder that isn't there, and a program that runs, which nobody may write
     for path in ["/", "/no such folder/disk", "/proc/self/exe"] {
-        assert_eq!(rt; FileDisk::open(&rt, path).err(), Some(FileFault::Failed), "{path}");
+        assert_eq!(rt;
+            FileDisk::open(&rt, path).err(),
+            Some(FileFault::Failed),
+            "{path}"
+        );
     }
 }
 

@@ -24,8 +24,14 @@ nodes_long (node b a ends next rest) =
     let step = numbers_text 2 (b ∷ a ∷ length ends ∷ ends) in
     let count = big_bytes 4 (siblings next) in
     omega (
-      arith, length-append step (count ++ (nodes_text 2 next ++ nodes_text 2 rest)), length-append count (nodes_text 2 next ++ nodes_text 2 rest),
-      length-append (nodes_text 2 next) (nodes_text 2 rest), numbers_long (b ∷ a ∷ length ends ∷ ends), length-bytes_high_first 4 (siblings next), nodes_long next, nodes_long rest,
+      arith,
+      length-append step (count ++ (nodes_text 2 next ++ nodes_text 2 rest)),
+      length-append count (nodes_text 2 next ++ nodes_text 2 rest),
+      length-append (nodes_text 2 next) (nodes_text 2 rest),
+      numbers_long (b ∷ a ∷ length ends ∷ ends),
+      length-bytes_high_first 4 (siblings next),
+      nodes_long next,
+      nodes_long rest,
     )
 
 pub text_long : (n : ℕ) (text : List ℕ) (tree : Content) → TreeText 2 n text tree → length text ≤ 42_000_006
@@ -33,8 +39,15 @@ text_long n text tree is =
     let first = big_bytes 2 tree.source in
     let count = big_bytes 4 (siblings is.nodes) in
     omega (
-      arith, ap length is.bytes_are, length-append first (count ++ nodes_text 2 is.nodes), length-append count (nodes_text 2 is.nodes),
-      length-bytes_high_first 2 tree.source, length-bytes_high_first 4 (siblings is.nodes), nodes_long is.nodes, is.lawful.few_nodes, is.lawful.few_ends,
+      arith,
+      ap length is.bytes_are,
+      length-append first (count ++ nodes_text 2 is.nodes),
+      length-append count (nodes_text 2 is.nodes),
+      length-bytes_high_first 2 tree.source,
+      length-bytes_high_first 4 (siblings is.nodes),
+      nodes_long is.nodes,
+      is.lawful.few_nodes,
+      is.lawful.few_ends,
     )
 
 -- a length in the four places before a text

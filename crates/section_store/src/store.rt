@@ -1,6 +1,7 @@
 //! A store: a file to which trees are put.
 
-ghost use Rattle.std.specs.Prelude.{◌≡◌, ◌↔◌, ◌<◌, ◌≤◌, ◌+◌, ◌^◌, length, vec_len, vec_capacity};
+ghost use Rattle.std.specs.Prelude.{◌≡◌, ◌<◌, ◌≤◌, ◌+◌, ◌^◌, ◌==◌, ℕ, length, vec_len, vec_capacity};
+ghost use Rattle.disk_model.specs.MemDisk.{state_of, failures_of, is_told};
 ghost use Rattle.section_store.specs.Step.{IsBegun};
 
 use crate::form::Form;
@@ -36,13 +37,7 @@ pub struct SectionStore<D: Disk> {
 
 impl<D: Disk> SectionStore<D> {
     /// A store as it was found in a file: these sources are stored, and the closed gate stands at `place`.
-    pub fn resume(
-        alloc: Global,
-        disk: D,
-        form: Form,
-        stored: Vec<StopId>,
-        place: u64,
-    ) -> Self
+    pub fn resume(alloc: Global, disk: D, form: Form, stored: Vec<StopId>, place: u64) -> Self
         requires { D.honest disk → place < length (D.state disk).read }
         ensures disk { result.disk ≡ disk }
         ensures form { result.form ≡ form }
@@ -95,5 +90,18 @@ impl<D: Disk> SectionStore<D> {
         ensures { result ≡ self.now.next }
     {
         self.next
+    }
+}
+
+impl SectionStore<MemDisk> {
+    /// Tells the nth call of the disk from now, counted from 1, to fail.
+    pub fn fail_at(&mut self, n: u64)
+        ensures state { state_of self.new.disk ≡ state_of self.old.disk }
+        ensures failures { failures_of self.new.disk ≡ failures_of self.old.disk }
+        ensures told { (k : ℕ) → is_told self.new.disk k ≡ (k == n) }
+        ensures same { (self.new.place ≡ self.old.place) × (self.new.next ≡ self.old.next) × (self.new.form ≡ self.old.form) }
+        ensures stored { self.new.stored ≡ self.old.stored }
+    {
+        self.disk.fail_at(n);
     }
 }

@@ -6,7 +6,7 @@ use Rattle.std.proofs.lemmas.Bool.{ne_eqb, le-ltb}
 use Rattle.pattern_tree.specs.Forest.{Branch, Forest, none, node, forest, Step, step_of}
 use Rattle.tree_codec.specs.declared.fault.CodecFault.{CodecFault}
 use Rattle.tree_codec.specs.declared.fault.CodecFault.TheVariants.{Truncated, UnknownStop, NotRising, EmptyNode, TooDeep, TooLarge, Memory}
-use Rattle.tree_codec.specs.Reading.{◌>>=◌, Fails, Left, remaining, number_at, stop_at, end_follows, step_follows, ends_at, node_at, children_at, siblings_at, level_at}
+use Rattle.tree_codec.specs.Reading.{◌>>=◌, Fails, Left, remaining, number_at, stop_at, end_follows, step_follows, lacks_items, ends_at, node_at, children_at, siblings_at, level_at}
 
 -- a fault is passed on
 pub fails_on : {A B : Type 0} (e : CodecFault) (r : Result A CodecFault) (f : A → Result B CodecFault) → Fails e r → Fails e (r >>= f)
@@ -153,20 +153,14 @@ level_done front w n levels count i last left total le so_far =
     sym so_far ∙ one
 
 -- one whole node
-pub not_both : (x y : ℕ) → (x ≡ 0 → y ≡ 0 → ⊥) → (x == 0 && y == 0) ≡ false
-not_both zero zero h = absurd (h refl refl)
-not_both zero (suc y) h = rw (ne_eqb (suc y) 0 (omega arith)) refl
-not_both (suc x) y h = rw (ne_eqb (suc x) 0 (omega arith)) refl
-
 pub node_given : (w n : ℕ) (children : ℕ → Left → Read) (last : Option Step) (bytes : List ℕ) (nodes ends board : ℕ) (after_board : List ℕ) (alight : ℕ) (after_alight : List ℕ) (count : ℕ) (after_count es after_ends : List ℕ) (below : ℕ) (after_below : List ℕ) (f : Forest) (after : Left)
     → 0 < nodes → stop_at w n bytes ≡ Ok (board, after_board) → stop_at w n after_board ≡ Ok (alight, after_alight) → step_follows last (board, alight) ≡ true
     → number_at w after_alight ≡ Ok (count, after_count) → count ≤ ends → ends_at w n count None after_count ≡ Ok (es, after_ends)
-    → number_at 4 after_ends ≡ Ok (below, after_below) → (count ≡ 0 → below ≡ 0 → ⊥)
+    → number_at 4 after_ends ≡ Ok (below, after_below) → lacks_items count below ≡ false
     → children below (remaining after_below (nodes - 1) (ends - count)) ≡ Ok (f, after)
     → node_at w n children last (remaining bytes nodes ends) ≡ Ok (record { board = board; alight = alight; ends = es; next = f }, after)
 unfolding node_at
 node_given w n children last bytes nodes ends board after_board alight after_alight count after_count es after_ends below after_below f after some b a follows c few e d item next =
     let t0 : (nodes == 0) ≡ false = ne_eqb nodes 0 (omega arith) in
     let t1 : ltb ends count ≡ false = le-ltb ends count few in
-    let t2 : (count == 0 && below == 0) ≡ false = not_both count below item in
-    rw (t0, b, a, follows, c, t1, e, d, t2, next) refl
+    rw (t0, b, a, follows, c, t1, e, d, item, next) refl

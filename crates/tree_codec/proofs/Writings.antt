@@ -22,11 +22,6 @@ pub last_bytes : (width : Width) (x : ℕ) → drop (8 - byte_count width) (big_
 last_bytes Two x = refl
 last_bytes Four x = refl
 
--- each width has room for the stops
-pub stops_fit : (width : Width) → 65534 < 256 ^ byte_count width
-stops_fit Two = omega arith
-stops_fit Four = omega arith
-
 -- ---- what was there stays
 
 pub grown_by : (old new more : List ℕ) → new ≡ old ++ more → Grown old new

@@ -54,6 +54,10 @@ abbrev pub step_follows : Option Step → Step → Bool
 step_follows None s = true
 step_follows (Some t) s = nat_lt t.0 s.0 || (t.0 == s.0 && nat_lt t.1 s.1)
 
+-- there are no ends and no children
+abbrev pub lacks_items : ℕ → ℕ → Bool
+lacks_items ends children = ends == 0 && children == 0
+
 -- so many ends
 unfoldable pub ends_at : ℕ → ℕ → ℕ → Option ℕ → List ℕ → Result (List ℕ × List ℕ) CodecFault
 ends_at w n zero last bytes = Ok ([], bytes)
@@ -73,7 +77,7 @@ node_at w n children last left = if left.nodes == 0 then Err TooLarge else (do
     if nat_lt left.ends count.0 then Err TooLarge else (do
       ends ← ends_at w n count.0 None count.1
       below ← number_at 4 ends.1
-      if count.0 == 0 && below.0 == 0 then Err EmptyNode else (do
+      if lacks_items count.0 below.0 then Err EmptyNode else (do
         next ← children below.0 (remaining below.1 (left.nodes - 1) (left.ends - count.0))
         Ok (record { board = board.0; alight = alight.0; ends = ends.0; next = next.0 }, next.1)))) else Err NotRising)
 

@@ -5,9 +5,9 @@ ghost use Rattle.std.specs.Prelude.{None, ℕ, ◌≡◌, ◌≢◌, ◌<◌, �
 ghost use Rattle.pattern_tree.specs.Forest.{forest};
 ghost use Rattle.pattern_tree.specs.Branch.{branch, branches};
 ghost use Rattle.pattern_tree.specs.Content.{Content};
-ghost use Rattle.tree_codec.specs.Text.{TreeText};
+ghost use Rattle.tree_codec.specs.Text.{TreeText, BeginsNoText};
 ghost use Rattle.tree_codec.specs.Widths.{byte_count};
-ghost use Rattle.tree_codec.specs.Reading.{Gives, remaining, end_follows, step_follows, ends_at, node_at, children_at, level_at, tree_at};
+ghost use Rattle.tree_codec.specs.Reading.{Gives, remaining, end_follows, step_follows, lacks_items, ends_at, node_at, children_at, level_at, tree_at};
 
 use crate::fault::CodecFault;
 use crate::input::Input;
@@ -44,6 +44,13 @@ fn step_follows(last: Option<(StopId, StopId)>, board: StopId, alight: StopId) -
         None => true,
         Some(last) => last.0 < board || last.0 == board && last.1 < alight,
     }
+}
+
+/// Whether a node with so many ends and children has nothing.
+fn is_empty(ends: u32, children: u32) -> bool
+    ensures { result ≡ lacks_items ends children }
+{
+    ends == 0 && children == 0
 }
 
 /// Reads so many ends.
@@ -98,7 +105,7 @@ fn node<A: Allocator + Clone>(
     }
     let ends = ends(alloc.clone()?, input, form, count)?;
     let children = input.number(Width::Four)?;
-    if count == 0 && children == 0 {
+    if is_empty(count, children) {
         return Err(CodecFault::EmptyNode);
     }
     room.nodes -= 1;
@@ -138,9 +145,9 @@ fn level<A: Allocator + Clone>(
     Ok(nodes)
 }
 
-/// Reads a tree: its source and its first nodes.
+/// Reads a tree's source and its nodes.
 #[tactic(auto, unfolding(crate::specs::Reading::tree_at))]
-fn tree<A: Allocator + Clone>(
+fn source_and_nodes<A: Allocator + Clone>(
     alloc: &A,
     input: &mut Input,
     room: &mut Room,
@@ -157,8 +164,31 @@ fn tree<A: Allocator + Clone>(
     Ok((source, first))
 }
 
+/// The tree whose text the bytes begin with, its stops in this form, and how many bytes the text takes.
+fn tree<A: Allocator + Clone>(
+    alloc: A,
+    bytes: &[u8],
+    form: StopForm,
+) -> Result<(PatternTree<A>, usize), CodecFault>
+    ensures { MatchResult result
+        (λ read. (read.1 ≤ length bytes.now) × TreeText (byte_count form.width) form.stops (take read.1 bytes.now) read.0)
+        (λ fault. fault ≢ CodecFault.Memory → BeginsNoText (byte_count form.width) form.stops bytes.now) }
+{
+    let mut input = Input { bytes };
+    let mut room = Room {
+        nodes: MOST_NODES,
+        ends: MOST_ENDS,
+    };
+    let (source, first) = source_and_nodes(&alloc, &mut input, &mut room, form)?;
+    let nodes = MOST_NODES - room.nodes;
+    let ends = MOST_ENDS - room.ends;
+    let used = bytes.len() - input.bytes.len();
+    Ok((PatternTree::from_nodes(source, nodes, ends, first), used))
+}
+
 /// The tree whose text the bytes begin with, and how many bytes the text takes. Each stop's number is below `n_stops`;
-/// no tree has a stop from 65,534 on. What follows the text isn't looked at.
+/// no tree has a stop from 65,534 on. What follows the text isn't looked at. A fault other than want of memory comes only
+/// where the bytes begin with no text.
 pub fn decode<A: Allocator + Clone>(
     alloc: A,
     bytes: &[u8],
@@ -166,22 +196,12 @@ pub fn decode<A: Allocator + Clone>(
 ) -> Result<(PatternTree<A>, usize), CodecFault>
     ensures { MatchResult result
         (λ read. (read.1 ≤ length bytes.now) × TreeText 2 (min n_stops 65534) (take read.1 bytes.now) read.0)
-        (λ fault. fault ≢ CodecFault.Memory
-        → (text rest : List ℕ) (tree : Content) → TreeText 2 (min n_stops 65534) text tree → bytes.now ≢ text ++ rest) }
+        (λ fault. fault ≢ CodecFault.Memory → BeginsNoText 2 (min n_stops 65534) bytes.now) }
 {
     let stops = n_stops.min(MOST_STOPS as usize) as u16;
     let form = StopForm {
         width: Width::Two,
         stops,
     };
-    let mut input = Input { bytes };
-    let mut room = Room {
-        nodes: MOST_NODES,
-        ends: MOST_ENDS,
-    };
-    let (source, first) = tree(&alloc, &mut input, &mut room, form)?;
-    let nodes = MOST_NODES - room.nodes;
-    let ends = MOST_ENDS - room.ends;
-    let used = bytes.len() - input.bytes.len();
-    Ok((PatternTree::from_nodes(source, nodes, ends, first), used))
+    tree(alloc, bytes, form)
 }

@@ -1,13 +1,12 @@
-use Rattle.std.proofs.Common.{◌≡◌, ◌<◌, ◌≤◌, ◌-◌, ◌+◌, true, subst, None, Some, arith}
+use Rattle.std.proofs.Common.{◌≡◌, ◌<◌, ◌≤◌, ◌-◌, ◌+◌, true, false, subst, None, Some, arith}
 use Rattle.std.proofs.lemmas.Result.{err_from_is_err_and}
 use Rattle.pattern_tree.specs.Forest.{Step, forest}
 use Rattle.pattern_tree.specs.Branch.{branch, branches}
 use Rattle.pattern_tree.proofs.NodeFacts.{branch_roll, branches_push, step_out}
 use Rattle.tree_codec.specs.Widths.{byte_count}
-use Rattle.tree_codec.specs.Reading.{remaining, children_at, level_at, step_follows}
+use Rattle.tree_codec.specs.Reading.{remaining, children_at, level_at, step_follows, lacks_items}
 use Rattle.tree_codec.proofs.Loops.{with_nodes, level_starts, node_given, level_goes_on, level_fails, level_too_deep, level_done}
 use Rattle.tree_codec.proofs.decoding.+nodes.Goals as goal
-use Rattle.tree_codec.proofs.decoding.+nodes.Goals.{node-else-count-eq0-via-then-count-eq0+else-children-eq0, node-else-count-eq0-via-else-count-eq0}
 
 pub level-loop-init : goal.level-loop-init
 level-loop-init g t c = rw c.new-nodes.ensures.items (level_starts (byte_count c.args.form.width) c.args.form.stops c.args.levels c.args.count None _)
@@ -48,11 +47,7 @@ node-returns g t c =
     let some : 0 < c.args.room.now.nodes = omega arith in
     let follows : step_follows c.args.last (c.in_ok-board.board, c.in_ok-alight.alight) ≡ true = cc in
     let few : c.in_ok-count.count ≤ c.args.room.now.ends = omega arith in
-    let item : c.in_ok-count.count ≡ 0 → c.in_ok-children.children ≡ 0 → ⊥ =
-    λ e b. elim c.else-count-eq0.branch [
-      | node-else-count-eq0-via-then-count-eq0+else-children-eq0 w ↦ absurd (omega (arith, b, w.if-children-eq0.false))
-      | node-else-count-eq0-via-else-count-eq0 w ↦ absurd (omega (arith, e, w.if-count-eq0.false))
-    ] in
+    let item : lacks_items c.in_ok-count.count c.in_ok-children.children ≡ false = cc in
     let after = remaining c.level.new.input.bytes.now c.level.new.room.nodes c.level.new.room.ends in
     rw (branch_roll _ _) (node_given w c.args.form.stops (children_at w c.args.form.stops c.args.below) c.args.last c.args.input.now.bytes.now c.args.room.now.nodes c.args.room.now.ends
     c.in_ok-board.board c.stop.new.self.bytes.now c.in_ok-alight.alight c.stop-2.new.self.bytes.now c.in_ok-count.count c.number.new.self.bytes.now
