@@ -16,8 +16,8 @@ later : (m n : ℕ) (rows : List (List Walk)) → m < n → All (λ w. m < w.0) 
 later m n [] lt = All-nil (λ w. m < w.0)
 later m n (row ∷ rows) lt =
     All-append (λ w. m < w.0) (map (λ walk. (n, walk)) row) (walks_from (suc n) rows)
-        (All-map (λ w. m < w.0) (λ walk. (n, walk)) row (λ k d within. lt))
-        (later m (suc n) rows (omega (arith, lt)))
+    (All-map (λ w. m < w.0) (λ walk. (n, walk)) row (λ k d within. lt))
+    (later m (suc n) rows (omega (arith, lt)))
 
 -- the walks of one stop, told from those of later ones
 row_apart : (n : ℕ) (a b : List Walk) (xs ys : List (ℕ × Walk)) → All (λ w. n < w.0) xs → All (λ w. n < w.0) ys
@@ -56,12 +56,12 @@ fits_walks stops n [] few many is = All-nil FitsWalk
 fits_walks stops n (row ∷ rows) few many is =
     let here = All-head (IsRow stops) row rows is in
     All-append FitsWalk (map (λ walk. (n, walk)) row) (walks_from (suc n) rows)
-        (All-map FitsWalk (λ walk. (n, walk)) row (λ k d within. record {
-          from = omega (arith, many);
-          to = omega (arith, here.each k d within, few);
-          seconds = omega (arith, here.short k d within);
-        }))
-        (fits_walks stops (suc n) rows few (omega (arith, many)) (All-tail (IsRow stops) row rows is))
+    (All-map FitsWalk (λ walk. (n, walk)) row (λ k d within. record {
+      from = omega (arith, many);
+      to = omega (arith, here.each k d within, few);
+      seconds = omega (arith, here.short k d within);
+    }))
+    (fits_walks stops (suc n) rows few (omega (arith, many)) (All-tail (IsRow stops) row rows is))
 
 -- the same bytes, number by number
 abbrev spread : Table → List ℕ
@@ -86,14 +86,14 @@ apart t u it iu same =
     let changes = lists_apart change_bytes _ changes_apart t.changes u.changes _ _ stops.0 it.changes iu.changes stops.1 in
     let count = fours_apart (walk_count t.walks) (walk_count u.walks) _ _ (omega (arith, it.few_walks)) (omega (arith, iu.few_walks)) changes.1 in
     let ways = lists_apart walk_bytes FitsWalk walks_apart (walks_from 0 t.walks) (walks_from 0 u.walks) _ _
-        (length-walks_from 0 t.walks ∙ count.0 ∙ sym (length-walks_from 0 u.walks))
-        (fits_walks (stops_of t) 0 t.walks it.few_stops (omega (arith, it.rows, it.few_stops)) it.walks)
-        (fits_walks (stops_of u) 0 u.walks iu.few_stops (omega (arith, iu.rows, iu.few_stops)) iu.walks) count.1 in
+    (length-walks_from 0 t.walks ∙ count.0 ∙ sym (length-walks_from 0 u.walks))
+    (fits_walks (stops_of t) 0 t.walks it.few_stops (omega (arith, it.rows, it.few_stops)) it.walks)
+    (fits_walks (stops_of u) 0 u.walks iu.few_stops (omega (arith, iu.rows, iu.few_stops)) iu.walks) count.1 in
     let walks = rows_apart 0 t.walks u.walks (it.rows ∙ stops.0 ∙ sym iu.rows) ways.0 in
     let many = fours_apart (length t.instances) (length u.instances) _ _ (omega (arith, it.few_instances)) (omega (arith, iu.few_instances)) ways.1 in
     let runs = lists_apart run_bytes (IsRun (stops_of t)) (runs_apart (stops_of t) it.few_stops) t.instances u.instances [] [] many.0 it.runs
-        (subst (λ n. All (IsRun n) u.instances) (sym stops.0) iu.runs)
-        (append-nil (flat_map run_bytes t.instances) ∙ many.1 ∙ sym (append-nil (flat_map run_bytes u.instances))) in
+    (subst (λ n. All (IsRun n) u.instances) (sym stops.0) iu.runs)
+    (append-nil (flat_map run_bytes t.instances) ∙ many.1 ∙ sym (append-nil (flat_map run_bytes u.instances))) in
     rw (horizon.0, changes.0, walks, runs.0) refl
 
 -- how long the parts are
@@ -110,13 +110,25 @@ length_change None = omega (arith, length_four 4_294_967_295)
 length_change (Some seconds) = omega (arith, length_four seconds)
 
 length_walk : (w : ℕ × Walk) → length (walk_bytes w) ≤ 8
-length_walk w = omega (arith, length-append (two_bytes w.0) (two_bytes w.1.to ++ four_bytes w.1.seconds), length-append (two_bytes w.1.to) (four_bytes w.1.seconds),
-    length_two w.0, length_two w.1.to, length_four w.1.seconds)
+length_walk w = omega (
+  arith,
+  length-append (two_bytes w.0) (two_bytes w.1.to ++ four_bytes w.1.seconds),
+  length-append (two_bytes w.1.to) (four_bytes w.1.seconds),
+  length_two w.0,
+  length_two w.1.to,
+  length_four w.1.seconds,
+)
 
 length_call : (c : Call) → length (call_bytes c) ≤ 11
-length_call c = omega (arith, length-append (two_bytes c.stop) (four_bytes c.arrival ++ (four_bytes c.departure ++ flags c ∷ [])),
-    length-append (four_bytes c.arrival) (four_bytes c.departure ++ flags c ∷ []), length-append (four_bytes c.departure) (flags c ∷ []),
-    length_two c.stop, length_four c.arrival, length_four c.departure)
+length_call c = omega (
+  arith,
+  length-append (two_bytes c.stop) (four_bytes c.arrival ++ (four_bytes c.departure ++ flags c ∷ [])),
+  length-append (four_bytes c.arrival) (four_bytes c.departure ++ flags c ∷ []),
+  length-append (four_bytes c.departure) (flags c ∷ []),
+  length_two c.stop,
+  length_four c.arrival,
+  length_four c.departure,
+)
 
 -- a text of items that each take at most so many bytes
 length_each : {A : Type 0} (text : A → List ℕ) (most : ℕ) → ((x : A) → length (text x) ≤ most) → (xs : List A) → length (flat_map text xs) ≤ length xs * most
@@ -126,9 +138,14 @@ length_each text most short xs =
 
 length_run : (r : Run) → length (run_bytes r) ≤ 7 + length r.calls * 11
 length_run r =
-    omega (arith, length-append (four_bytes r.trip) (r.day ∷ two_bytes (length r.calls) ++ flat_map call_bytes r.calls),
-    length-append (two_bytes (length r.calls)) (flat_map call_bytes r.calls), length_two (length r.calls), length_four r.trip,
-    length_each call_bytes 11 length_call r.calls)
+    omega (
+      arith,
+      length-append (four_bytes r.trip) (r.day ∷ two_bytes (length r.calls) ++ flat_map call_bytes r.calls),
+      length-append (two_bytes (length r.calls)) (flat_map call_bytes r.calls),
+      length_two (length r.calls),
+      length_four r.trip,
+      length_each call_bytes 11 length_call r.calls,
+    )
 
 length_runs : (runs : List Run) → length (flat_map run_bytes runs) ≤ length runs * 7 + call_count runs * 11
 length_runs [] = omega arith

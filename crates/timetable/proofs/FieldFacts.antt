@@ -134,5 +134,5 @@ runs_apart stops few x y r s fx fy e =
     let day : x.day ≡ y.day = ap (first_of_two 0) trip.1 in
     let count = twos_apart (length x.calls) (length y.calls) _ _ (omega (arith, fx.few)) (omega (arith, fy.few)) (ap (drop 1) trip.1) in
     let calls = lists_apart call_bytes FitsCall calls_apart x.calls y.calls r s count.0
-        (fits_calls stops x.calls few fx.each) (fits_calls stops y.calls few fy.each) count.1 in
+    (fits_calls stops x.calls few fx.each) (fits_calls stops y.calls few fy.each) count.1 in
     (rw (trip.0, day, calls.0) refl, calls.1)

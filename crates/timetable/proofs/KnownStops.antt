@@ -45,14 +45,18 @@ onward_known : (table : Table) (legs : List Leg) (p a t z : ℕ) → IsTable tab
     → StepsKnown table legs × (t < stops_of table)
 onward_known table [] p a t z is known h = (All-nil (λ (step : ℕ × ℕ). (step.0 < stops_of table) × (step.1 < stops_of table)), foot_known (λ w. z ≡ a + w) table p t is known h)
 onward_known table (leg ∷ legs) p a t z is known h =
-    let rest = onward_known table legs (to table leg) (arrives table leg) t z is (to_known table leg is h.0) h.2 in
-    (All-cons (λ (step : ℕ × ℕ). (step.0 < stops_of table) × (step.1 < stops_of table)) (from table leg, to table leg) (pattern table legs)
-    (from_known table leg is h.0, to_known table leg is h.0) rest.0, rest.1)
+    let rest = onward_known table legs (to table leg) (arrives table leg) t z is (to_known table leg is h.0) h.2 in (
+      All-cons (λ (step : ℕ × ℕ). (step.0 < stops_of table) × (step.1 < stops_of table)) (from table leg, to table leg) (pattern table legs)
+          (from_known table leg is h.0, to_known table leg is h.0) rest.0,
+      rest.1,
+    )
 
 pub journey_known : (table : Table) (s d : ℕ) (legs : List Leg) (t z : ℕ) → IsTable table → 1 ≤ length legs → Journey table s d legs t z
     → StepsKnown table legs × (t < stops_of table)
 journey_known table s d [] t z is some h = absurd (let no : ⊥ = omega (arith, some) in no)
 journey_known table s d (leg ∷ legs) t z is some h =
-    let rest = onward_known table legs (to table leg) (arrives table leg) t z is (to_known table leg is h.0) h.2 in
-    (All-cons (λ (step : ℕ × ℕ). (step.0 < stops_of table) × (step.1 < stops_of table)) (from table leg, to table leg) (pattern table legs)
-    (from_known table leg is h.0, to_known table leg is h.0) rest.0, rest.1)
+    let rest = onward_known table legs (to table leg) (arrives table leg) t z is (to_known table leg is h.0) h.2 in (
+      All-cons (λ (step : ℕ × ℕ). (step.0 < stops_of table) × (step.1 < stops_of table)) (from table leg, to table leg) (pattern table legs)
+          (from_known table leg is h.0, to_known table leg is h.0) rest.0,
+      rest.1,
+    )
