@@ -9,6 +9,7 @@ mod form;
 mod header;
 pub mod laws;
 mod put;
+pub mod reading_laws;
 mod sources;
 mod step;
 mod store;

@@ -1,0 +1,58 @@
+-- What is known of a file as it is read. Only private clauses cite these words.
+use Rattle.std.specs.Prelude.{◌<◌, ◌≡◌, ◌≢◌, ◌⊎◌, ℕ, ◌+◌, ◌^◌, List, ◌∷◌, ◌++◌, length, drop, Result, MatchResult}
+use Rattle.disk_model.specs.Disk.{Grew}
+use Rattle.pattern_tree.specs.Content.{Content}
+use Rattle.section_store.specs.Sections.{Form, IsSection, IsSections, IsNew, sized, sources, open_gate}
+use Rattle.section_store.specs.Store.{Begins}
+use Rattle.recovery.specs.Recovery.{IsTail, IsOutside, CauseOf, StandsForNoList}
+use Rattle.recovery.specs.declared.fault.RecoverFault.{RecoverFault}
+use Rattle.recovery.specs.declared.fault.RecoverFault.TheVariants.{Device, Memory}
+
+-- no call of the disk failed; or memory was refused, or a call of the disk failed
+abbrev pub OnlyOutside : {T : Type 0} → Result T RecoverFault → ℕ → ℕ → Type 0
+OnlyOutside result before after =
+    MatchResult result (λ _. after ≡ before) (λ fault. (fault ≡ Memory) ⊎ ((fault ≡ Device) × Grew before after))
+
+-- no call of the disk failed; or the fault is the device's only where one did
+abbrev pub OnlyCounted : {T : Type 0} → Result T RecoverFault → ℕ → ℕ → Type 0
+OnlyCounted result before after = MatchResult result (λ _. after ≡ before) (λ fault. fault ≡ Device → Grew before after)
+
+-- neither a closed gate nor an open one with a text behind it
+pub record IsCut (rest : List ℕ) : Type 0 where
+  pub no_gate : (gate : ℕ) (free : List ℕ) → rest ≡ gate ∷ free → gate ≢ open_gate → ⊥
+  pub no_text : (form : Form) (text more : List ℕ) (tree : Content) → IsSection form text tree → rest ≡ open_gate ∷ (sized text ++ more) → ⊥
+
+-- a closed gate comes next
+pub record IsShut (rest : List ℕ) : Type 0 where
+  pub gate : ℕ
+  pub free : List ℕ
+  pub are : rest ≡ gate ∷ free
+  pub closed : gate ≢ open_gate
+
+-- an open gate and this text come next
+pub record IsNext (rest text : List ℕ) : Type 0 where
+  pub more : List ℕ
+  pub small : length text < 2 ^ 32
+  pub are : rest ≡ open_gate ∷ (sized text ++ more)
+
+-- the text is that of no tree that may stand behind those sources
+abbrev pub IsBad : Form → List ℕ → List ℕ → Type 0
+IsBad form before text = (tree : Content) → IsSection form text tree → IsNew tree.source before → ⊥
+
+-- an open section of that tree comes next, which ends there
+pub record IsFound (form : Form) (before rest : List ℕ) (place : ℕ) (tree : Content) (end : ℕ) : Type 0 where
+  pub text : List ℕ
+  pub section : IsSection form text tree
+  pub new : IsNew tree.source before
+  pub more : List ℕ
+  pub are : rest ≡ open_gate ∷ (sized text ++ more)
+  pub end_is : end ≡ place + 5 + length text
+
+-- what is known of a file as far as its sections were read
+pub record IsSoFar (form : Form) (read : List ℕ) (trees : List Content) (place : ℕ) : Type 0 where
+  pub begins : Begins form read trees place (drop place read)
+  pub onward : (all : List Content) → IsSections form read all → (more : List Content) × IsTail form (sources trees) (drop place read) more
+
+-- the fault is none of the bytes'; or it has its cause in them, and they stand for no list
+abbrev pub IsRefusal : Form → List ℕ → RecoverFault → Type 0
+IsRefusal form bytes fault = IsOutside fault ⊎ (CauseOf form bytes fault × StandsForNoList form bytes)

@@ -1,0 +1,14 @@
+//! Opens the file of a store that a crash may have left: the list of trees that its bytes stand for, and the store itself.
+#![tactic(auto)]
+
+mod fault;
+mod header;
+mod opening;
+mod reading;
+mod recovered;
+mod section;
+mod sections;
+
+pub use fault::RecoverFault;
+pub use opening::recover;
+pub use recovered::Recovered;

@@ -1,0 +1,113 @@
+//! Opens a store.
+
+ghost use Rattle.std.specs.Prelude.{◌≡◌, ◌↔◌, ◌⊎◌, ◌≤◌, ◌<◌, OnOk, OnErr, IfOk, IfErr, IfSome, MatchResult, MatchOption, drop};
+ghost use Rattle.std.specs.Arc.{arc_value};
+ghost use Rattle.disk_model.specs.Disk.{after_sync, Grew};
+ghost use Rattle.disk_model.specs.Moments.{LeavesOnly};
+ghost use Rattle.section_store.specs.Sections.{IsFresh, Stands, form_of, sources};
+ghost use Rattle.section_store.specs.Store.{Holds};
+ghost use Rattle.recovery.specs.Reading.{OnlyCounted, IsSoFar, IsShut, IsRefusal};
+ghost use Rattle.recovery.specs.Recovery.{IsOutside, StandsAsBefore, StandsForNoList, CauseOf};
+
+use crate::fault::RecoverFault;
+use crate::header::first_gate;
+use crate::recovered::Recovered;
+use crate::sections::{Found, read_sections};
+use disk_model::Disk;
+use section_store::laws::stands_for_one;
+use section_store::{Form, PutFault, SectionStore, Step, begin};
+use std::alloc::Global;
+use std::sync::Arc;
+use timetable::{Rides, Timetable};
+
+// Brings to the disk what it has, and reads the store; none where the file is fresh.
+fn look<D: Disk>(alloc: Global, disk: &mut D, form: &Form) -> Result<Option<Found>, RecoverFault>
+    ensures honest { D.honest disk.old ↔ D.honest disk.new }
+    ensures synced { D.honest disk.old → OnOk result (D.state disk.new ≡ after_sync (D.state disk.old)) }
+    ensures stays { D.honest disk.old → OnErr result ((D.state disk.new ≡ D.state disk.old) ⊎ (D.state disk.new ≡ after_sync (D.state disk.old))) }
+    ensures found { D.honest disk.old → IfOk result (λ found. MatchOption found (IsFresh (D.state disk.old).read) (λ found. (¬ IsFresh (D.state disk.old).read)
+        × IsSoFar form.now (D.state disk.old).read found.trees.items found.place × IsShut (drop found.place (D.state disk.old).read))) }
+    ensures refused { D.honest disk.old → IfErr result (IsRefusal form.now (D.state disk.old).read) }
+    ensures stored { IfOk result (λ found. IfSome found (λ found. found.stored.items ≡ sources found.trees.items)) }
+    ensures counted { OnlyCounted result (D.failures disk.old) (D.failures disk.new) }
+{
+    let mut piece = Vec::new(alloc);
+    if disk.sync().is_err() {
+        return Err(RecoverFault::Device);
+    }
+    let end = match disk.len() {
+        Ok(end) => end,
+        Err(_) => return Err(RecoverFault::Device),
+    };
+    match first_gate(alloc, disk, end, form, &mut piece) {
+        Err(fault) => Err(fault),
+        Ok(gate) => match gate {
+            None => Ok(None),
+            Some(start) => match read_sections(alloc, disk, start, end, form, &mut piece) {
+                Err(fault) => Err(fault),
+                Ok(found) => Ok(Some(found)),
+            },
+        },
+    }
+}
+
+// Why a store wasn't begun.
+fn begin_fault(fault: PutFault) -> RecoverFault
+    ensures memory { fault ≡ PutFault.Memory → result ≡ RecoverFault.Memory }
+    ensures outside { IsOutside result }
+{
+    match fault {
+        PutFault::Memory => RecoverFault::Memory,
+        _ => RecoverFault::Device,
+    }
+}
+
+/// Opens the store of that timetable, and of journeys of at most `rides` rides, that a file holds. What the disk has is
+/// synced first; then the bytes are read, a section at a time. A fresh file is begun; nothing else is written. The trees are
+/// those of the list that the bytes stand for. The disk comes back with each fault, with the same bytes but where a beginning
+/// failed.
+pub fn recover<D: Disk>(
+    alloc: Global,
+    disk: D,
+    table: &Arc<Timetable>,
+    rides: Rides,
+) -> Result<Recovered<D>, (RecoverFault, D)>
+    ensures stands { D.honest disk → IfOk result (λ r. Stands (form_of (arc_value table.now) rides) (D.state disk).read r.trees.items) }
+    ensures holds { D.honest disk → IfOk result (λ r.
+        Holds (form_of (arc_value table.now) rides) r.trees.items r.store.place r.store.stored.items (D.state r.store.disk)) }
+    ensures refused { D.honest disk → IfErr result (λ e. IsOutside e.0 ⊎ StandsForNoList (form_of (arc_value table.now) rides) (D.state disk).read) }
+    ensures cause { D.honest disk → IfErr result (λ e. CauseOf (form_of (arc_value table.now) rides) (D.state disk).read e.0) }
+    ensures device { MatchResult result (λ r. D.failures r.store.disk ≡ D.failures disk)
+        (λ e. e.0 ≡ RecoverFault.Device → Grew (D.failures disk) (D.failures e.1)) }
+    ensures moments { D.honest disk → MatchResult result
+        (λ r. LeavesOnly (D.state disk) (D.state r.store.disk) (StandsAsBefore (form_of (arc_value table.now) rides) (D.state disk)))
+        (λ e. LeavesOnly (D.state disk) (D.state e.1) (StandsAsBefore (form_of (arc_value table.now) rides) (D.state disk))) }
+    ensures written { D.honest disk → ¬ IsFresh (D.state disk).read → MatchResult result
+        (λ r. D.state r.store.disk ≡ after_sync (D.state disk))
+        (λ e. (D.state e.1 ≡ D.state disk) ⊎ (D.state e.1 ≡ after_sync (D.state disk))) }
+    ensures honest { MatchResult result (λ r. D.honest disk ↔ D.honest r.store.disk) (λ e. D.honest disk ↔ D.honest e.1) }
+    ensures ready { IfOk result (λ r. (r.store.next ≡ Step.WriteBody) × (r.store.form ≡ form_of (arc_value table.now) rides)) }
+{
+    stands_for_one();
+    let Ok(kept) = Arc::try_clone(table) else {
+        return Err((RecoverFault::Memory, disk));
+    };
+    let form = Form::new(kept, rides);
+    let mut disk = disk;
+    match look(alloc, &mut disk, &form) {
+        Err(fault) => Err((fault, disk)),
+        Ok(seen) => match seen {
+            None => match begin(alloc, disk, table, rides) {
+                Ok(store) => Ok(Recovered {
+                    store,
+                    trees: Vec::new(alloc),
+                }),
+                Err(refused) => Err((begin_fault(refused.0), refused.1)),
+            },
+            Some(found) => Ok(Recovered {
+                store: SectionStore::resume(alloc, disk, form, found.stored, found.place),
+                trees: found.trees,
+            }),
+        },
+    }
+}

@@ -1,0 +1,103 @@
+//! Reads one section of a store.
+
+ghost use Rattle.std.specs.Prelude.{◌≡◌, ◌↔◌, ◌^◌, ◌⊎◌, ◌≤◌, ◌<◌, ◌+◌, length, drop, IfOk, IfErr, IfSome, MatchOption};
+ghost use Rattle.section_store.specs.Sections.{IsSection, IsNew};
+ghost use Rattle.recovery.specs.Reading.{OnlyCounted, IsBad, IsShut, IsFound};
+ghost use Rattle.recovery.specs.Recovery.{IsEnd, IsOutside};
+
+use crate::fault::RecoverFault;
+use crate::reading::read_text;
+use disk_model::Disk;
+use pattern_tree::PatternTree;
+use section_store::reading_laws::sized_apart;
+use section_store::{Form, is_new};
+use std::alloc::Global;
+use timetable::StopId;
+use tree_codec::laws::texts_apart;
+use tree_codec::{CodecFault, decode};
+
+// The tree whose text that is, all of it, where it may stand behind the stored sources; none where there is no such tree.
+fn tree_in(
+    alloc: Global,
+    text: &[u8],
+    form: &Form,
+    stored: &[StopId],
+) -> Result<Option<PatternTree>, RecoverFault>
+    ensures found { length text.now < 2 ^ 32 → IfOk result (λ found. MatchOption found (IsBad form.now stored.now text.now)
+        (λ tree. IsSection form.now text.now tree × IsNew tree.source stored.now)) }
+    ensures memory { IfErr result (λ fault. fault ≡ RecoverFault.Memory) }
+{
+    texts_apart();
+    match decode(alloc, text, form.timetable().stops()) {
+        Ok(read) => {
+            let (tree, used) = read;
+            if used < text.len() {
+                return Ok(None);
+            }
+            if tree.depth() > usize::from(form.k().number()) {
+                return Ok(None);
+            }
+            if !is_new(tree.source(), stored) {
+                return Ok(None);
+            }
+            Ok(Some(tree))
+        }
+        Err(fault) => {
+            if fault == CodecFault::Memory {
+                Err(RecoverFault::Memory)
+            } else {
+                Ok(None)
+            }
+        }
+    }
+}
+
+/// A tree that was read, and where the gate behind it stands.
+#[derive(Drop)]
+pub(crate) struct Section {
+    pub(crate) tree: PatternTree,
+    pub(crate) end: u64,
+}
+
+/// The section at a place; none where the gate there is closed. Its text is read into `text`.
+pub(crate) fn next_section<D: Disk>(
+    alloc: Global,
+    disk: &mut D,
+    place: u64,
+    end: u64,
+    form: &Form,
+    stored: &[StopId],
+    text: &mut Vec<u8>,
+) -> Result<Option<Section>, RecoverFault>
+    requires within { place ≤ end }
+    requires whole { D.honest disk.old → end ≡ length (D.state disk.old).read }
+    ensures honest { D.honest disk.old ↔ D.honest disk.new }
+    ensures same { D.honest disk.old → D.state disk.new ≡ D.state disk.old }
+    ensures found { D.honest disk.old → IfOk result (λ found. MatchOption found (IsShut (drop place (D.state disk.old).read))
+        (λ section. IsFound form.now stored.now (drop place (D.state disk.old).read) place section.tree section.end)) }
+    ensures ended { D.honest disk.old → IfErr result (λ fault. IsOutside fault
+        ⊎ ((fault ≡ RecoverFault.Damaged (length stored.now)) × IsEnd form.now stored.now (drop place (D.state disk.old).read))) }
+    ensures inside { IfOk result (λ found. IfSome found (λ section. (place < section.end) × (section.end ≤ end))) }
+    ensures counted { OnlyCounted result (D.failures disk.old) (D.failures disk.new) }
+{
+    sized_apart();
+    let number = stored.len();
+    match read_text(disk, place, end, number, text) {
+        Err(fault) => Err(fault),
+        Ok(ahead) => {
+            if !ahead {
+                return Ok(None);
+            }
+            match tree_in(alloc, text, form, stored) {
+                Err(fault) => Err(fault),
+                Ok(read) => match read {
+                    None => Err(RecoverFault::Damaged(number)),
+                    Some(tree) => Ok(Some(Section {
+                        tree,
+                        end: place + 5 + text.len() as u64,
+                    })),
+                },
+            }
+        }
+    }
+}
