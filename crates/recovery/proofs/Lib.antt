@@ -1,3 +1,4 @@
 pub mod Openings
+pub mod Pieces
 pub mod Tails
 pub mod Texts

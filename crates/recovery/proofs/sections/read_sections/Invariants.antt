@@ -1,0 +1,18 @@
+use Rattle.std.proofs.Common.{◌≡◌, ◌↔◌, ◌≤◌, ◌-◌, []}
+use Rattle.section_store.specs.Sections.{sources}
+use Rattle.recovery.specs.Reading.{IsSoFar}
+use Rattle.recovery.proofs.sections.read_sections.Given as goal
+
+abbrev pub decreases-sections : goal.decreases-sections
+decreases-sections g l = l.end - l.place
+
+abbrev pub invariant-sections : goal.invariant-sections
+invariant-sections g l = record {
+  honest : g.D.Disk.honest l.initial.disk ↔ g.D.Disk.honest l.disk;
+  same : g.D.Disk.honest l.initial.disk → g.D.Disk.state l.disk ≡ g.D.Disk.state l.initial.disk;
+  failures : g.D.Disk.failures l.disk ≡ g.D.Disk.failures l.initial.disk;
+  within : l.place ≤ l.end;
+  stored : l.stored.items ≡ sources l.trees.items;
+  so_far : g.D.Disk.honest l.initial.disk → IsSoFar l.form (g.D.Disk.state l.initial.disk).read [] l.start
+      → IsSoFar l.form (g.D.Disk.state l.initial.disk).read l.trees.items l.place;
+}
