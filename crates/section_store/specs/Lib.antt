@@ -1,5 +1,7 @@
 pub mod Fault
+pub mod Lasting
 pub mod Laws
 pub mod Sections
+pub mod Sources
 pub mod Step
 pub mod Store
