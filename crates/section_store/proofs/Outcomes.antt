@@ -2,10 +2,6 @@
 use Rattle.std.proofs.Common.{◌≡◌, inl, inr, ⊎_elim, ℕ, ◌+◌, ◌<◌, ◌≤◌, ◌^◌, min, List, [], ◌∷◌, ◌++◌, length, take, drop, get_or, refl, sym, ◌∙◌, ap, subst, arith, length-take, length-drop, length-append, take-append-drop, append_assoc}
 use Rattle.std.proofs.lemmas.Bool.{cases_eq, cases_lt}
 use Rattle.std.proofs.lemmas.List.{ext_get_or, take_at, drop_at, drop_more, drop-drop}
-use Rattle.std.specs.Prelude.{nat_eq, true, false}
-use Rattle.std.specs.List.{list_any}
-use Rattle.std.proofs.lemmas.Bool.{false≢true}
-use Rattle.std.proofs.lemmas.Bool.Decides.{nat_tests}
 use Rattle.disk_model.specs.Image.{Image, IsOutcome, settled_image, with_write}
 use Rattle.disk_model.specs.Disk.{State, after_write, after_sync}
 use Rattle.disk_model.specs.Moments.{Leaves}
@@ -130,20 +126,6 @@ gate_written form trees tree place size s b =
     let end : place + 5 + length b.text ≡ place + size = omega (arith, b.size_is) in
     subst (λ (n : ℕ). Begins form (after_write place (open_gate ∷ []) s).read (trees ++ tree ∷ []) n (0 ∷ b.free)) end
     (opened form (after_write place (open_gate ∷ []) s).read trees tree place b.text b.free b3 b.section b.new)
-
-pub none_any : (n : ℕ) (ms : List ℕ) → list_any (λ y. nat_eq y n) ms ≡ false → IsNew n ms
-none_any n [] none = tt
-none_any n (m ∷ ms) none = elim (cases_eq m n) [
-  | inl same ↦ let met : list_any (λ y. nat_eq y n) (m ∷ ms) ≡ true = grind (arith, nat_tests) in absurd (false≢true (sym none ∙ met))
-  | inr other ↦ (λ is. other (sym is), none_any n ms (let rest : list_any (λ y. nat_eq y n) ms ≡ false = grind (arith, nat_tests) in rest))
-]
-
-pub some_any : (n : ℕ) (ms : List ℕ) → list_any (λ y. nat_eq y n) ms ≡ true → IsNew n ms → ⊥
-some_any n [] some new = absurd (false≢true some)
-some_any n (m ∷ ms) some new = elim (cases_eq m n) [
-  | inl same ↦ new.0 (sym same)
-  | inr other ↦ some_any n ms (let rest : list_any (λ y. nat_eq y n) ms ≡ true = grind (arith, nat_tests) in rest) new.1
-]
 
 pub body_durable : (form : Form) (trees : List Content) (tree : Content) (place size : ℕ) (s t : State) → IsBody form trees tree place size s → t ≡ after_sync s → IsBody form trees tree place size t × IsDurable t
 body_durable form trees tree place size s t b did =

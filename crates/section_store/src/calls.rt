@@ -5,12 +5,13 @@ ghost use Rattle.std.specs.Prelude.{◌≡◌, ◌↔◌, ◌+◌, ◌++◌, [],
 ghost use Rattle.disk_model.specs.Moments.{LeavesOnly};
 ghost use Rattle.pattern_tree.specs.Content.{Content};
 ghost use Rattle.section_store.specs.Fault.{HasCause, OnlyDevice, IsTooLarge};
+ghost use Rattle.section_store.specs.Lasting.{LosesNothing};
 ghost use Rattle.section_store.specs.Sections.{Form, IsSections, IsBeforeOrAfter, IsNew};
 ghost use Rattle.section_store.specs.Store.{IsRest, IsBody, IsDurable, IsOpened, Holds};
 
 use crate::body::fill_body;
 use crate::fault::PutFault;
-use crate::sources::is_new;
+use crate::laws::stands_for_one;
 use crate::step::Step;
 use crate::store::{Receipt, SectionStore};
 use disk_model::Disk;
@@ -32,6 +33,9 @@ impl<D: Disk> SectionStore<D> {
         ensures moments { (trees : List Content) → D.honest self.old.disk
             → IsRest self.old.form trees self.old.place (D.state self.old.disk)
             → LeavesOnly (D.state self.old.disk) (D.state self.new.disk) (λ bytes. IsSections self.old.form bytes trees) }
+        ensures lasting { (trees : List Content) → D.honest self.old.disk
+            → IsRest self.old.form trees self.old.place (D.state self.old.disk)
+            → LosesNothing self.old.form (D.state self.old.disk) (D.state self.new.disk) }
         ensures honest { D.honest self.old.disk ↔ D.honest self.new.disk }
         ensures cause { HasCause result (self.old.next ≡ Step.WriteBody)
             ((tree.now.table ≡ self.old.form.table) × (tree.now.rides ≡ self.old.form.rides))
@@ -47,13 +51,14 @@ impl<D: Disk> SectionStore<D> {
         ensures stored { self.new.stored.items ≡ self.old.stored.items }
         ensures source { OnOk result (self.new.source ≡ tree.now.tree.source) }
     {
+        stands_for_one();
         if self.next != Step::WriteBody {
             return Err(PutFault::Failed);
         }
         if !self.form.is_of(tree) {
             return Err(PutFault::OtherTimetable);
         }
-        if !is_new(tree.tree().source(), &self.stored) {
+        if self.present.contains(tree.tree().source()) {
             return Err(PutFault::AlreadyStored);
         }
         if self.stored.reserve(1).is_err() {
@@ -85,10 +90,12 @@ impl<D: Disk> SectionStore<D> {
         requires { self.old.next ≡ Step.SyncBody }
         ensures body { (form : Form) (trees : List Content) (tree : Content) → D.honest self.old.disk
             → IsBody form trees tree self.old.place self.old.extent (D.state self.old.disk)
-            → OnOk result (IsBody form trees tree self.new.place self.new.extent (D.state self.new.disk) × IsDurable (D.state self.new.disk)) }
+            → OnOk result (IsBody form trees tree self.new.place self.new.extent (D.state self.new.disk)
+                × IsDurable (D.state self.new.disk)) }
         ensures moments { (form : Form) (trees : List Content) (tree : Content) → D.honest self.old.disk
             → IsBody form trees tree self.old.place self.old.extent (D.state self.old.disk)
             → LeavesOnly (D.state self.old.disk) (D.state self.new.disk) (λ bytes. IsSections form bytes trees) }
+        ensures lasting { (form : Form) → D.honest self.old.disk → LosesNothing form (D.state self.old.disk) (D.state self.new.disk) }
         ensures honest { D.honest self.old.disk ↔ D.honest self.new.disk }
         ensures device { OnlyDevice result (D.failures self.old.disk) (D.failures self.new.disk) }
         ensures next { MatchResult result (λ _. self.new.next ≡ Step.OpenGate) (λ _. self.new.next ≡ Step.Failed) }
@@ -119,6 +126,9 @@ impl<D: Disk> SectionStore<D> {
         ensures moments { (form : Form) (trees : List Content) (tree : Content) → D.honest self.old.disk
             → IsBody form trees tree self.old.place self.old.extent (D.state self.old.disk) → IsDurable (D.state self.old.disk)
             → LeavesOnly (D.state self.old.disk) (D.state self.new.disk) (IsBeforeOrAfter form trees tree) }
+        ensures lasting { (form : Form) (trees : List Content) (tree : Content) → D.honest self.old.disk
+            → IsBody form trees tree self.old.place self.old.extent (D.state self.old.disk) → IsDurable (D.state self.old.disk)
+            → LosesNothing form (D.state self.old.disk) (D.state self.new.disk) }
         ensures honest { D.honest self.old.disk ↔ D.honest self.new.disk }
         ensures device { OnlyDevice result (D.failures self.old.disk) (D.failures self.new.disk) }
         ensures next { MatchResult result (λ _. self.new.next ≡ Step.SyncGate) (λ _. self.new.next ≡ Step.Failed) }
@@ -128,6 +138,7 @@ impl<D: Disk> SectionStore<D> {
         ensures stored { self.new.stored.items ≡ self.old.stored.items }
         ensures source { self.new.source ≡ self.old.source }
     {
+        stands_for_one();
         match self.disk.write_at(self.place, &[OPEN]) {
             Ok(()) => {
                 self.next = Step::SyncGate;
@@ -149,6 +160,7 @@ impl<D: Disk> SectionStore<D> {
         ensures moments { (form : Form) (trees : List Content) → D.honest self.old.disk
             → IsOpened form trees (self.old.place + self.old.extent) (D.state self.old.disk)
             → LeavesOnly (D.state self.old.disk) (D.state self.new.disk) (λ bytes. IsSections form bytes trees) }
+        ensures lasting { (form : Form) → D.honest self.old.disk → LosesNothing form (D.state self.old.disk) (D.state self.new.disk) }
         ensures honest { D.honest self.old.disk ↔ D.honest self.new.disk }
         ensures device { OnlyDevice result (D.failures self.old.disk) (D.failures self.new.disk) }
         ensures next { MatchResult result (λ _. self.new.next ≡ Step.WriteBody) (λ _. self.new.next ≡ Step.Failed) }
@@ -162,6 +174,7 @@ impl<D: Disk> SectionStore<D> {
             Ok(()) => {
                 let number = self.stored.len();
                 self.stored.push(self.source).unwrap();
+                self.present.insert(self.source);
                 self.place += self.extent;
                 self.extent = 0;
                 self.next = Step::WriteBody;

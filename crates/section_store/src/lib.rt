@@ -10,13 +10,13 @@ mod header;
 pub mod laws;
 mod put;
 pub mod reading_laws;
-mod sources;
 mod step;
+mod stop_set;
 mod store;
 
 pub use fault::PutFault;
 pub use form::Form;
 pub use header::{begin, header_bytes};
-pub use sources::is_new;
 pub use step::Step;
+pub use stop_set::StopSet;
 pub use store::{Receipt, SectionStore};

@@ -2,10 +2,13 @@
 
 ghost use Rattle.std.specs.Prelude.{◌≡◌, ◌<◌, ◌≤◌, ◌+◌, ◌^◌, ◌==◌, ℕ, length, vec_len, vec_capacity};
 ghost use Rattle.disk_model.specs.MemDisk.{state_of, failures_of, is_told};
+ghost use Rattle.timetable.specs.Table.{stops_of};
+ghost use Rattle.section_store.specs.Sources.{IsSetOf};
 ghost use Rattle.section_store.specs.Step.{IsBegun};
 
 use crate::form::Form;
 use crate::step::Step;
+use crate::stop_set::StopSet;
 use disk_model::{Disk, MemDisk};
 use std::alloc::Global;
 use timetable::StopId;
@@ -18,8 +21,8 @@ pub struct Receipt {
 }
 
 /// A file of finished trees, and what is known of it: what it is a store of, where the closed gate stands, how long the
-/// section that was written behind it is and whose, and whose trees are stored. The bytes of a section are made in a
-/// buffer that is kept.
+/// section that was written behind it is and whose, and whose trees are stored, in order and as a set. The bytes of a
+/// section are made in a buffer that is kept.
 #[derive(Drop)]
 pub struct SectionStore<D: Disk> {
     pub(crate) disk: D,
@@ -28,17 +31,28 @@ pub struct SectionStore<D: Disk> {
     pub(crate) extent: u64,
     pub(crate) source: StopId,
     pub(crate) stored: Vec<StopId>,
+    pub(crate) present: StopSet,
     pub(crate) next: Step,
     pub(crate) body: Vec<u8>,
     ghost inside: { D.honest disk → place + extent + 1 ≤ length (D.state disk).read },
     ghost low: { place + extent < 2 ^ 64 },
+    ghost set: { IsSetOf (stops_of form.table) present stored.items },
     ghost room: { IsBegun next → vec_len stored < vec_capacity stored },
 }
 
 impl<D: Disk> SectionStore<D> {
-    /// A store as it was found in a file: these sources are stored, and the closed gate stands at `place`.
-    pub fn resume(alloc: Global, disk: D, form: Form, stored: Vec<StopId>, place: u64) -> Self
-        requires { D.honest disk → place < length (D.state disk).read }
+    /// A store as it was found in a file: these sources are stored, `present` is their set, and the closed gate stands at
+    /// `place`.
+    pub fn resume(
+        alloc: Global,
+        disk: D,
+        form: Form,
+        stored: Vec<StopId>,
+        present: StopSet,
+        place: u64,
+    ) -> Self
+        requires inside { D.honest disk → place < length (D.state disk).read }
+        requires set { IsSetOf (stops_of form.table) present stored.items }
         ensures disk { result.disk ≡ disk }
         ensures form { result.form ≡ form }
         ensures place { result.place ≡ place }
@@ -52,6 +66,7 @@ impl<D: Disk> SectionStore<D> {
             extent: 0,
             source: StopId::default(),
             stored,
+            present,
             next: Step::WriteBody,
             body: Vec::new(alloc),
         }

@@ -5,8 +5,8 @@ use Rattle.section_store.specs.Store.{IsRest}
 use Rattle.section_store.proofs.Fresh.{header_is, header_length, rest_inside}
 use Rattle.section_store.proofs.header.begin.Goals as goal
 
-pub resume-requires : goal.resume-requires
-resume-requires g c = λ after.
+pub resume-requires-clause-inside : goal.resume-requires-clause-inside
+resume-requires-clause-inside g c = λ after.
     let honest = c.begin_file.ensures.honest.1 after in
     let form = form_of (arc_value c.args.table.now) c.args.rides in
     let rest = c.in-Ok-rest_of_header.rest.items in
