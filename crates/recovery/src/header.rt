@@ -28,7 +28,7 @@ fn front_fault(front: &[u8], rides: Rides) -> Option<RecoverFault>
     ensures { MatchOption result
         ((take 8 (drop 1 front.now) ≡ store_name) × (get_or front.now 9 0 ≡ rides))
         (λ fault. ((fault ≡ RecoverFault.NotAStore) × (take 8 (drop 1 front.now) ≢ store_name))
-            ⊎ ((fault ≡ RecoverFault.OtherRides) × (take 8 (drop 1 front.now) ≡ store_name) × (get_or front.now 9 0 ≢ rides))) }
+        ⊎ ((fault ≡ RecoverFault.OtherRides) × (take 8 (drop 1 front.now) ≡ store_name) × (get_or front.now 9 0 ≢ rides))) }
 {
     if !is_name(&front[1..9]) {
         return Some(RecoverFault::NotAStore);

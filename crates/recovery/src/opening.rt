@@ -4,7 +4,11 @@ ghost use Rattle.std.specs.Prelude.{◌≡◌, ◌↔◌, ◌⊎◌, ◌≤◌, 
 ghost use Rattle.std.specs.Arc.{arc_value};
 ghost use Rattle.disk_model.specs.Disk.{after_sync, Grew};
 ghost use Rattle.disk_model.specs.Moments.{LeavesOnly};
+ghost use Rattle.std.specs.List.{All};
+ghost use Rattle.timetable.specs.Table.{stops_of};
+ghost use Rattle.section_store.specs.Lasting.{LosesNothing, StaysTrusted, IsTrusted, IsExact};
 ghost use Rattle.section_store.specs.Sections.{IsFresh, Stands, form_of, sources};
+ghost use Rattle.section_store.specs.Sources.{IsSetOf};
 ghost use Rattle.section_store.specs.Store.{Holds};
 ghost use Rattle.recovery.specs.Reading.{OnlyCounted, IsSoFar, IsShut, IsRefusal};
 ghost use Rattle.recovery.specs.Recovery.{IsOutside, StandsAsBefore, StandsForNoList, CauseOf};
@@ -14,8 +18,10 @@ use crate::header::first_gate;
 use crate::recovered::Recovered;
 use crate::sections::{Found, read_sections};
 use disk_model::Disk;
-use section_store::laws::stands_for_one;
-use section_store::{Form, PutFault, SectionStore, Step, begin};
+use section_store::laws::{
+    loses_nothing_in_turn, stands_for_one, syncs_lose_nothing, trusted_trees,
+};
+use section_store::{Form, PutFault, SectionStore, begin};
 use std::alloc::Global;
 use std::sync::Arc;
 use timetable::{Rides, Timetable};
@@ -28,7 +34,8 @@ fn look<D: Disk>(alloc: Global, disk: &mut D, form: &Form) -> Result<Option<Foun
     ensures found { D.honest disk.old → IfOk result (λ found. MatchOption found (IsFresh (D.state disk.old).read) (λ found. (¬ IsFresh (D.state disk.old).read)
         × IsSoFar form.now (D.state disk.old).read found.trees.items found.place × IsShut (drop found.place (D.state disk.old).read))) }
     ensures refused { D.honest disk.old → IfErr result (IsRefusal form.now (D.state disk.old).read) }
-    ensures stored { IfOk result (λ found. IfSome found (λ found. found.stored.items ≡ sources found.trees.items)) }
+    ensures stored { IfOk result (λ found. IfSome found (λ found. (found.stored.items ≡ sources found.trees.items)
+        × IsSetOf (stops_of form.now.table) found.present found.stored.items)) }
     ensures counted { OnlyCounted result (D.failures disk.old) (D.failures disk.new) }
 {
     let mut piece = Vec::new(alloc);
@@ -82,6 +89,14 @@ pub fn recover<D: Disk>(
     ensures moments { D.honest disk → MatchResult result
         (λ r. LeavesOnly (D.state disk) (D.state r.store.disk) (StandsAsBefore (form_of (arc_value table.now) rides) (D.state disk)))
         (λ e. LeavesOnly (D.state disk) (D.state e.1) (StandsAsBefore (form_of (arc_value table.now) rides) (D.state disk))) }
+    ensures lasting { D.honest disk → MatchResult result
+        (λ r. LosesNothing (form_of (arc_value table.now) rides) (D.state disk) (D.state r.store.disk))
+        (λ e. LosesNothing (form_of (arc_value table.now) rides) (D.state disk) (D.state e.1)) }
+    ensures trusted { D.honest disk → MatchResult result
+        (λ r. StaysTrusted (form_of (arc_value table.now) rides) (D.state disk) (D.state r.store.disk))
+        (λ e. StaysTrusted (form_of (arc_value table.now) rides) (D.state disk) (D.state e.1)) }
+    ensures exact { D.honest disk → IsTrusted (form_of (arc_value table.now) rides) (D.state disk)
+        → IfOk result (λ r. All (IsExact (form_of (arc_value table.now) rides)) r.trees.items) }
     ensures written { D.honest disk → ¬ IsFresh (D.state disk).read → MatchResult result
         (λ r. D.state r.store.disk ≡ after_sync (D.state disk))
         (λ e. (D.state e.1 ≡ D.state disk) ⊎ (D.state e.1 ≡ after_sync (D.state disk))) }
@@ -89,6 +104,9 @@ pub fn recover<D: Disk>(
     ensures ready { IfOk result (λ r. (r.store.next ≡ Step.WriteBody) × (r.store.form ≡ form_of (arc_value table.now) rides)) }
 {
     stands_for_one();
+    trusted_trees();
+    syncs_lose_nothing();
+    loses_nothing_in_turn();
     let Ok(kept) = Arc::try_clone(table) else {
         return Err((RecoverFault::Memory, disk));
     };
@@ -105,7 +123,14 @@ pub fn recover<D: Disk>(
                 Err(refused) => Err((begin_fault(refused.0), refused.1)),
             },
             Some(found) => Ok(Recovered {
-                store: SectionStore::resume(alloc, disk, form, found.stored, found.place),
+                store: SectionStore::resume(
+                    alloc,
+                    disk,
+                    form,
+                    found.stored,
+                    found.present,
+                    found.place,
+                ),
                 trees: found.trees,
             }),
         },

@@ -1,7 +1,9 @@
 //! Reads one section of a store.
 
-ghost use Rattle.std.specs.Prelude.{◌≡◌, ◌↔◌, ◌^◌, ◌⊎◌, ◌≤◌, ◌<◌, ◌+◌, length, drop, IfOk, IfErr, IfSome, MatchOption};
+ghost use Rattle.std.specs.Prelude.{◌≡◌, ◌↔◌, ◌^◌, ◌⊎◌, ◌≤◌, ◌<◌, ◌+◌, ℕ, List, length, drop, IfOk, IfErr, IfSome, MatchOption};
+ghost use Rattle.timetable.specs.Table.{stops_of};
 ghost use Rattle.section_store.specs.Sections.{IsSection, IsNew};
+ghost use Rattle.section_store.specs.Sources.{IsSetOf};
 ghost use Rattle.recovery.specs.Reading.{OnlyCounted, IsBad, IsShut, IsFound};
 ghost use Rattle.recovery.specs.Recovery.{IsEnd, IsOutside};
 
@@ -10,21 +12,22 @@ use crate::reading::read_text;
 use disk_model::Disk;
 use pattern_tree::PatternTree;
 use section_store::reading_laws::sized_apart;
-use section_store::{Form, is_new};
+use section_store::{Form, StopSet};
 use std::alloc::Global;
-use timetable::StopId;
 use tree_codec::laws::texts_apart;
 use tree_codec::{CodecFault, decode};
 
-// The tree whose text that is, all of it, where it may stand behind the stored sources; none where there is no such tree.
+// The tree whose text that is, all of it, where it may stand behind the sources that are present; none where there is no such
+// tree.
 fn tree_in(
     alloc: Global,
     text: &[u8],
     form: &Form,
-    stored: &[StopId],
+    present: &StopSet,
 ) -> Result<Option<PatternTree>, RecoverFault>
-    ensures found { length text.now < 2 ^ 32 → IfOk result (λ found. MatchOption found (IsBad form.now stored.now text.now)
-        (λ tree. IsSection form.now text.now tree × IsNew tree.source stored.now)) }
+    ensures found { (stored : List ℕ) → IsSetOf (stops_of form.now.table) present.now stored → length text.now < 2 ^ 32
+        → IfOk result (λ found. MatchOption found (IsBad form.now stored text.now)
+        (λ tree. IsSection form.now text.now tree × IsNew tree.source stored)) }
     ensures memory { IfErr result (λ fault. fault ≡ RecoverFault.Memory) }
 {
     texts_apart();
@@ -37,7 +40,7 @@ fn tree_in(
             if tree.depth() > usize::from(form.k().number()) {
                 return Ok(None);
             }
-            if !is_new(tree.source(), stored) {
+            if present.contains(tree.source()) {
                 return Ok(None);
             }
             Ok(Some(tree))
@@ -59,36 +62,38 @@ pub(crate) struct Section {
     pub(crate) end: u64,
 }
 
-/// The section at a place; none where the gate there is closed. Its text is read into `text`.
+/// The section at a place, the one of that number; none where the gate there is closed. Its text is read into `text`.
 pub(crate) fn next_section<D: Disk>(
     alloc: Global,
     disk: &mut D,
     place: u64,
     end: u64,
     form: &Form,
-    stored: &[StopId],
+    number: usize,
+    present: &StopSet,
     text: &mut Vec<u8>,
 ) -> Result<Option<Section>, RecoverFault>
     requires within { place ≤ end }
     requires whole { D.honest disk.old → end ≡ length (D.state disk.old).read }
     ensures honest { D.honest disk.old ↔ D.honest disk.new }
     ensures same { D.honest disk.old → D.state disk.new ≡ D.state disk.old }
-    ensures found { D.honest disk.old → IfOk result (λ found. MatchOption found (IsShut (drop place (D.state disk.old).read))
-        (λ section. IsFound form.now stored.now (drop place (D.state disk.old).read) place section.tree section.end)) }
-    ensures ended { D.honest disk.old → IfErr result (λ fault. IsOutside fault
-        ⊎ ((fault ≡ RecoverFault.Damaged (length stored.now)) × IsEnd form.now stored.now (drop place (D.state disk.old).read))) }
+    ensures found { (stored : List ℕ) → IsSetOf (stops_of form.now.table) present.now stored → D.honest disk.old
+        → IfOk result (λ found. MatchOption found (IsShut (drop place (D.state disk.old).read))
+        (λ section. IsFound form.now stored (drop place (D.state disk.old).read) place section.tree section.end)) }
+    ensures ended { (stored : List ℕ) → IsSetOf (stops_of form.now.table) present.now stored → D.honest disk.old
+        → IfErr result (λ fault. IsOutside fault
+        ⊎ ((fault ≡ RecoverFault.Damaged number) × IsEnd form.now stored (drop place (D.state disk.old).read))) }
     ensures inside { IfOk result (λ found. IfSome found (λ section. (place < section.end) × (section.end ≤ end))) }
     ensures counted { OnlyCounted result (D.failures disk.old) (D.failures disk.new) }
 {
     sized_apart();
-    let number = stored.len();
     match read_text(disk, place, end, number, text) {
         Err(fault) => Err(fault),
         Ok(ahead) => {
             if !ahead {
                 return Ok(None);
             }
-            match tree_in(alloc, text, form, stored) {
+            match tree_in(alloc, text, form, present) {
                 Err(fault) => Err(fault),
                 Ok(read) => match read {
                     None => Err(RecoverFault::Damaged(number)),

@@ -1,5 +1,7 @@
 use Rattle.std.proofs.Common.{◌≡◌, ◌↔◌, ◌≤◌, ◌-◌, []}
+use Rattle.timetable.specs.Table.{stops_of}
 use Rattle.section_store.specs.Sections.{sources}
+use Rattle.section_store.specs.Sources.{IsSetOf}
 use Rattle.recovery.specs.Reading.{IsSoFar}
 use Rattle.recovery.proofs.sections.read_sections.Given as goal
 
@@ -13,6 +15,7 @@ invariant-sections g l = record {
   failures : g.D.Disk.failures l.disk ≡ g.D.Disk.failures l.initial.disk;
   within : l.place ≤ l.end;
   stored : l.stored.items ≡ sources l.trees.items;
+  present : IsSetOf (stops_of l.form.table) l.present l.stored.items;
   so_far : g.D.Disk.honest l.initial.disk → IsSoFar l.form (g.D.Disk.state l.initial.disk).read [] l.start
       → IsSoFar l.form (g.D.Disk.state l.initial.disk).read l.trees.items l.place;
 }
