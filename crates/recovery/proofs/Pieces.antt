@@ -1,5 +1,5 @@
 -- Bytes that are compared piece by piece.
-use Rattle.std.proofs.Common.{◌≡◌, ℕ, ◌+◌, ◌-◌, ◌≤◌, List, ◌++◌, length, take, drop, sym, ◌∙◌, ap, arith, take-append-drop}
+use Rattle.std.proofs.Common.{◌≡◌, ℕ, ◌+◌, ◌-◌, ◌≤◌, List, ◌++◌, length, take, drop, sym, ◌∙◌, ap, arith, length-take, length-drop, take-append-drop}
 use Rattle.std.proofs.lemmas.List.{take-take, drop-take, drop-drop}
 
 take_add : (m n : ℕ) (xs : List ℕ) → take (m + n) xs ≡ take m xs ++ take n (drop m xs)
@@ -25,3 +25,11 @@ piece_same pos done count read bytes within same =
     ap (λ (l : List ℕ). take count l) (sym (drop-drop done pos read))
     ∙ sym (take-take count (length bytes - done) (drop done all) (omega (arith, within)))
     ∙ ap (λ (l : List ℕ). take count l) (sym (drop-take done (length bytes - done) all) ∙ ap (λ (n : ℕ). drop done (take n all)) long ∙ ap (λ (l : List ℕ). drop done l) same)
+
+-- the next piece of so many bytes
+pub part_is : (done count : ℕ) (bytes : List ℕ) → count ≤ length bytes - done → take count (take (length bytes - done) (drop done bytes)) ≡ take count (drop done bytes)
+part_is done count bytes within = take-take count (length bytes - done) (drop done bytes) within
+
+pub part_long : (done count : ℕ) (bytes : List ℕ) → count ≤ length bytes - done → length (take count (take (length bytes - done) (drop done bytes))) ≡ count
+part_long done count bytes within =
+    ap length (part_is done count bytes within) ∙ omega (arith, length-take count (drop done bytes), length-drop done bytes, within)
