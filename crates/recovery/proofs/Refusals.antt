@@ -1,10 +1,12 @@
--- Which fault a header is refused by.
+-- Which fault bytes are refused by.
 use Rattle.std.proofs.Common.{◌≡◌, ◌≢◌, ◌⊎◌, inl, inr, ℕ, ◌+◌, ◌<◌, ◌≤◌, List, [], ◌++◌, length, take, drop, get_or, sym, ◌∙◌, subst}
-use Rattle.section_store.specs.Sections.{Form, IsFresh, header, header_tail, open_gate}
-use Rattle.recovery.specs.Recovery.{CauseOf, store_name}
+use Rattle.pattern_tree.specs.Content.{Content}
+use Rattle.section_store.specs.Sections.{Form, IsFresh, header, header_tail, open_gate, sources}
+use Rattle.recovery.specs.Recovery.{CauseOf, IsDamaged, IsEnd, IsOutside, store_name}
 use Rattle.recovery.specs.Reading.{IsSoFar, IsRefusal}
 use Rattle.recovery.specs.declared.fault.RecoverFault.{RecoverFault}
-use Rattle.recovery.specs.declared.fault.RecoverFault.TheVariants.{NotAStore, OtherRides, OtherTimetable, Device}
+use Rattle.recovery.specs.declared.fault.RecoverFault.TheVariants.{NotAStore, OtherRides, OtherTimetable, Damaged, Device}
+use Rattle.recovery.proofs.Tails.{end_stands}
 use Rattle.recovery.proofs.Openings.{not_fresh, read_gate, read_some, head_name, head_rides, other_name, other_rides, other_header, too_short, not_there, header_read, no_stands}
 
 -- the first bytes are those of a store of that number of rides
@@ -59,3 +61,11 @@ module _ (form : Form) (read : List ℕ) (front : IsFront form read) where
 
   pub header_there : take (length (header_tail form)) (drop 1 read) ≡ header_tail form → IsSoFar form read [] (length (header_tail form) + 1)
   header_there same = header_read form read front.gate front.some same
+
+-- no list goes on behind the sections that were read
+pub damaged : (form : Form) (read : List ℕ) (trees : List Content) (place number : ℕ) (fault : RecoverFault) → (IsFresh read → ⊥) → IsSoFar form read trees place → number ≡ length trees
+    → IsOutside fault ⊎ ((fault ≡ Damaged number) × IsEnd form (sources trees) (drop place read)) → IsRefusal form read fault
+damaged form read trees place number fault old so_far count (inl outside) = inl outside
+damaged form read trees place number fault old so_far count (inr ended) =
+    let here : IsDamaged form read number = record { trees = trees; place = place; begins = so_far.begins; count = sym count; end = ended.1 } in
+    inr (subst (CauseOf form read) (sym ended.0) here, no_stands form read old (end_stands form read trees place so_far ended.1))
