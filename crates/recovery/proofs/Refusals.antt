@@ -2,7 +2,7 @@
 use Rattle.std.proofs.Common.{◌≡◌, ◌≢◌, ◌⊎◌, inl, inr, ℕ, ◌+◌, ◌<◌, ◌≤◌, List, [], ◌++◌, length, take, drop, get_or, sym, ◌∙◌, subst}
 use Rattle.pattern_tree.specs.Content.{Content}
 use Rattle.section_store.specs.Sections.{Form, IsFresh, header, header_tail, open_gate, sources}
-use Rattle.recovery.specs.Recovery.{CauseOf, IsDamaged, IsEnd, IsOutside, store_name}
+use Rattle.recovery.specs.Recovery.{CauseOf, IsDamaged, IsEnd, IsOutside, StandsForNoList, store_name}
 use Rattle.recovery.specs.Reading.{IsSoFar, IsRefusal}
 use Rattle.recovery.specs.declared.fault.RecoverFault.{RecoverFault}
 use Rattle.recovery.specs.declared.fault.RecoverFault.TheVariants.{NotAStore, OtherRides, OtherTimetable, Damaged, Device}
@@ -69,3 +69,15 @@ damaged form read trees place number fault old so_far count (inl outside) = inl 
 damaged form read trees place number fault old so_far count (inr ended) =
     let here : IsDamaged form read number = record { trees = trees; place = place; begins = so_far.begins; count = sym count; end = ended.1 } in
     inr (subst (CauseOf form read) (sym ended.0) here, no_stands form read old (end_stands form read trees place so_far ended.1))
+
+pub outside_cause : (form : Form) (read : List ℕ) (fault : RecoverFault) → IsOutside fault → CauseOf form read fault
+outside_cause form read fault (inl device) = subst (CauseOf form read) (sym device) tt
+outside_cause form read fault (inr memory) = subst (CauseOf form read) (sym memory) tt
+
+pub refused_cause : (form : Form) (read : List ℕ) (fault : RecoverFault) → IsRefusal form read fault → CauseOf form read fault
+refused_cause form read fault (inl outside) = outside_cause form read fault outside
+refused_cause form read fault (inr refused) = refused.0
+
+pub refused_none : (form : Form) (read : List ℕ) (fault : RecoverFault) → IsRefusal form read fault → IsOutside fault ⊎ StandsForNoList form read
+refused_none form read fault (inl outside) = inl outside
+refused_none form read fault (inr refused) = inr refused.1
