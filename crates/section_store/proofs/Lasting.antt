@@ -7,12 +7,18 @@ use Rattle.std.proofs.lemmas.List.Kept.{AllPairs-cons}
 use Rattle.disk_model.specs.Image.{Image, IsOutcome, settled_image, with_write, with_cut}
 use Rattle.disk_model.specs.Calls.{WritesAndSyncs, CutsAndSyncs}
 use Rattle.disk_model.specs.Disk.{State, spliced_bytes, next_state, after_write, after_cut, Writes, Cuts, Syncs}
+use Rattle.disk_model.specs.Laws.{WritesAddOutcomes, CutsAddOutcomes}
 use Rattle.disk_model.specs.Moments.{moments, Leaves, LeavesOnly}
-use Rattle.disk_model.proofs.Moments.{only_settled, leaves_last, weaker, still as still_leaves}
+use Rattle.disk_model.proofs.Moments.{only_settled, leaves_last, weaker}
+use Rattle.timetable.specs.Table.{Table}
 use Rattle.pattern_tree.specs.Content.{Content}
+use Rattle.pattern_tree.specs.Completeness.{Complete, Earned}
+use Rattle.pattern_tree.specs.Finished.{FinishedTree, IsFinished}
 use Rattle.section_store.specs.Laws.{StandsForOne}
 use Rattle.section_store.specs.Lasting.{HasSource, Keeps, LosesNothing, IsExact, IsTrustedFile, IsTrusted, StaysTrusted}
 use Rattle.section_store.specs.Sections.{Form, IsSections, IsFresh, IsBeforeOrAfter, Stands, StandsForNone, sources}
+use Rattle.section_store.specs.Store.{IsRest}
+use Rattle.section_store.proofs.Outcomes.{rest_stands}
 use Rattle.section_store.proofs.Standing.{fresh_only}
 
 -- each moment keeps what the one before it had
@@ -95,7 +101,6 @@ module _ {E : Type 0} (result : Result Unit E) (form : Form) (old new : State) w
       of_sync (Ok done) is = one_more form old new _ _ is keeps
       of_sync (Err e) same = still form old new same
 
-  -- where each moment had an outcome with no source
   pub write_and_sync_loses : (at : ℕ) (bytes : List ℕ) → WritesAndSyncs at bytes result old new → Keeps form old.now (with_write at (length bytes) old.now) → Keeps form (with_write at (length bytes) old.now) (settled_image (spliced_bytes at bytes old.read))
       → LosesNothing form old new
   write_and_sync_loses at bytes did keeps further = of_both result did
@@ -148,6 +153,10 @@ empty_trusted form bytes left = fresh_trusted form bytes (subst IsFresh (sym (on
 pub none_trusted : (form : Form) (bytes : List ℕ) → StandsForNone form bytes → IsTrustedFile form bytes
 none_trusted form bytes stands = record { trees = []; stands = stands; exact = All-nil (IsExact form) }
 
+-- while each outcome stands for no trees
+pub none_stay : (form : Form) (old new : State) → LeavesOnly old new (StandsForNone form) → StaysTrusted form old new
+none_stay form old new moments trusted = weaker old new (StandsForNone form) (IsTrustedFile form) (none_trusted form) moments
+
 pub trees_exact : StandsForOne → (form : Form) (bytes : List ℕ) (trees : List Content) → IsTrustedFile form bytes → Stands form bytes trees → All (IsExact form) trees
 trees_exact one_list form bytes trees file stands = subst (All (IsExact form)) (one_list form bytes file.trees trees file.stands stands) file.exact
 
@@ -161,3 +170,37 @@ put_trusted form trees tree exact one bytes (inr after) = record { trees = trees
 
 pub put_keeps : (form : Form) (old new : State) (trees : List Content) (tree : Content) → All (IsExact form) trees → IsExact form tree → LeavesOnly old new (IsBeforeOrAfter form trees tree) → StaysTrusted form old new
 put_keeps form old new trees tree exact one moments trusted = weaker old new (IsBeforeOrAfter form trees tree) (IsTrustedFile form) (put_trusted form trees tree exact one) moments
+
+-- what reads give is fresh, and stays among what a crash may leave until the sync
+pub fresh_write_loses : WritesAddOutcomes → {E : Type 0} (result : Result Unit E) (form : Form) (old new : State) (at : ℕ) (bytes : List ℕ) → IsOutcome old.now old.read → IsFresh old.read → WritesAndSyncs at bytes result old new → LosesNothing form old new
+fresh_write_loses write_adds result form old new at bytes read fresh did =
+    let image = with_write at (length bytes) old.now in
+    write_and_sync_loses result form old new at bytes did
+    (fresh_keeps form old.now image old.read read fresh)
+    (fresh_keeps form image (settled_image (spliced_bytes at bytes old.read)) old.read (write_adds old.now at (length bytes) old.read read) fresh)
+
+pub fresh_cut_loses : CutsAddOutcomes → {E : Type 0} (result : Result Unit E) (form : Form) (old new : State) (len : ℕ) → IsOutcome old.now old.read → IsFresh old.read → CutsAndSyncs len result old new → LosesNothing form old new
+fresh_cut_loses cut_adds result form old new len read fresh did =
+    let image = with_cut len old.now in
+    cut_and_sync_loses result form old new len did
+    (fresh_keeps form old.now image old.read read fresh)
+    (fresh_keeps form image (settled_image (take len old.read)) old.read (cut_adds old.now len old.read read) fresh)
+
+-- a tree that is done is exact for its own form
+pub exact_of : (form : Form) (f : FinishedTree) → IsFinished f → f.table ≡ form.table → f.rides ≡ form.rides → IsExact form f.tree
+exact_of form f done table rides = record {
+  complete = subst (λ (t : Table). Complete t form.rides f.tree.source f.tree.pairs) table (subst (λ (k : ℕ). Complete f.table k f.tree.source f.tree.pairs) rides done.complete);
+  earned = subst (λ (t : Table). Earned t form.rides f.tree.source f.tree.pairs) table (subst (λ (k : ℕ). Earned f.table k f.tree.source f.tree.pairs) rides done.earned);
+}
+
+-- a store at rest on a trusted disk, while a tree is put
+module _ (one_list : StandsForOne) (form : Form) (trees : List Content) (place : ℕ) (old new : State) (read : IsOutcome old.now old.read) (rest : IsRest form trees place old) where
+  exact_at : IsTrusted form old → All (IsExact form) trees
+  exact_at trusted = trees_exact one_list form old.read trees (trusted old.read read) (inr (rest_stands form trees place old rest))
+
+  pub before_trusted : LeavesOnly old new (λ bytes. IsSections form bytes trees) → StaysTrusted form old new
+  before_trusted moments trusted =
+      weaker old new (λ bytes. IsSections form bytes trees) (IsTrustedFile form) (λ (bytes : List ℕ) (stands : IsSections form bytes trees). record { trees = trees; stands = inr stands; exact = exact_at trusted }) moments
+
+  pub after_trusted : (tree : Content) → IsExact form tree → LeavesOnly old new (IsBeforeOrAfter form trees tree) → StaysTrusted form old new
+  after_trusted tree exact moments trusted = put_keeps form old new trees tree (exact_at trusted) exact moments trusted

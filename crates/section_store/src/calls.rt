@@ -5,7 +5,7 @@ ghost use Rattle.std.specs.Prelude.{◌≡◌, ◌↔◌, ◌+◌, ◌++◌, [],
 ghost use Rattle.disk_model.specs.Moments.{LeavesOnly};
 ghost use Rattle.pattern_tree.specs.Content.{Content};
 ghost use Rattle.section_store.specs.Fault.{HasCause, OnlyDevice, IsTooLarge};
-ghost use Rattle.section_store.specs.Lasting.{LosesNothing};
+ghost use Rattle.section_store.specs.Lasting.{IsExact, LosesNothing};
 ghost use Rattle.section_store.specs.Sections.{Form, IsSections, IsBeforeOrAfter, IsNew};
 ghost use Rattle.section_store.specs.Store.{IsRest, IsBody, IsDurable, IsOpened, Holds};
 
@@ -50,6 +50,7 @@ impl<D: Disk> SectionStore<D> {
         ensures form { self.new.form ≡ self.old.form }
         ensures stored { self.new.stored.items ≡ self.old.stored.items }
         ensures source { OnOk result (self.new.source ≡ tree.now.tree.source) }
+        ensures exact { OnOk result (IsExact self.old.form tree.now.tree) }
     {
         stands_for_one();
         if self.next != Step::WriteBody {

@@ -15,6 +15,7 @@ use crate::form::Form as FormOf;
 use crate::step::Step;
 use crate::stop_set::StopSet;
 use crate::store::SectionStore;
+use disk_model::laws::{cuts_add_outcomes, writes_add_outcomes};
 use disk_model::{Disk, DiskFault, cut_and_sync, write_and_sync};
 use std::alloc::{AllocError, Global};
 use std::sync::Arc;
@@ -32,6 +33,7 @@ fn shorten<D: Disk>(disk: &mut D) -> Result<(), DiskFault>
     ensures honest { D.honest disk.old ↔ D.honest disk.new }
     ensures failed { FailsByCalls result (D.failures disk.old) (D.failures disk.new) }
 {
+    cuts_add_outcomes();
     match disk.len() {
         Ok(len) => {
             if len > 1 {
@@ -53,6 +55,7 @@ fn close_header<D: Disk>(disk: &mut D) -> Result<(), DiskFault>
     ensures honest { D.honest disk.old ↔ D.honest disk.new }
     ensures failed { FailsByCalls result (D.failures disk.old) (D.failures disk.new) }
 {
+    writes_add_outcomes();
     write_and_sync(disk, 0, &[0])
 }
 
@@ -65,6 +68,7 @@ fn write_header<D: Disk>(disk: &mut D, rest: &[u8]) -> Result<(), DiskFault>
     ensures honest { D.honest disk.old ↔ D.honest disk.new }
     ensures failed { FailsByCalls result (D.failures disk.old) (D.failures disk.new) }
 {
+    writes_add_outcomes();
     write_and_sync(disk, 1, rest)
 }
 
@@ -79,6 +83,7 @@ fn open_header<D: Disk>(disk: &mut D) -> Result<(), DiskFault>
     ensures honest { D.honest disk.old ↔ D.honest disk.new }
     ensures failed { FailsByCalls result (D.failures disk.old) (D.failures disk.new) }
 {
+    writes_add_outcomes();
     write_and_sync(disk, 0, &[OPEN])
 }
 

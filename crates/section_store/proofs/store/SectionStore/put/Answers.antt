@@ -7,6 +7,7 @@ use Rattle.disk_model.proofs.Moments.{goes_on, weaker}
 use Rattle.pattern_tree.specs.Content.{Content}
 use Rattle.section_store.specs.Sections.{Form, IsSections, IsBeforeOrAfter, sources}
 use Rattle.section_store.specs.Store.{IsRest, Holds}
+use Rattle.section_store.proofs.Lasting.{in_turn, before_trusted, after_trusted}
 use Rattle.section_store.proofs.store.SectionStore.put.Goals as goal
 
 -- the list before, or that list and the tree
@@ -16,6 +17,10 @@ module _ (form : Form) (trees : List Content) (tree : Content) (old new : State)
 
   after : LeavesOnly old new (λ bytes. IsSections form bytes (trees ++ tree ∷ [])) → LeavesOnly old new (IsBeforeOrAfter form trees tree)
   after m = weaker old new (λ bytes. IsSections form bytes (trees ++ tree ∷ [])) (IsBeforeOrAfter form trees tree) (λ bytes stands. inr stands) m
+
+pub returns-in_err-write_body-clause-moments : goal.returns-in_err-write_body-clause-moments
+returns-in_err-write_body-clause-moments g c = λ trees honest holds.
+    before c.args.self.now.form trees c.args.tree.now.tree (g.D.Disk.state c.args.self.now.disk) (g.D.Disk.state c.write_body.new.self.disk) (c.write_body.ensures.moments trees honest holds.rest)
 
 pub returns-in_err-sync_body-clause-moments : goal.returns-in_err-sync_body-clause-moments
 returns-in_err-sync_body-clause-moments g c = λ trees honest holds.
@@ -92,3 +97,71 @@ returns-clause-holds g c = λ trees honest holds.
     let source : c.open_gate.new.self.source ≡ tree.source = c.open_gate.ensures.source ∙ c.sync_body.ensures.source ∙ c.in_ok-write_body.ensures.source in
     holds_if c.sync_gate.result form trees tree c.sync_gate.new.self.place (g.D.Disk.state c.sync_gate.new.self.disk) c.open_gate.new.self.stored.items c.sync_gate.new.self.stored.items c.open_gate.new.self.source
     (c.sync_gate.ensures.rest form (trees ++ tree ∷ []) h3 b3) c.sync_gate.ensures.stored stored source
+
+pub returns-in_err-write_body-clause-lasting : goal.returns-in_err-write_body-clause-lasting
+returns-in_err-write_body-clause-lasting g c = λ trees honest holds. c.write_body.ensures.lasting trees honest holds.rest
+
+pub returns-in_err-sync_body-clause-lasting : goal.returns-in_err-sync_body-clause-lasting
+returns-in_err-sync_body-clause-lasting g c = λ trees honest holds.
+    let form = c.args.self.now.form in
+    let s0 = g.D.Disk.state c.args.self.now.disk in
+    let s1 = g.D.Disk.state c.write_body.new.self.disk in
+    let s2 = g.D.Disk.state c.sync_body.new.self.disk in
+    in_turn form s0 s1 s2 (c.write_body.ensures.lasting trees honest holds.rest) (c.sync_body.ensures.lasting form (c.write_body.ensures.honest.0 honest))
+
+pub returns-in_err-open_gate-clause-lasting : goal.returns-in_err-open_gate-clause-lasting
+returns-in_err-open_gate-clause-lasting g c = λ trees honest holds.
+    let form = c.args.self.now.form in
+    let tree = c.args.tree.now.tree in
+    let s0 = g.D.Disk.state c.args.self.now.disk in
+    let s1 = g.D.Disk.state c.write_body.new.self.disk in
+    let s2 = g.D.Disk.state c.sync_body.new.self.disk in
+    let s3 = g.D.Disk.state c.open_gate.new.self.disk in
+    let h1 = c.write_body.ensures.honest.0 honest in
+    let b1 = c.in_ok-write_body.ensures.body trees honest holds in
+    let h2 = c.sync_body.ensures.honest.0 h1 in
+    let b2 = c.in_ok-sync_body.ensures.body form trees tree h1 b1 in
+    let l2 = in_turn form s0 s1 s2 (c.write_body.ensures.lasting trees honest holds.rest) (c.sync_body.ensures.lasting form h1) in
+    in_turn form s0 s2 s3 l2 (c.open_gate.ensures.lasting form trees tree h2 b2.0 b2.1)
+
+pub returns-clause-lasting : goal.returns-clause-lasting
+returns-clause-lasting g c = λ trees honest holds.
+    let form = c.args.self.now.form in
+    let tree = c.args.tree.now.tree in
+    let s0 = g.D.Disk.state c.args.self.now.disk in
+    let s1 = g.D.Disk.state c.write_body.new.self.disk in
+    let s2 = g.D.Disk.state c.sync_body.new.self.disk in
+    let s3 = g.D.Disk.state c.open_gate.new.self.disk in
+    let s4 = g.D.Disk.state c.sync_gate.new.self.disk in
+    let h1 = c.write_body.ensures.honest.0 honest in
+    let b1 = c.in_ok-write_body.ensures.body trees honest holds in
+    let h2 = c.sync_body.ensures.honest.0 h1 in
+    let b2 = c.in_ok-sync_body.ensures.body form trees tree h1 b1 in
+    let h3 = c.open_gate.ensures.honest.0 h2 in
+    let l2 = in_turn form s0 s1 s2 (c.write_body.ensures.lasting trees honest holds.rest) (c.sync_body.ensures.lasting form h1) in
+    let l3 = in_turn form s0 s2 s3 l2 (c.open_gate.ensures.lasting form trees tree h2 b2.0 b2.1) in
+    in_turn form s0 s3 s4 l3 (c.sync_gate.ensures.lasting form h3)
+
+pub returns-in_err-write_body-clause-trusted : goal.returns-in_err-write_body-clause-trusted
+returns-in_err-write_body-clause-trusted g c = λ trees honest holds.
+    let disk = c.args.self.now.disk in
+    before_trusted c.stands_for_one.ensures c.args.self.now.form trees c.args.self.now.place (g.D.Disk.state disk) (g.D.Disk.state c.write_body.new.self.disk) (g.met.D.Disk.may_stay disk honest) holds.rest
+    (c.write_body.ensures.moments trees honest holds.rest)
+
+pub returns-in_err-sync_body-clause-trusted : goal.returns-in_err-sync_body-clause-trusted
+returns-in_err-sync_body-clause-trusted g c = λ trees honest holds.
+    let disk = c.args.self.now.disk in
+    after_trusted c.stands_for_one.ensures c.args.self.now.form trees c.args.self.now.place (g.D.Disk.state disk) (g.D.Disk.state c.sync_body.new.self.disk) (g.met.D.Disk.may_stay disk honest) holds.rest c.args.tree.now.tree
+    c.in_ok-write_body.ensures.exact (returns-in_err-sync_body-clause-moments g c trees honest holds)
+
+pub returns-in_err-open_gate-clause-trusted : goal.returns-in_err-open_gate-clause-trusted
+returns-in_err-open_gate-clause-trusted g c = λ trees honest holds.
+    let disk = c.args.self.now.disk in
+    after_trusted c.stands_for_one.ensures c.args.self.now.form trees c.args.self.now.place (g.D.Disk.state disk) (g.D.Disk.state c.open_gate.new.self.disk) (g.met.D.Disk.may_stay disk honest) holds.rest c.args.tree.now.tree
+    c.in_ok-write_body.ensures.exact (returns-in_err-open_gate-clause-moments g c trees honest holds)
+
+pub returns-clause-trusted : goal.returns-clause-trusted
+returns-clause-trusted g c = λ trees honest holds.
+    let disk = c.args.self.now.disk in
+    after_trusted c.stands_for_one.ensures c.args.self.now.form trees c.args.self.now.place (g.D.Disk.state disk) (g.D.Disk.state c.sync_gate.new.self.disk) (g.met.D.Disk.may_stay disk honest) holds.rest c.args.tree.now.tree
+    c.in_ok-write_body.ensures.exact (returns-clause-moments g c trees honest holds)
