@@ -21,7 +21,7 @@ use disk_model::Disk;
 use section_store::laws::{
     loses_nothing_in_turn, stands_for_one, syncs_lose_nothing, trusted_trees,
 };
-use section_store::{Form, PutFault, SectionStore, begin};
+use section_store::{Form, PutFault, SectionStore, Step, begin};
 use std::alloc::Global;
 use std::sync::Arc;
 use timetable::{Rides, Timetable};

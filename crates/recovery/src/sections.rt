@@ -34,8 +34,8 @@ fn keep(
 ) -> Result<(), RecoverFault>
     ensures trees { OnOk result (trees.new.items ≡ trees.old.items ++ tree ∷ []) }
     ensures stored { OnOk result (stored.new.items ≡ stored.old.items ++ tree.source ∷ []) }
-    ensures present { (stops : ℕ) (stored : List ℕ) → IsSetOf stops present.old stored
-        → IsSetOf stops present.new (stored ++ tree.source ∷ []) }
+    ensures present { OnOk result ((stops : ℕ) (before : List ℕ) → IsSetOf stops present.old before
+        → IsSetOf stops present.new (before ++ tree.source ∷ [])) }
     ensures memory { IfErr result (λ fault. fault ≡ RecoverFault.Memory) }
 {
     present.insert(tree.source());

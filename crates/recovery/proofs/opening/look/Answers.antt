@@ -30,8 +30,8 @@ returns-in-Err-read_sections-clause-refused g c = λ honest.
     let begun : IsSoFar form (g.D.Disk.state c.first_gate.new.disk).read [] c.in-Some.start = subst (λ (l : List ℕ). IsSoFar form l [] c.in-Some.start) (r2 ∙ sym r3) started.1 in
     subst (λ (l : List ℕ). IsRefusal form l c.in-Err-read_sections.fault) r3 (c.in-Err-read_sections.ensures.refused h3 old begun)
 
-pub returns-in-Ok-read_sections-clause-found : goal.returns-in-Ok-read_sections-clause-found
-returns-in-Ok-read_sections-clause-found g c = λ honest.
+pub returns-clause-found : goal.returns-clause-found
+returns-clause-found g c = λ honest.
     let form = c.args.form.now in
     let read = (g.D.Disk.state c.args.disk.now).read in
     let h1 = c.sync.ensures.honest.0 honest in

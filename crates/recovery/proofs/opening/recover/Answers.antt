@@ -48,12 +48,12 @@ returns-in-Err-clause-trusted g c = λ honest.
 pub begin-requires : goal.begin-requires
 begin-requires g c = λ after.
     let honest = c.look.ensures.honest.1 after in
-    let fresh : IsFresh (g.D.Disk.state c.args.disk).read = rw c.in-None.is at (c.in-Ok.ensures.found honest) in
-    fresh_rest (g.D.Disk.state c.args.disk) (g.D.Disk.state c.look.new.disk) (c.in-Ok.ensures.synced honest) fresh
+    let fresh : IsFresh (g.D.Disk.state c.args.disk).read = rw c.in-None.is at (c.in-Ok-look.ensures.found honest) in
+    fresh_rest (g.D.Disk.state c.args.disk) (g.D.Disk.state c.look.new.disk) (c.in-Ok-look.ensures.synced honest) fresh
 
 pub returns-in-Ok-begin-clause-stands : goal.returns-in-Ok-begin-clause-stands
 returns-in-Ok-begin-clause-stands g c = λ honest.
-    let fresh : IsFresh (g.D.Disk.state c.args.disk).read = rw c.in-None.is at (c.in-Ok.ensures.found honest) in
+    let fresh : IsFresh (g.D.Disk.state c.args.disk).read = rw c.in-None.is at (c.in-Ok-look.ensures.found honest) in
     inl (fresh, c.new.ensures.items)
 
 pub returns-in-Ok-begin-clause-holds : goal.returns-in-Ok-begin-clause-holds
@@ -66,14 +66,14 @@ returns-in-Ok-begin-clause-holds g c = λ honest.
 pub returns-in-Ok-begin-clause-moments : goal.returns-in-Ok-begin-clause-moments
 returns-in-Ok-begin-clause-moments g c = λ honest.
     let s = g.D.Disk.state c.args.disk in
-    let fresh : IsFresh s.read = rw c.in-None.is at (c.in-Ok.ensures.found honest) in
+    let fresh : IsFresh s.read = rw c.in-None.is at (c.in-Ok-look.ensures.found honest) in
     begun (form_of (arc_value c.args.table.now) c.args.rides) s (g.D.Disk.state c.look.new.disk) (g.met.D.Disk.may_stay c.args.disk honest)
-    c.stands_for_one.ensures (c.in-Ok.ensures.synced honest) fresh (g.D.Disk.state c.in-Ok-begin.store.disk) (c.in-Ok-begin.ensures.moments (c.look.ensures.honest.0 honest))
+    c.stands_for_one.ensures (c.in-Ok-look.ensures.synced honest) fresh (g.D.Disk.state c.in-Ok-begin.store.disk) (c.in-Ok-begin.ensures.moments (c.look.ensures.honest.0 honest))
 
 pub returns-in-Ok-begin-clause-lasting : goal.returns-in-Ok-begin-clause-lasting
 returns-in-Ok-begin-clause-lasting g c = λ honest.
     begun_loses (form_of (arc_value c.args.table.now) c.args.rides) (g.D.Disk.state c.args.disk) (g.D.Disk.state c.look.new.disk) (g.met.D.Disk.may_stay c.args.disk honest)
-    c.syncs_lose_nothing.ensures c.loses_nothing_in_turn.ensures (c.in-Ok.ensures.synced honest) (g.D.Disk.state c.in-Ok-begin.store.disk)
+    c.syncs_lose_nothing.ensures c.loses_nothing_in_turn.ensures (c.in-Ok-look.ensures.synced honest) (g.D.Disk.state c.in-Ok-begin.store.disk)
     (c.in-Ok-begin.ensures.lasting (c.look.ensures.honest.0 honest))
 
 pub returns-in-Ok-begin-clause-trusted : goal.returns-in-Ok-begin-clause-trusted
@@ -81,65 +81,65 @@ returns-in-Ok-begin-clause-trusted g c = λ honest.
     let form = form_of (arc_value c.args.table.now) c.args.rides in
     let s = g.D.Disk.state c.args.disk in
     let u = g.D.Disk.state c.in-Ok-begin.store.disk in
-    let fresh : IsFresh s.read = rw c.in-None.is at (c.in-Ok.ensures.found honest) in
+    let fresh : IsFresh s.read = rw c.in-None.is at (c.in-Ok-look.ensures.found honest) in
     trusts form s u
     (begun form s (g.D.Disk.state c.look.new.disk) (g.met.D.Disk.may_stay c.args.disk honest)
-    c.stands_for_one.ensures (c.in-Ok.ensures.synced honest) fresh u (c.in-Ok-begin.ensures.moments (c.look.ensures.honest.0 honest)))
+    c.stands_for_one.ensures (c.in-Ok-look.ensures.synced honest) fresh u (c.in-Ok-begin.ensures.moments (c.look.ensures.honest.0 honest)))
 
 pub returns-in-Ok-begin-clause-exact : goal.returns-in-Ok-begin-clause-exact
 returns-in-Ok-begin-clause-exact g c = λ honest trusted.
     let s = g.D.Disk.state c.args.disk in
-    let fresh : IsFresh s.read = rw c.in-None.is at (c.in-Ok.ensures.found honest) in
+    let fresh : IsFresh s.read = rw c.in-None.is at (c.in-Ok-look.ensures.found honest) in
     c.trusted_trees.ensures (form_of (arc_value c.args.table.now) c.args.rides) s s.read c.new.result.items trusted (g.met.D.Disk.may_stay c.args.disk honest) (inl (fresh, c.new.ensures.items))
 
-pub returns-in-Err-begin-clause-cause : goal.returns-in-Err-begin-clause-cause
-returns-in-Err-begin-clause-cause g c = λ honest.
+pub returns-in-None-clause-cause : goal.returns-in-None-clause-cause
+returns-in-None-clause-cause g c = λ honest.
     outside_cause (form_of (arc_value c.args.table.now) c.args.rides) (g.D.Disk.state c.args.disk).read c.begin_fault.result c.begin_fault.ensures.outside
 
-pub returns-in-Err-begin-clause-moments : goal.returns-in-Err-begin-clause-moments
-returns-in-Err-begin-clause-moments g c = λ honest.
+pub returns-in-None-clause-moments : goal.returns-in-None-clause-moments
+returns-in-None-clause-moments g c = λ honest.
     let s = g.D.Disk.state c.args.disk in
-    let fresh : IsFresh s.read = rw c.in-None.is at (c.in-Ok.ensures.found honest) in
+    let fresh : IsFresh s.read = rw c.in-None.is at (c.in-Ok-look.ensures.found honest) in
     begun (form_of (arc_value c.args.table.now) c.args.rides) s (g.D.Disk.state c.look.new.disk) (g.met.D.Disk.may_stay c.args.disk honest)
-    c.stands_for_one.ensures (c.in-Ok.ensures.synced honest) fresh (g.D.Disk.state c.in-Err-begin.refused.1) (c.in-Err-begin.ensures.moments (c.look.ensures.honest.0 honest))
+    c.stands_for_one.ensures (c.in-Ok-look.ensures.synced honest) fresh (g.D.Disk.state c.in-Err-begin.refused.1) (c.in-Err-begin.ensures.moments (c.look.ensures.honest.0 honest))
 
-pub returns-in-Err-begin-clause-lasting : goal.returns-in-Err-begin-clause-lasting
-returns-in-Err-begin-clause-lasting g c = λ honest.
+pub returns-in-None-clause-lasting : goal.returns-in-None-clause-lasting
+returns-in-None-clause-lasting g c = λ honest.
     begun_loses (form_of (arc_value c.args.table.now) c.args.rides) (g.D.Disk.state c.args.disk) (g.D.Disk.state c.look.new.disk) (g.met.D.Disk.may_stay c.args.disk honest)
-    c.syncs_lose_nothing.ensures c.loses_nothing_in_turn.ensures (c.in-Ok.ensures.synced honest) (g.D.Disk.state c.in-Err-begin.refused.1)
+    c.syncs_lose_nothing.ensures c.loses_nothing_in_turn.ensures (c.in-Ok-look.ensures.synced honest) (g.D.Disk.state c.in-Err-begin.refused.1)
     (c.in-Err-begin.ensures.lasting (c.look.ensures.honest.0 honest))
 
-pub returns-in-Err-begin-clause-trusted : goal.returns-in-Err-begin-clause-trusted
-returns-in-Err-begin-clause-trusted g c = λ honest.
+pub returns-in-None-clause-trusted : goal.returns-in-None-clause-trusted
+returns-in-None-clause-trusted g c = λ honest.
     let form = form_of (arc_value c.args.table.now) c.args.rides in
     let s = g.D.Disk.state c.args.disk in
     let u = g.D.Disk.state c.in-Err-begin.refused.1 in
-    let fresh : IsFresh s.read = rw c.in-None.is at (c.in-Ok.ensures.found honest) in
+    let fresh : IsFresh s.read = rw c.in-None.is at (c.in-Ok-look.ensures.found honest) in
     trusts form s u
     (begun form s (g.D.Disk.state c.look.new.disk) (g.met.D.Disk.may_stay c.args.disk honest)
-    c.stands_for_one.ensures (c.in-Ok.ensures.synced honest) fresh u (c.in-Err-begin.ensures.moments (c.look.ensures.honest.0 honest)))
+    c.stands_for_one.ensures (c.in-Ok-look.ensures.synced honest) fresh u (c.in-Err-begin.ensures.moments (c.look.ensures.honest.0 honest)))
 
 -- where a store was found
 pub resume-requires-clause-inside : goal.resume-requires-clause-inside
 resume-requires-clause-inside g c = λ after.
     let honest = c.look.ensures.honest.1 after in
     let s = g.D.Disk.state c.args.disk in
-    let found : (IsFresh s.read → ⊥) × IsSoFar c.new-form.result s.read c.in-Some.found.trees.items c.in-Some.found.place × IsShut (drop c.in-Some.found.place s.read) = rw c.in-Some.is at (c.in-Ok.ensures.found honest) in
+    let found : (IsFresh s.read → ⊥) × IsSoFar c.new-form.result s.read c.in-Some.found.trees.items c.in-Some.found.place × IsShut (drop c.in-Some.found.place s.read) = rw c.in-Some.is at (c.in-Ok-look.ensures.found honest) in
     let inside = shut_inside c.in-Some.found.place s.read found.2 in
-    subst (λ (x : State). c.in-Some.found.place < length x.read) (sym (c.in-Ok.ensures.synced honest)) inside
+    subst (λ (x : State). c.in-Some.found.place < length x.read) (sym (c.in-Ok-look.ensures.synced honest)) inside
 
-pub returns-in-Some-clause-stands : goal.returns-in-Some-clause-stands
-returns-in-Some-clause-stands g c = λ honest.
+pub returns-clause-stands : goal.returns-clause-stands
+returns-clause-stands g c = λ honest.
     let form = form_of (arc_value c.args.table.now) c.args.rides in
     let same : c.new-form.result ≡ form = search rules in
     let s = g.D.Disk.state c.args.disk in
     let trees = c.in-Some.found.trees.items in
     let place = c.in-Some.found.place in
-    let found : (IsFresh s.read → ⊥) × IsSoFar c.new-form.result s.read trees place × IsShut (drop place s.read) = rw c.in-Some.is at (c.in-Ok.ensures.found honest) in
+    let found : (IsFresh s.read → ⊥) × IsSoFar c.new-form.result s.read trees place × IsShut (drop place s.read) = rw c.in-Some.is at (c.in-Ok-look.ensures.found honest) in
     shut_stands form s.read trees place (subst (λ (f : Form). IsSoFar f s.read trees place) same found.1) found.2
 
-pub returns-in-Some-clause-holds : goal.returns-in-Some-clause-holds
-returns-in-Some-clause-holds g c = λ honest.
+pub returns-clause-holds : goal.returns-clause-holds
+returns-clause-holds g c = λ honest.
     let form = form_of (arc_value c.args.table.now) c.args.rides in
     let same : c.new-form.result ≡ form = search rules in
     let s = g.D.Disk.state c.args.disk in
@@ -147,42 +147,42 @@ returns-in-Some-clause-holds g c = λ honest.
     let trees = c.in-Some.found.trees.items in
     let place = c.in-Some.found.place in
     let stored = c.in-Some.found.stored.items in
-    let found : (IsFresh s.read → ⊥) × IsSoFar c.new-form.result s.read trees place × IsShut (drop place s.read) = rw c.in-Some.is at (c.in-Ok.ensures.found honest) in
-    let stored_are : (stored ≡ sources trees) × IsSetOf (stops_of c.new-form.result.table) c.in-Some.found.present stored = rw c.in-Some.is at c.in-Ok.ensures.stored in
-    let rest = rest_of form trees place s t (subst (λ (f : Form). IsSoFar f s.read trees place) same found.1) found.2 (c.in-Ok.ensures.synced honest) in
+    let found : (IsFresh s.read → ⊥) × IsSoFar c.new-form.result s.read trees place × IsShut (drop place s.read) = rw c.in-Some.is at (c.in-Ok-look.ensures.found honest) in
+    let stored_are : (stored ≡ sources trees) × IsSetOf (stops_of c.new-form.result.table) c.in-Some.found.present stored = rw c.in-Some.is at c.in-Ok-look.ensures.stored in
+    let rest = rest_of form trees place s t (subst (λ (f : Form). IsSoFar f s.read trees place) same found.1) found.2 (c.in-Ok-look.ensures.synced honest) in
     let here : Holds form trees place stored t = record { rest = rest; stored_are = stored_are.0 } in
     subst (λ d. Holds form trees c.resume.result.place c.resume.result.stored.items (g.D.Disk.state d)) (sym c.resume.ensures.disk)
     (subst (λ (n : ℕ). Holds form trees n c.resume.result.stored.items t) (sym c.resume.ensures.place)
     (subst (λ v. Holds form trees place v.items t) (sym c.resume.ensures.stored) here))
 
-pub returns-in-Some-clause-moments : goal.returns-in-Some-clause-moments
-returns-in-Some-clause-moments g c = λ honest.
+pub returns-clause-moments : goal.returns-clause-moments
+returns-clause-moments g c = λ honest.
     let form = form_of (arc_value c.args.table.now) c.args.rides in
     let s = g.D.Disk.state c.args.disk in
     let same : g.D.Disk.state c.resume.result.disk ≡ after_sync s = search rules in
     looked form s (g.D.Disk.state c.resume.result.disk) (g.met.D.Disk.may_stay c.args.disk honest) (inr same)
 
-pub returns-in-Some-clause-lasting : goal.returns-in-Some-clause-lasting
-returns-in-Some-clause-lasting g c = λ honest.
+pub returns-clause-lasting : goal.returns-clause-lasting
+returns-clause-lasting g c = λ honest.
     let form = form_of (arc_value c.args.table.now) c.args.rides in
     let s = g.D.Disk.state c.args.disk in
     let same : g.D.Disk.state c.resume.result.disk ≡ after_sync s = search rules in
     looked_loses form s (g.D.Disk.state c.resume.result.disk) (g.met.D.Disk.may_stay c.args.disk honest) c.syncs_lose_nothing.ensures (inr same)
 
-pub returns-in-Some-clause-trusted : goal.returns-in-Some-clause-trusted
-returns-in-Some-clause-trusted g c = λ honest.
+pub returns-clause-trusted : goal.returns-clause-trusted
+returns-clause-trusted g c = λ honest.
     let form = form_of (arc_value c.args.table.now) c.args.rides in
     let s = g.D.Disk.state c.args.disk in
     let same : g.D.Disk.state c.resume.result.disk ≡ after_sync s = search rules in
     trusts form s (g.D.Disk.state c.resume.result.disk) (looked form s (g.D.Disk.state c.resume.result.disk) (g.met.D.Disk.may_stay c.args.disk honest) (inr same))
 
-pub returns-in-Some-clause-exact : goal.returns-in-Some-clause-exact
-returns-in-Some-clause-exact g c = λ honest trusted.
+pub returns-clause-exact : goal.returns-clause-exact
+returns-clause-exact g c = λ honest trusted.
     let form = form_of (arc_value c.args.table.now) c.args.rides in
     let same : c.new-form.result ≡ form = search rules in
     let s = g.D.Disk.state c.args.disk in
     let trees = c.in-Some.found.trees.items in
     let place = c.in-Some.found.place in
-    let found : (IsFresh s.read → ⊥) × IsSoFar c.new-form.result s.read trees place × IsShut (drop place s.read) = rw c.in-Some.is at (c.in-Ok.ensures.found honest) in
+    let found : (IsFresh s.read → ⊥) × IsSoFar c.new-form.result s.read trees place × IsShut (drop place s.read) = rw c.in-Some.is at (c.in-Ok-look.ensures.found honest) in
     c.trusted_trees.ensures form s s.read trees trusted (g.met.D.Disk.may_stay c.args.disk honest)
     (shut_stands form s.read trees place (subst (λ (f : Form). IsSoFar f s.read trees place) same found.1) found.2)

@@ -18,11 +18,11 @@ sections-preserved g c =
     let trees = c.sections.trees.items in
     let stored = c.sections.stored.items in
     let tree = c.in-Some.section.tree in
-    let inside : (c.sections.place < c.in-Some.section.end) × (c.in-Some.section.end ≤ c.args.end) = rw c.in-Some.is at c.in-Ok.ensures.inside in
+    let inside : (c.sections.place < c.in-Some.section.end) × (c.in-Some.section.end ≤ c.args.end) = rw c.in-Some.is at c.in-Ok-next_section.ensures.inside in
     record {
       honest = (λ h. c.next_section.ensures.honest.0 (c.sections.invariant.honest.0 h), λ h. c.sections.invariant.honest.1 (c.next_section.ensures.honest.1 h));
       same = λ h. c.next_section.ensures.same (c.sections.invariant.honest.0 h) ∙ c.sections.invariant.same h;
-      failures = c.in-Ok.ensures.counted ∙ c.sections.invariant.failures;
+      failures = c.in-Ok-next_section.ensures.counted ∙ c.sections.invariant.failures;
       within = inside.1;
       stored = c.in-Ok-keep.ensures.stored ∙ ap (λ (l : List ℕ). l ++ tree.source ∷ []) c.sections.invariant.stored
           ∙ sym (map-append (λ (t : Content). t.source) trees (tree ∷ []))
@@ -35,7 +35,7 @@ sections-preserved g c =
           let place = c.sections.place in
           let end = c.in-Some.section.end in
           let old = c.sections.invariant.so_far honest begun in
-          let found : IsFound form stored (drop place (g.D.Disk.state c.sections.disk).read) place tree end = rw c.in-Some.is at (c.in-Ok.ensures.found stored c.sections.invariant.present h) in
+          let found : IsFound form stored (drop place (g.D.Disk.state c.sections.disk).read) place tree end = rw c.in-Some.is at (c.in-Ok-next_section.ensures.found stored c.sections.invariant.present h) in
           let here : IsFound form (sources trees) (drop place start.read) place tree end =
           subst (λ (s : State). IsFound form (sources trees) (drop place s.read) place tree end) same
           (subst (λ (l : List ℕ). IsFound form l (drop place (g.D.Disk.state c.sections.disk).read) place tree end) c.sections.invariant.stored found) in
@@ -62,5 +62,5 @@ pub returns-in-None-clause-found : goal.returns-in-None-clause-found
 returns-in-None-clause-found g c = λ honest begun.
     let h = c.sections.invariant.honest.0 honest in
     let place = c.sections.place in
-    let shut : IsShut (drop place (g.D.Disk.state c.sections.disk).read) = rw c.in-None.is at (c.in-Ok.ensures.found c.sections.stored.items c.sections.invariant.present h) in
+    let shut : IsShut (drop place (g.D.Disk.state c.sections.disk).read) = rw c.in-None.is at (c.in-Ok-next_section.ensures.found c.sections.stored.items c.sections.invariant.present h) in
     (c.sections.invariant.so_far honest begun, subst (λ (s : State). IsShut (drop place s.read)) (c.sections.invariant.same honest) shut)
