@@ -1,4 +1,4 @@
-use Rattle.std.proofs.Common.{rules, arith, false, true, ◌≡◌, ◌≢◌, ◌≤◌, ◌+◌, [], ℕ, List, length, take, drop, get_or, sym, ◌∙◌, ap, subst}
+use Rattle.std.proofs.Common.{rules, arith, ◌≡◌, ◌≢◌, ◌≤◌, ◌+◌, [], ℕ, List, length, take, drop, get_or, sym, ◌∙◌, ap, subst}
 use Rattle.std.proofs.lemmas.Bool.{false≢true}
 use Rattle.disk_model.specs.Disk.{State}
 use Rattle.timetable.specs.Table.{Table}
@@ -86,8 +86,8 @@ returns-clause-refused g c = λ honest.
     let tail = tail_of form c.deref-2.result.now c.k-2.result c.in-Ok-header_bytes.header.items table rides-2 c.in-Ok-header_bytes.ensures in
     let bytes = c.deref-3.result.now in
     let other : take (length (header_tail form)) (drop 1 read) ≢ header_tail form = λ same.
-        let there : take (length bytes) (drop 1 (g.D.Disk.state c.read_bytes.new.disk).read) ≡ bytes =
-        subst (λ (s : State). take (length bytes) (drop 1 s.read) ≡ bytes) (sym (c.in-Ok.ensures.same honest))
-        (subst (λ (l : List ℕ). take (length l) (drop 1 read) ≡ l) (sym (c.deref-3.ensures.value ∙ tail)) same) in
-        false≢true (sym c.if-there.false ∙ (c.in-Ok-has_bytes.ensures.there (c.read_bytes.ensures.honest.0 honest)).1 there) in
+    let there : take (length bytes) (drop 1 (g.D.Disk.state c.read_bytes.new.disk).read) ≡ bytes =
+    subst (λ (s : State). take (length bytes) (drop 1 s.read) ≡ bytes) (sym (c.in-Ok.ensures.same honest))
+    (subst (λ (l : List ℕ). take (length l) (drop 1 read) ≡ l) (sym (c.deref-3.ensures.value ∙ tail)) same) in
+    false≢true (sym c.if-there.false ∙ (c.in-Ok-has_bytes.ensures.there (c.read_bytes.ensures.honest.0 honest)).1 there) in
     other_refused form read front other

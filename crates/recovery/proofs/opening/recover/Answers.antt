@@ -1,11 +1,11 @@
-use Rattle.std.proofs.Common.{rules, inl, inr, ◌≡◌, ◌<◌, [], List, ℕ, length, drop, sym, ap, subst}
+use Rattle.std.proofs.Common.{rules, inl, inr, ◌≡◌, ◌<◌, List, ℕ, length, drop, sym, subst}
 use Rattle.std.specs.Arc.{arc_value}
 use Rattle.disk_model.specs.Disk.{State, after_sync}
 use Rattle.pattern_tree.specs.Content.{Content}
 use Rattle.timetable.specs.Table.{stops_of}
-use Rattle.section_store.specs.Sections.{Form, form_of, IsFresh, Stands, sources}
+use Rattle.section_store.specs.Sections.{Form, form_of, IsFresh, sources}
 use Rattle.section_store.specs.Sources.{IsSetOf}
-use Rattle.section_store.specs.Store.{Holds, IsRest}
+use Rattle.section_store.specs.Store.{Holds}
 use Rattle.recovery.specs.Reading.{IsSoFar, IsShut, IsRefusal}
 use Rattle.recovery.proofs.Lasting.{trusts}
 use Rattle.recovery.proofs.Openings.{rest_of, shut_stands, shut_inside}

@@ -1,7 +1,6 @@
-use Rattle.std.proofs.Common.{rules, arith, false, true, not, Bool, IsTrue, ◌≡◌, ◌≢◌, ◌<◌, ◌≤◌, ℕ, List, min, length, take, sym, ◌∙◌, subst, ap}
+use Rattle.std.proofs.Common.{rules, arith, false, true, not, Bool, IsTrue, ◌≡◌, ◌≢◌, ℕ, min, take, sym, subst, ap}
 use Rattle.std.proofs.lemmas.Bool.{false≢true}
 use Rattle.timetable.specs.Table.{Table, IsTable, stops_of}
-use Rattle.pattern_tree.specs.Content.{Content, longest}
 use Rattle.tree_codec.specs.Text.{TreeText, BeginsNoText}
 use Rattle.tree_codec.specs.declared.fault.CodecFault.TheVariants.{Memory}
 use Rattle.section_store.specs.Sections.{IsNew}
