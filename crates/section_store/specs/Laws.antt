@@ -1,5 +1,5 @@
 -- Theorems about what bytes stand for, and about what lasts.
-use Rattle.std.specs.Prelude.{◌≡◌, ℕ, List, [], ◌∷◌, ◌++◌, Result}
+use Rattle.std.specs.Prelude.{◌≡◌, ℕ, List, Result}
 use Rattle.std.specs.List.{All}
 use Rattle.disk_model.specs.Image.{IsOutcome}
 use Rattle.disk_model.specs.Disk.{State, Syncs, empty_disk}

@@ -92,7 +92,7 @@ impl<D: Disk> SectionStore<D> {
         ensures body { (form : Form) (trees : List Content) (tree : Content) → D.honest self.old.disk
             → IsBody form trees tree self.old.place self.old.extent (D.state self.old.disk)
             → OnOk result (IsBody form trees tree self.new.place self.new.extent (D.state self.new.disk)
-                × IsDurable (D.state self.new.disk)) }
+            × IsDurable (D.state self.new.disk)) }
         ensures moments { (form : Form) (trees : List Content) (tree : Content) → D.honest self.old.disk
             → IsBody form trees tree self.old.place self.old.extent (D.state self.old.disk)
             → LeavesOnly (D.state self.old.disk) (D.state self.new.disk) (λ bytes. IsSections form bytes trees) }

@@ -24,7 +24,7 @@ impl<D: Disk> SectionStore<D> {
         ensures holds { (trees : List Content) → D.honest self.old.disk
             → Holds self.old.form trees self.old.place self.old.stored.items (D.state self.old.disk)
             → OnOk result (Holds self.old.form (trees ++ tree.now.tree ∷ []) self.new.place self.new.stored.items
-                (D.state self.new.disk)) }
+            (D.state self.new.disk)) }
         ensures moments { (trees : List Content) → D.honest self.old.disk
             → Holds self.old.form trees self.old.place self.old.stored.items (D.state self.old.disk)
             → LeavesOnly (D.state self.old.disk) (D.state self.new.disk) (IsBeforeOrAfter self.old.form trees tree.now.tree) }

@@ -1,9 +1,8 @@
-use Rattle.std.proofs.Common.{rules, arith, ℕ, ◌≡◌, ◌-◌, ◌<◌, ◌^◌, List, ◌++◌, [], ◌∷◌, length, drop, sym, subst, ◌∙◌, ap, length-append}
+use Rattle.std.proofs.Common.{rules, arith, ℕ, ◌≡◌, ◌-◌, List, ◌++◌, [], ◌∷◌, length, drop, subst, ◌∙◌, ap, length-append}
 use Rattle.std.proofs.lemmas.List.{take_at}
 use Rattle.std.specs.Int.{to_be_bytes, w32}
-use Rattle.timetable.specs.Table.{IsTable, stops_of}
+use Rattle.timetable.specs.Table.{IsTable}
 use Rattle.pattern_tree.specs.Content.{Content}
-use Rattle.pattern_tree.specs.Finished.{IsFinished}
 use Rattle.tree_codec.specs.Text.{TreeText}
 use Rattle.section_store.proofs.Sizes.{text_long, text_within, size_written}
 use Rattle.section_store.proofs.body.fill_body.Goals as goal

@@ -5,7 +5,6 @@ use Rattle.timetable.specs.Table.{stops_of}
 use Rattle.section_store.specs.Sources.{IsSetOf}
 use Rattle.section_store.specs.Store.{IsRest}
 use Rattle.section_store.proofs.Fresh.{header_is, header_length, rest_inside}
-use Rattle.section_store.proofs.Lasting.{still, none_stay}
 use Rattle.section_store.proofs.header.begin.Goals as goal
 
 pub resume-requires-clause-inside : goal.resume-requires-clause-inside

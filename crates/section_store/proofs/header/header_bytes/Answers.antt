@@ -1,4 +1,4 @@
-use Rattle.std.proofs.Common.{rules, arith, ℕ, ◌≡◌, ◌-◌, List, ◌++◌, [], ◌∷◌, length, take, drop, ◌∙◌, sym, ap}
+use Rattle.std.proofs.Common.{rules, arith, ℕ, ◌≡◌, ◌-◌, List, ◌++◌, [], ◌∷◌, length, take, drop, ◌∙◌, ap}
 use Rattle.std.proofs.lemmas.List.{take_at}
 use Rattle.std.specs.Int.{to_be_bytes, w32}
 use Rattle.timetable.specs.Canonical.{canonical}

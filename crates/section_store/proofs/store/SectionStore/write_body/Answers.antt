@@ -9,7 +9,7 @@ use Rattle.pattern_tree.specs.Content.{Content}
 use Rattle.tree_codec.specs.Text.{TreeText}
 use Rattle.tree_codec.proofs.OneForest.{one_text}
 use Rattle.section_store.specs.Fault.{IsTooLarge, limit}
-use Rattle.section_store.specs.Sections.{Form, IsSection, IsSections, IsBeforeOrAfter, IsNew, sources, sized}
+use Rattle.section_store.specs.Sections.{Form, IsSection, IsSections, IsBeforeOrAfter, IsNew, sized}
 use Rattle.section_store.specs.Store.{AreBody, IsBody}
 use Rattle.section_store.specs.declared.step.Step.TheVariants.{WriteBody}
 use Rattle.section_store.proofs.Outcomes.{body_crash, body_written, rest_stands}
@@ -37,7 +37,7 @@ module _ (form : Form) (finished : FinishedTree) (bytes : List ℕ) (body : AreB
 
 -- what the mark of a tree's source tells
 module _ (form : Form) (finished : FinishedTree) (stored : List ℕ) (marked : Bool) (stop : ℕ) (done : IsFinished finished) (ours : finished.table ≡ form.table) (source : stop ≡ finished.tree.source)
-  (told : stop < stops_of form.table → IsTrue (not marked) ↔ IsNew stop stored) where
+    (told : stop < stops_of form.table → IsTrue (not marked) ↔ IsNew stop stored) where
   told_here : IsTrue (not marked) ↔ IsNew stop stored
   told_here = told (subst (λ (t : Table). stop < stops_of t) ours (subst (λ (n : ℕ). n < stops_of finished.table) (sym source) done.source))
 
@@ -52,27 +52,36 @@ returns-then-contains-clause-cause g c =
     let form = c.args.self.now.form in
     let finished = c.args.tree.now in
     let ready : c.args.self.now.next ≡ WriteBody = search rules in
-    let ours : (finished.table ≡ form.table) × (finished.rides ≡ form.rides) = search rules in
-    (ready, ours, old_by form finished c.args.self.now.stored.items c.contains.result c.source.result c.tree.ensures.finished ours.0 (c.source.ensures ∙ ap (λ (t : Content). t.source) c.tree.ensures.value)
-    (c.contains.ensures.new (stops_of form.table) c.args.self.now.stored.items c.args.self.now.set) c.if-contains.true)
+    let ours : (finished.table ≡ form.table) × (finished.rides ≡ form.rides) = search rules in (
+      ready,
+      ours,
+      old_by form finished c.args.self.now.stored.items c.contains.result c.source.result c.tree.ensures.finished ours.0 (c.source.ensures ∙ ap (λ (t : Content). t.source) c.tree.ensures.value)
+          (c.contains.ensures.new (stops_of form.table) c.args.self.now.stored.items c.args.self.now.set) c.if-contains.true,
+    )
 
 pub returns-then-is_err-clause-cause : goal.returns-then-is_err-clause-cause
 returns-then-is_err-clause-cause g c =
     let form = c.args.self.now.form in
     let finished = c.args.tree.now in
     let ready : c.args.self.now.next ≡ WriteBody = search rules in
-    let ours : (finished.table ≡ form.table) × (finished.rides ≡ form.rides) = search rules in
-    (ready, ours, new_by form finished c.args.self.now.stored.items c.contains.result c.source.result c.tree.ensures.finished ours.0 (c.source.ensures ∙ ap (λ (t : Content). t.source) c.tree.ensures.value)
-    (c.contains.ensures.new (stops_of form.table) c.args.self.now.stored.items c.args.self.now.set) c.if-contains.false)
+    let ours : (finished.table ≡ form.table) × (finished.rides ≡ form.rides) = search rules in (
+      ready,
+      ours,
+      new_by form finished c.args.self.now.stored.items c.contains.result c.source.result c.tree.ensures.finished ours.0 (c.source.ensures ∙ ap (λ (t : Content). t.source) c.tree.ensures.value)
+          (c.contains.ensures.new (stops_of form.table) c.args.self.now.stored.items c.args.self.now.set) c.if-contains.false,
+    )
 
 pub returns-in_default-clause-cause : goal.returns-in_default-clause-cause
 returns-in_default-clause-cause g c =
     let form = c.args.self.now.form in
     let finished = c.args.tree.now in
     let ready : c.args.self.now.next ≡ WriteBody = search rules in
-    let ours : (finished.table ≡ form.table) × (finished.rides ≡ form.rides) = search rules in
-    (ready, ours, new_by form finished c.args.self.now.stored.items c.contains.result c.source.result c.tree.ensures.finished ours.0 (c.source.ensures ∙ ap (λ (t : Content). t.source) c.tree.ensures.value)
-    (c.contains.ensures.new (stops_of form.table) c.args.self.now.stored.items c.args.self.now.set) c.if-contains.false)
+    let ours : (finished.table ≡ form.table) × (finished.rides ≡ form.rides) = search rules in (
+      ready,
+      ours,
+      new_by form finished c.args.self.now.stored.items c.contains.result c.source.result c.tree.ensures.finished ours.0 (c.source.ensures ∙ ap (λ (t : Content). t.source) c.tree.ensures.value)
+          (c.contains.ensures.new (stops_of form.table) c.args.self.now.stored.items c.args.self.now.set) c.if-contains.false,
+    )
 
 pub returns-then-self-ge-LIMIT-clause-cause : goal.returns-then-self-ge-LIMIT-clause-cause
 returns-then-self-ge-LIMIT-clause-cause g c =
