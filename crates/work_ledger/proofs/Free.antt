@@ -1,5 +1,5 @@
 -- Which sources are free.
-use Rattle.std.proofs.Common.{◌≡◌, ℕ, ◌+◌, ◌<◌, zero, suc, Bool, true, false, List, [], ◌∷◌, ◌++◌, length, take, cond, count_by, slice_index_or, slice_set, get_or, refl, ap, sym, ◌∙◌, arith}
+use Rattle.std.proofs.Common.{◌≡◌, ◌≢◌, ℕ, ◌+◌, ◌<◌, zero, suc, Bool, true, false, List, [], ◌∷◌, ◌++◌, length, take, cond, count_by, slice_index_or, slice_set, get_or, refl, ap, sym, ◌∙◌, append_nil, arith}
 use Rattle.std.proofs.lemmas.List.{take_more, length-take}
 use Rattle.std.proofs.lemmas.List.Sums.{sum_by-cons}
 use Rattle.work_ledger.specs.declared.entry.Status.{Status}
@@ -78,3 +78,21 @@ free_from_more sources n below =
     ap (λ (w : List Status). free_from 0 w) (take_more sources n Dropped below)
     ∙ (free_from-append 0 (take n sources) (slice_index_or sources n Dropped ∷ [])
     ∙ ap (λ (m : ℕ). free_from 0 (take n sources) ++ free_from m (slice_index_or sources n Dropped ∷ [])) long)
+
+shut_unless_free : (x : Status) → x ≢ Free → is_free x ≡ false
+shut_unless_free Free n = absurd (n refl)
+shut_unless_free (Claimed seat) n = refl
+shut_unless_free Queued n = refl
+shut_unless_free Taken n = refl
+shut_unless_free Kept n = refl
+shut_unless_free Dropped n = refl
+
+pub free_one_more : (sources : List Status) (n : ℕ) → n < length sources → slice_index_or sources n Dropped ≡ Free → free_from 0 (take (n + 1) sources) ≡ free_from 0 (take n sources) ++ n ∷ []
+free_one_more sources n below is =
+    free_from_more sources n below ∙ ap (λ (x : Status). free_from 0 (take n sources) ++ cond (is_free x) (n ∷ []) []) is
+
+pub free_none_more : (sources : List Status) (n : ℕ) → n < length sources → slice_index_or sources n Dropped ≢ Free → free_from 0 (take (n + 1) sources) ≡ free_from 0 (take n sources)
+free_none_more sources n below other =
+    free_from_more sources n below
+    ∙ (ap (λ (b : Bool). free_from 0 (take n sources) ++ cond b (n ∷ []) []) (shut_unless_free (slice_index_or sources n Dropped) other)
+    ∙ append_nil (free_from 0 (take n sources)))

@@ -11,7 +11,7 @@ use Rattle.work_ledger.specs.declared.entry.Reply.TheVariants.{Source, Tree, Don
 use Rattle.work_ledger.specs.declared.entry.Entry.{Entry}
 use Rattle.pattern_tree.specs.Finished.{FinishedTree}
 use Rattle.timetable.specs.Table.{Table}
-use Rattle.work_ledger.specs.Object.{State, Step, Legal, is_free, is_claimed, settled, MayCome}
+use Rattle.work_ledger.specs.Object.{State, Step, Legal, NoneLeft, is_free, is_claimed, settled, MayCome}
 use Rattle.work_ledger.specs.Book.{View, IsKept, IsOurs, AreOurs, AreOthers, AreQueued, free_from, state_of, first_of, sources_of}
 use Rattle.work_ledger.proofs.Free.{free_from-set, least, length-free_from}
 use Rattle.work_ledger.proofs.Waiting.{are_others, queued_set, queued_push, ours_push}
@@ -189,6 +189,10 @@ few_claimed v frees claims k = omega (arith, count_by-le-length is_claimed v.sou
 
 pub how_many_free : (v : View) (frees : List ℕ) (claims : ℕ) → IsKept v frees claims → length frees ≡ count_by is_free v.sources
 how_many_free v frees claims k = ap length k.free ∙ length-free_from 0 v.sources
+
+pub none_left : (v : View) (frees : List ℕ) (claims : ℕ) → IsKept v frees claims → (v.stopped ≡ true) ⊎ (length frees ≡ 0) → NoneLeft (state_of v)
+none_left v frees claims k (inl s) = inl s
+none_left v frees claims k (inr n) = inr (sym (how_many_free v frees claims k) ∙ n)
 
 pub may_come : (v : View) (frees : List ℕ) (claims : ℕ) → IsKept v frees claims → (0 < claims) ⊎ ((v.stopped ≡ false) × (0 < length frees)) → MayCome (state_of v)
 may_come v frees claims k (inl c) = inl (rw k.claimed c)

@@ -1,6 +1,6 @@
 //! The ledger and its calls.
 
-ghost use Rattle.std.specs.Prelude.{◌≡◌, ◌↔◌, IsTrue, IfErr, IsOk, ◌<◌, ◌≤◌, ◌++◌, ◌∷◌, [], length, All, IfOk, OnErr, OnOk};
+ghost use Rattle.std.specs.Prelude.{◌≡◌, ◌↔◌, IsTrue, IfErr, IsOk, ◌<◌, ◌≤◌, ◌++◌, ◌∷◌, [], length, All, IfOk, OnErr, OnOk, true};
 ghost use Rattle.std.specs.Arc.{arc_value};
 ghost use Rattle.timetable.specs.Table.{stops_of};
 ghost use Rattle.work_ledger.specs.Object.{Legal, MayCome, status_of};

@@ -1,15 +1,24 @@
-use Rattle.std.proofs.Common.{◌≡◌, ◌<◌, length, true, count_by, slice_index_or, inl, inr, ◌⊎◌, refl, arith, sym, ◌∙◌}
+use Rattle.std.proofs.Common.{◌≡◌, ◌<◌, length, true, false, inl, inr, ◌⊎◌, ◌∷◌, refl, arith, sym, ◌∙◌}
 use Rattle.work_ledger.specs.declared.entry.Call.TheVariants.{Claim}
 use Rattle.work_ledger.specs.declared.entry.Reply.TheVariants.{Source, Closed}
 use Rattle.work_ledger.proofs.ledger.Ledger.claim.Goals as goal
 use Rattle.work_ledger.proofs.ledger.Ledger.claim.Goals.{then-self-via-then-self, then-self-via-else-self+then-is_empty}
-use Rattle.work_ledger.specs.Object.{is_free}
-use Rattle.work_ledger.proofs.Keeping.{kept_same, kept_claim, added, how_many_free}
+use Rattle.work_ledger.proofs.Keeping.{kept_same, kept_claim, added, none_left}
 
 pub invariant_of-self-then-self : goal.invariant_of-self-then-self
 invariant_of-self-then-self c =
-    let none : (c.self.inside.stopped ≡ true) ⊎ (count_by is_free c.self.inside.sources.items ≡ 0) = elim c.then-self.branch [ then-self-via-then-self w ↦ inl w.if-self.true | then-self-via-else-self+then-is_empty w ↦ inr ? ] in
-    (kept_same _ _ _ (record { call = Claim c.args.seat; reply = Closed }) _ c.self.invariant.0 (none, refl) c.in_ok-note.ensures.added, c.in_ok-note.ensures.room, c.self.invariant.2)
+    let none : (c.self.inside.stopped ≡ true) ⊎ (length c.self.inside.free.items ≡ 0) = elim c.then-self.branch [ then-self-via-then-self w ↦ inl w.if-self.true | then-self-via-else-self+then-is_empty w ↦ inr (grind (arith, w.is_empty.ensures, w.if-is_empty.true)) ] in
+    (kept_same _ _ _ (record { call = Claim c.args.seat; reply = Closed }) _ c.self.invariant.0 (none_left _ _ _ c.self.invariant.0 none, refl) c.in_ok-note.ensures.added, c.in_ok-note.ensures.room, c.self.invariant.2)
+
+pub returns-then-self-clause-made : goal.returns-then-self-clause-made
+returns-then-self-clause-made c = ?
+
+pub index_mut-requires : goal.index_mut-requires
+index_mut-requires c = ?
+
+pub returns-clause-made : goal.returns-clause-made
+returns-clause-made c = ?
 
 pub invariant_of-self-2 : goal.invariant_of-self-2
-invariant_of-self-2 c = ?
+invariant_of-self-2 c =
+    rw c.number.ensures.value ((kept_claim _ _ _ c.in-Some.source c.args.seat _ _ c.self.invariant.0 c.in-Some.ensures.items c.if-self.false (added _ _ _ _ c.in_ok-reserve.ensures.items c.push_reserved.ensures.items)).0, omega (arith, c.in_ok-reserve.ensures.ok, c.in_ok-reserve.ensures.len, c.push_reserved.ensures.len, c.push_reserved.ensures.capacity), c.self.invariant.2)
