@@ -1,5 +1,5 @@
 -- Which sources are free.
-use Rattle.std.proofs.Common.{◌≡◌, ◌≢◌, ℕ, ◌+◌, ◌<◌, zero, suc, Bool, true, false, List, [], ◌∷◌, ◌++◌, length, take, cond, count_by, slice_index_or, slice_set, get_or, refl, ap, sym, ◌∙◌, append_nil, arith}
+use Rattle.std.proofs.Common.{◌≡◌, ◌≢◌, ℕ, ◌+◌, ◌<◌, zero, suc, Bool, true, false, List, [], ◌∷◌, ◌++◌, length, take, cond, count_by, slice_index_or, slice_set, get_or, refl, ap, sym, ◌∙◌, append-nil, arith}
 use Rattle.std.proofs.lemmas.List.{take_more, length-take}
 use Rattle.std.proofs.lemmas.List.Sums.{sum_by-cons}
 use Rattle.work_ledger.specs.declared.entry.Status.{Status}
@@ -95,4 +95,4 @@ pub free_none_more : (sources : List Status) (n : ℕ) → n < length sources �
 free_none_more sources n below other =
     free_from_more sources n below
     ∙ (ap (λ (b : Bool). free_from 0 (take n sources) ++ cond b (n ∷ []) []) (shut_unless_free (slice_index_or sources n Dropped) other)
-    ∙ append_nil (free_from 0 (take n sources)))
+    ∙ append-nil (free_from 0 (take n sources)))

@@ -196,13 +196,14 @@ impl Ledger {
         }
     {
         let source = tree.tree().tree().source();
-        let call = Call::HandIn(seat, source, tree.fits());
         if !tree.fits() {
+            let call = Call::HandIn(seat, source, false);
             let Ok(()) = note(&mut self.history, self.claimed, call, Reply::OtherTimetable) else {
                 return Err((Refusal::Memory, tree));
             };
             return Err((Refusal::OtherTimetable, tree));
         }
+        let call = Call::HandIn(seat, source, true);
         if status_at(&self.sources, source) != Status::Claimed(seat) {
             let Ok(()) = note(&mut self.history, self.claimed, call, Reply::NotYours) else {
                 return Err((Refusal::Memory, tree));
