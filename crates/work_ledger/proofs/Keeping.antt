@@ -198,6 +198,9 @@ pub may_come : (v : View) (frees : List ℕ) (claims : ℕ) → IsKept v frees c
 may_come v frees claims k (inl c) = inl (rw k.claimed c)
 may_come v frees claims k (inr f) = inr (f.0, rw (← how_many_free v frees claims k) f.1)
 
+pub who_comes : (v : View) (frees : List ℕ) (claims : ℕ) → IsKept v frees claims → MayCome (state_of v) → (0 < claims) ⊎ ((v.stopped ≡ false) × (0 < length frees))
+who_comes v frees claims k (inl m) = inl (rw (← k.claimed) m)
+who_comes v frees claims k (inr m) = inr (m.0, rw (how_many_free v frees claims k) m.1)
+
 pub none_come : (v : View) (frees : List ℕ) (claims : ℕ) → IsKept v frees claims → ((0 < claims) ⊎ ((v.stopped ≡ false) × (0 < length frees)) → ⊥) → MayCome (state_of v) → ⊥
-none_come v frees claims k n (inl m) = n (inl (rw (← k.claimed) m))
-none_come v frees claims k n (inr m) = n (inr (m.0, rw (how_many_free v frees claims k) m.1))
+none_come v frees claims k n m = n (who_comes v frees claims k m)
