@@ -72,12 +72,12 @@ free_from-append number (x ∷ xs) ys =
     ap (λ (w : List ℕ). cond (is_free x) (number ∷ w) w) rest ∙ moved (is_free x) number (free_from (number + 1) xs) (free_from (number + length (x ∷ xs)) ys)
 
 -- the free ones of one source more
-pub free_from_more : (sources : List Status) (n : ℕ) → n < length sources → free_from 0 (take (n + 1) sources) ≡ free_from 0 (take n sources) ++ cond (is_free (slice_index_or sources n Dropped)) (n ∷ []) []
+free_from_more : (sources : List Status) (n : ℕ) → n < length sources → free_from 0 (take (n + 1) sources) ≡ free_from 0 (take n sources) ++ cond (is_free (slice_index_or sources n Free)) (n ∷ []) []
 free_from_more sources n below =
     let long : 0 + length (take n sources) ≡ n = omega (arith, length-take n sources) in
-    ap (λ (w : List Status). free_from 0 w) (take_more sources n Dropped below)
-    ∙ (free_from-append 0 (take n sources) (slice_index_or sources n Dropped ∷ [])
-    ∙ ap (λ (m : ℕ). free_from 0 (take n sources) ++ free_from m (slice_index_or sources n Dropped ∷ [])) long)
+    ap (λ (w : List Status). free_from 0 w) (take_more sources n Free below)
+    ∙ (free_from-append 0 (take n sources) (slice_index_or sources n Free ∷ [])
+    ∙ ap (λ (m : ℕ). free_from 0 (take n sources) ++ free_from m (slice_index_or sources n Free ∷ [])) long)
 
 shut_unless_free : (x : Status) → x ≢ Free → is_free x ≡ false
 shut_unless_free Free n = absurd (n refl)
@@ -87,12 +87,12 @@ shut_unless_free Taken n = refl
 shut_unless_free Kept n = refl
 shut_unless_free Dropped n = refl
 
-pub free_one_more : (sources : List Status) (n : ℕ) → n < length sources → slice_index_or sources n Dropped ≡ Free → free_from 0 (take (n + 1) sources) ≡ free_from 0 (take n sources) ++ n ∷ []
+pub free_one_more : (sources : List Status) (n : ℕ) → n < length sources → slice_index_or sources n Free ≡ Free → free_from 0 (take (n + 1) sources) ≡ free_from 0 (take n sources) ++ n ∷ []
 free_one_more sources n below is =
     free_from_more sources n below ∙ ap (λ (x : Status). free_from 0 (take n sources) ++ cond (is_free x) (n ∷ []) []) is
 
-pub free_none_more : (sources : List Status) (n : ℕ) → n < length sources → slice_index_or sources n Dropped ≢ Free → free_from 0 (take (n + 1) sources) ≡ free_from 0 (take n sources)
+pub free_none_more : (sources : List Status) (n : ℕ) → n < length sources → slice_index_or sources n Free ≢ Free → free_from 0 (take (n + 1) sources) ≡ free_from 0 (take n sources)
 free_none_more sources n below other =
     free_from_more sources n below
-    ∙ (ap (λ (b : Bool). free_from 0 (take n sources) ++ cond b (n ∷ []) []) (shut_unless_free (slice_index_or sources n Dropped) other)
+    ∙ (ap (λ (b : Bool). free_from 0 (take n sources) ++ cond b (n ∷ []) []) (shut_unless_free (slice_index_or sources n Free) other)
     ∙ append-nil (free_from 0 (take n sources)))
