@@ -27,13 +27,15 @@ HasLeast number sources s others status = (at : ℕ) × IsLeast number sources s
 
 later : (number : ℕ) (x : Status) (xs : List Status) (s : ℕ) (others : List ℕ) (status : Status) → is_free x ≡ false → HasLeast (number + 1) xs s others status → HasLeast number (x ∷ xs) s others status
 later number x xs s others status shut h =
-    let l = h.1 in
-    (suc h.0, record {
-      place = omega (arith, l.place);
-      below = omega (arith, l.below);
-      free = l.free;
-      left = rw shut l.left
-      })
+    let l = h.1 in (
+      suc h.0,
+      record {
+        place = omega (arith, l.place);
+        below = omega (arith, l.below);
+        free = l.free;
+        left = rw shut l.left;
+      },
+    )
 
 -- the first of the free sources is free, and where it passes to another the others are free
 pub least : (number : ℕ) (sources : List Status) (s : ℕ) (others : List ℕ) (status : Status) → s ∷ others ≡ free_from number sources → is_free status ≡ false → HasLeast number sources s others status

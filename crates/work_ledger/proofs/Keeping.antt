@@ -31,8 +31,8 @@ kept_same v frees claims e h k s is = record {
   waiting = k.waiting;
   ours = k.ours;
   stops = k.stops;
-  room = k.room
-  }
+  room = k.room;
+}
 
 pub added : (xs ys zs : List Entry) (e : Entry) → ys ≡ xs → zs ≡ ys ++ e ∷ [] → zs ≡ xs ++ e ∷ []
 added xs ys zs e a b = b ∙ ap (λ (w : List Entry). w ++ e ∷ []) a
@@ -70,8 +70,8 @@ kept_pass v frees claims s status trees frees' claims' e h k below f c waiting o
   waiting = waiting;
   ours = ours;
   stops = rw (length-set v.sources s status) k.stops;
-  room = room
-  }
+  room = room;
+}
 
 -- the least free source is claimed
 pub kept_claim : (v : View) (frees : List ℕ) (claims s seat : ℕ) (others : List ℕ) (h : List Entry) → IsKept v frees claims → frees ≡ s ∷ others → v.stopped ≡ false → h ≡ v.history ++ record { call = Claim seat; reply = Source s } ∷ []
@@ -122,7 +122,7 @@ kept_take v frees claims t ts h k are is =
     let room : length ts ≤ v.room = omega (arith, ap (λ (w : List FinishedTree). length w) are, k.room) in
     let below : t.tree.source < length v.sources = is_source v.sources t.tree.source (λ d. absurd (cc (waiting.0, d))) in
     kept_move v frees claims t.tree.source Taken ts (record { call = Take; reply = Tree t.tree.source }) h k below (ap is_free waiting.0, ap is_claimed waiting.0) (refl, refl)
-      (queued_set v.sources ts t.tree.source Taken waiting.1 waiting.2) ours.2 room (ap sources_of are, refl, refl) is
+    (queued_set v.sources ts t.tree.source Taken waiting.1 waiting.2) ours.2 room (ap sources_of are, refl, refl) is
 
 taken_others : (v : View) (frees : List ℕ) (claims s : ℕ) → IsKept v frees claims → slice_index_or v.sources s Dropped ≡ Taken → AreOthers s v.trees
 taken_others v frees claims s k was = are_others v.sources v.trees s (λ q. absurd (cc (was, q))) k.waiting
@@ -133,11 +133,11 @@ pub kept_ack : (v : View) (frees : List ℕ) (claims s : ℕ) (outcome : Outcome
 kept_ack v frees claims s Keep h k was is =
     let below : s < length v.sources = is_source v.sources s (λ d. absurd (cc (was, d))) in
     kept_move v frees claims s Kept v.trees (record { call = Ack s Keep; reply = Done }) h k below (ap is_free was, ap is_claimed was) (refl, refl)
-      (queued_set v.sources v.trees s Kept (taken_others v frees claims s k was) k.waiting) k.ours k.room (was, refl) is
+    (queued_set v.sources v.trees s Kept (taken_others v frees claims s k was) k.waiting) k.ours k.room (was, refl) is
 kept_ack v frees claims s Discard h k was is =
     let below : s < length v.sources = is_source v.sources s (λ d. absurd (cc (was, d))) in
     kept_move v frees claims s Dropped v.trees (record { call = Ack s Discard; reply = Done }) h k below (ap is_free was, ap is_claimed was) (refl, refl)
-      (queued_set v.sources v.trees s Dropped (taken_others v frees claims s k was) k.waiting) k.ours k.room (was, refl) is
+    (queued_set v.sources v.trees s Dropped (taken_others v frees claims s k was) k.waiting) k.ours k.room (was, refl) is
 
 claimed_others : (v : View) (frees : List ℕ) (claims s seat : ℕ) → IsKept v frees claims → slice_index_or v.sources s Dropped ≡ Claimed seat → AreOthers s v.trees
 claimed_others v frees claims s seat k was = are_others v.sources v.trees s (λ q. absurd (cc (was, q))) k.waiting
@@ -147,7 +147,7 @@ pub kept_back : (v : View) (frees : List ℕ) (claims s seat : ℕ) (h : List En
     → IsKept (record v { sources = slice_set v.sources s Dropped; history = h }) frees (claims - 1)
 kept_back v frees claims s seat h k was is =
     kept_give v frees claims s seat Dropped v.trees (record { call = GiveBack seat s; reply = Done }) h k was (refl, refl)
-      (queued_set v.sources v.trees s Dropped (claimed_others v frees claims s seat k was) k.waiting) k.ours k.room (was, refl) is
+    (queued_set v.sources v.trees s Dropped (claimed_others v frees claims s seat k was) k.waiting) k.ours k.room (was, refl) is
 
 -- a tree is handed in
 pub kept_hand : (v : View) (frees : List ℕ) (claims seat : ℕ) (t : FinishedTree) (h : List Entry) → IsKept v frees claims → slice_index_or v.sources t.tree.source Dropped ≡ Claimed seat → length v.trees < v.room → IsOurs v t → h ≡ v.history ++ record { call = HandIn seat t.tree.source true; reply = Done } ∷ []
@@ -161,7 +161,7 @@ kept_hand v frees claims seat t h k was room mine is =
     let queue : sources_of (v.trees ++ t ∷ []) ≡ sources_of v.trees ++ t.tree.source ∷ [] = map-append (λ (d : FinishedTree). d.tree.source) v.trees (t ∷ []) in
     let fits : length (sources_of v.trees) < v.room = rw (length-map v.trees (λ (d : FinishedTree). d.tree.source)) room in
     kept_give v frees claims t.tree.source seat Queued (v.trees ++ t ∷ []) (record { call = HandIn seat t.tree.source true; reply = Done }) h k was (refl, refl) waiting (ours_push v.table v.rides v.trees t k.ours mine) long
-      (refl, was, fits, ap (λ (q : List ℕ). record { sources = slice_set v.sources t.tree.source Queued; queue = q; stopped = v.stopped }) queue) is
+    (refl, was, fits, ap (λ (q : List ℕ). record { sources = slice_set v.sources t.tree.source Queued; queue = q; stopped = v.stopped }) queue) is
 
 -- no more are given out
 pub kept_stop : (v : View) (frees : List ℕ) (claims : ℕ) (h : List Entry) → IsKept v frees claims → h ≡ v.history ++ record { call = Stop; reply = Done } ∷ []
@@ -173,8 +173,8 @@ kept_stop v frees claims h k is = record {
   waiting = k.waiting;
   ours = k.ours;
   stops = k.stops;
-  room = k.room
-  }
+  room = k.room;
+}
 
 -- there is one claimed source at least
 pub some_claimed : (v : View) (frees : List ℕ) (claims s seat : ℕ) → IsKept v frees claims → slice_index_or v.sources s Dropped ≡ Claimed seat → 0 < claims

@@ -31,8 +31,8 @@ at_mark stops xs s k below here false is =
 pub mark_more : (stops : ℕ) (xs : List ℕ) (s : ℕ) → s < stops → slice_set (map (first_status xs) (range_with_len 0 stops)) s Kept ≡ map (first_status (xs ++ s ∷ [])) (range_with_len 0 stops)
 mark_more stops xs s below =
     fill_by_all (first_status (xs ++ s ∷ [])) (slice_set (map (first_status xs) (range_with_len 0 stops)) s Kept) stops Dropped
-      (length-set (map (first_status xs) (range_with_len 0 stops)) s Kept ∙ length-map-range_with_len (first_status xs) 0 stops)
-      (λ k here. at_mark stops xs s k below here (k == s) refl ∙ sym (first_status-more xs s k))
+    (length-set (map (first_status xs) (range_with_len 0 stops)) s Kept ∙ length-map-range_with_len (first_status xs) 0 stops)
+    (λ k here. at_mark stops xs s k below here (k == s) refl ∙ sym (first_status-more xs s k))
 
 pub all_free : (stops : ℕ) → replicate {A = Status} stops Free ≡ (first_state stops []).sources
 all_free stops = fill_by_all (first_status []) (replicate stops Free) stops Dropped (length-replicate stops Free) (λ k below. get_or-replicate stops k Free Dropped below)
@@ -60,14 +60,14 @@ pub kept_new : (v : View) (frees : List ℕ) → v.sources ≡ (first_of v).sour
 kept_new v frees sources trees stopped history free stops =
     let here : state_of v ≡ first_of v = state_eq sources (ap sources_of trees) stopped in
     record {
-  legal = rw history here;
-  free = free;
-  claimed = rw sources (none_claimed v.stored (range_with_len 0 (stops_of v.table)));
-  waiting = rw trees tt;
-  ours = rw trees tt;
-  stops = rw sources (rw (length-map-range_with_len (first_status v.stored) 0 (stops_of v.table)) stops);
-  room = rw trees (omega arith)
-  }
+      legal = rw history here;
+      free = free;
+      claimed = rw sources (none_claimed v.stored (range_with_len 0 (stops_of v.table)));
+      waiting = rw trees tt;
+      ours = rw trees tt;
+      stops = rw sources (rw (length-map-range_with_len (first_status v.stored) 0 (stops_of v.table)) stops);
+      room = rw trees (omega arith);
+    }
 
 pub marked : (stops : ℕ) (sources : List Status) (stored : List ℕ) (i s : ℕ) → i < length stored → s ≡ get_or stored i s → s < stops → sources ≡ (first_state stops (take i stored)).sources → slice_set sources s Kept ≡ (first_state stops (take (i + 1) stored)).sources
 marked stops sources stored i s below is small so =

@@ -53,7 +53,8 @@ AreOthers s (t ∷ ts) = (t.tree.source ≢ s) × AreOthers s ts
 -- the sources of the waiting trees are queued, and no two trees are of one source
 abbrev pub AreQueued : List Status → List FinishedTree → Type 0
 AreQueued sources [] = Unit {0}
-AreQueued sources (t ∷ ts) = (slice_index_or sources t.tree.source Dropped ≡ Queued) × AreOthers t.tree.source ts × AreQueued sources ts
+AreQueued sources (t ∷ ts) =
+    (slice_index_or sources t.tree.source Dropped ≡ Queued) × AreOthers t.tree.source ts × AreQueued sources ts
 
 -- each is of this timetable and number of rides
 abbrev pub AreOurs : Table → ℕ → List FinishedTree → Type 0

@@ -24,7 +24,8 @@ claim_reply C.Closed = R.Closed
 -- take answers the tree that waited longest, and no other tree leaves
 abbrev pub Takes : View → Taken → View → Type 0
 Takes old (T.Tree t) new =
-    (old.trees ≡ t ∷ new.trees) × IsOurs old t × (status_of (state_of old) t.tree.source ≡ Queued) × Made old Take (R.Tree t.tree.source) new
+    (old.trees ≡ t ∷ new.trees) × IsOurs old t × (status_of (state_of old) t.tree.source ≡ Queued)
+    × Made old Take (R.Tree t.tree.source) new
 Takes old T.Empty new = (new.trees ≡ old.trees) × Made old Take R.Empty new
 Takes old T.Closed new = (new.trees ≡ old.trees) × Made old Take R.Closed new
 

@@ -47,33 +47,29 @@ impl Model for Ledger {
 
     ghost Value = { View };
 
-    ghost view = {
-        λ l. record {
-            table = arc_value l.table;
-            rides = l.rides;
-            room = l.room;
-            stored = l.stored.items;
-            sources = l.sources.items;
-            trees = l.queue.items;
-            stopped = l.stopped;
-            history = l.history.items
-        }
-    };
+    ghost view = { λ l. record {
+      table = arc_value l.table;
+      rides = l.rides;
+      room = l.room;
+      stored = l.stored.items;
+      sources = l.sources.items;
+      trees = l.queue.items;
+      stopped = l.stopped;
+      history = l.history.items;
+    } };
 
-    ghost invariant = {
-        λ l. IsKept (record {
-            table = arc_value l.table;
-            rides = l.rides;
-            room = l.room;
-            stored = l.stored.items;
-            sources = l.sources.items;
-            trees = l.queue.items;
-            stopped = l.stopped;
-            history = l.history.items
-        }) l.free.items l.claimed
+    ghost invariant = { λ l. IsKept (record {
+      table = arc_value l.table;
+      rides = l.rides;
+      room = l.room;
+      stored = l.stored.items;
+      sources = l.sources.items;
+      trees = l.queue.items;
+      stopped = l.stopped;
+      history = l.history.items;
+    }) l.free.items l.claimed
         × (vec_len l.history + l.claimed ≤ vec_capacity l.history)
-        × (l.room ≤ deque_capacity l.queue)
-    };
+        × (l.room ≤ deque_capacity l.queue) };
 }
 
 impl Ledger {
@@ -165,12 +161,10 @@ impl Ledger {
         ensures made { OnOk result (Made self.old (Call.HandIn seat tree.tree.source true) Reply.Done self.new) }
         ensures back { IfErr result (λ r. r.1 ≡ tree) }
         ensures refused { IfErr result (λ r. TurnsAway self.old seat tree r.0 self.new) }
-        ensures taken_in {
-            IsOurs self.old tree
+        ensures taken_in { IsOurs self.old tree
             → status_of (state_of self.old) tree.tree.source ≡ Status.Claimed seat
             → length self.old.trees < self.old.room
-            → IsOk result
-        }
+            → IsOk result }
     {
         let compared = Compared::new(tree, &self.table, self.rides);
         match self.hand_in_compared(seat, compared) {
@@ -188,12 +182,10 @@ impl Ledger {
         ensures made { OnOk result (Made self.old (Call.HandIn seat tree.tree.tree.source true) Reply.Done self.new) }
         ensures back { IfErr result (λ r. r.1 ≡ tree) }
         ensures refused { IfErr result (λ r. TurnsAway self.old seat tree.tree r.0 self.new) }
-        ensures taken_in {
-            IsOurs self.old tree.tree
+        ensures taken_in { IsOurs self.old tree.tree
             → status_of (state_of self.old) tree.tree.tree.source ≡ Status.Claimed seat
             → length self.old.trees < self.old.room
-            → IsOk result
-        }
+            → IsOk result }
     {
         let source = tree.tree().tree().source();
         if !tree.fits() {

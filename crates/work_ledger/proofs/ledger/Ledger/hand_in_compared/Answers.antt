@@ -32,8 +32,9 @@ invariant_of-self-2 c =
     let room : length c.self.inside.queue.items < c.self.inside.room = grind (arith, c.len.ensures, c.if-len-self.false, c.self.invariant.0.room) in
     let fits = c.fits.ensures.0 (grind (arith, c.if-not-fits.false)) in
     let mine : (c.args.tree.tree.table ≡ arc_value c.self.inside.table) × (c.args.tree.tree.rides ≡ c.self.inside.rides) =
-        (fits.0 ∙ (c.requires.table ∙ ap (λ (v : View). v.table) (sym c.self.view_is)), fits.1 ∙ (c.requires.rides ∙ ap (λ (v : View). v.rides) (sym c.self.view_is))) in
-    rw (c.number.ensures.value, named, c.push_back_reserved.ensures.items, c.into_tree.ensures)
-      (kept_hand _ _ _ c.args.seat c.args.tree.tree _ c.self.invariant.0 was room mine (rw (← named) c.push_reserved.ensures.items),
-       omega (arith, some_claimed _ _ _ c.args.tree.tree.tree.source c.args.seat c.self.invariant.0 was, c.self.invariant.1, c.push_reserved.ensures.len, c.push_reserved.ensures.capacity),
-       rw c.push_back_reserved.ensures.capacity c.self.invariant.2)
+    (fits.0 ∙ (c.requires.table ∙ ap (λ (v : View). v.table) (sym c.self.view_is)), fits.1 ∙ (c.requires.rides ∙ ap (λ (v : View). v.rides) (sym c.self.view_is))) in
+    rw (c.number.ensures.value, named, c.push_back_reserved.ensures.items, c.into_tree.ensures) (
+      kept_hand _ _ _ c.args.seat c.args.tree.tree _ c.self.invariant.0 was room mine (rw (← named) c.push_reserved.ensures.items),
+      omega (arith, some_claimed _ _ _ c.args.tree.tree.tree.source c.args.seat c.self.invariant.0 was, c.self.invariant.1, c.push_reserved.ensures.len, c.push_reserved.ensures.capacity),
+      rw c.push_back_reserved.ensures.capacity c.self.invariant.2,
+    )

@@ -11,7 +11,9 @@ free_sources-requires c =
     rw (c.deref-2.ensures.value, c.in_ok-sources.ensures) (rw (length-map-range_with_len (first_status c.args.stored.now) 0 c.stops.result) (omega (arith, c.stops.ensures.value, c.stops.ensures.valid.few_stops)))
 
 pub invariant_of-result : goal.invariant_of-result
-invariant_of-result c =
-    (kept_new _ _ (rw (c.in_ok-copied.ensures, c.in_ok-try_clone.ensures, c.in_ok-sources.ensures, c.stops.ensures.value, c.deref.ensures) refl) c.in_ok-with_capacity.ensures.items refl c.new.ensures.items (c.in_ok-free.ensures ∙ ap (λ w. free_from 0 w) c.deref-2.ensures.value)
-       (rw c.in_ok-try_clone.ensures (omega (arith, c.stops.ensures.valid.few_stops, ap (λ t. stops_of t) c.deref.ensures))),
-     omega (arith, c.new.ensures.len), c.in_ok-with_capacity.ensures.capacity)
+invariant_of-result c = (
+  kept_new _ _ (rw (c.in_ok-copied.ensures, c.in_ok-try_clone.ensures, c.in_ok-sources.ensures, c.stops.ensures.value, c.deref.ensures) refl) c.in_ok-with_capacity.ensures.items refl c.new.ensures.items (c.in_ok-free.ensures ∙ ap (λ w. free_from 0 w) c.deref-2.ensures.value)
+      (rw c.in_ok-try_clone.ensures (omega (arith, c.stops.ensures.valid.few_stops, ap (λ t. stops_of t) c.deref.ensures))),
+  omega (arith, c.new.ensures.len),
+  c.in_ok-with_capacity.ensures.capacity,
+)
