@@ -10,7 +10,6 @@ use Rattle.work_ledger.specs.declared.entry.Call.TheVariants.{Claim, HandIn, Giv
 use Rattle.work_ledger.specs.declared.entry.Reply.TheVariants.{Source, Tree, Done}
 use Rattle.work_ledger.specs.declared.entry.Entry.{Entry}
 use Rattle.pattern_tree.specs.Finished.{FinishedTree}
-use Rattle.timetable.specs.Table.{Table}
 use Rattle.work_ledger.specs.Object.{State, Step, Legal, NoneLeft, is_free, is_claimed, settled, MayCome}
 use Rattle.work_ledger.specs.Book.{View, IsKept, IsOurs, AreOurs, AreOthers, AreQueued, free_from, state_of, first_of, sources_of}
 use Rattle.work_ledger.proofs.Free.{free_from-set, least, length-free_from}

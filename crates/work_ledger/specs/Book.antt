@@ -1,5 +1,5 @@
 -- The ledger as contracts see it, what its type keeps, and what one call adds.
-use Rattle.std.specs.Prelude.{◌≡◌, ◌≢◌, ℕ, ◌+◌, ◌<◌, ◌≤◌, Bool, List, [], ◌∷◌, ◌++◌, length, map, cond, count_by, slice_index_or}
+use Rattle.std.specs.Prelude.{◌≡◌, ◌≢◌, ℕ, ◌+◌, ◌≤◌, Bool, List, [], ◌∷◌, ◌++◌, length, map, cond, count_by, slice_index_or}
 use Rattle.work_ledger.specs.declared.entry.Status.{Status}
 use Rattle.work_ledger.specs.declared.entry.Status.TheVariants.{Queued, Dropped}
 use Rattle.work_ledger.specs.declared.entry.Call.{Call}

@@ -1,6 +1,6 @@
-use Rattle.std.proofs.Common.{◌≡◌, ◌<◌, length, true, false, inl, inr, ◌⊎◌, ◌∷◌, refl, arith, sym, ◌∙◌}
+use Rattle.std.proofs.Common.{◌≡◌, length, true, inl, inr, ◌⊎◌, refl, arith}
 use Rattle.work_ledger.specs.declared.entry.Call.TheVariants.{Claim}
-use Rattle.work_ledger.specs.declared.entry.Reply.TheVariants.{Source, Closed}
+use Rattle.work_ledger.specs.declared.entry.Reply.TheVariants.{Closed}
 use Rattle.work_ledger.proofs.ledger.Ledger.claim.Goals as goal
 use Rattle.work_ledger.proofs.ledger.Ledger.claim.Goals.{then-self-via-then-self, then-self-via-else-self+then-is_empty}
 use Rattle.work_ledger.proofs.Keeping.{kept_same, kept_claim, added, none_left}

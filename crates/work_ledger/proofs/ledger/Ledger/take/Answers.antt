@@ -1,4 +1,4 @@
-use Rattle.std.proofs.Common.{◌≡◌, ◌⊎◌, ◌<◌, [], false, length, refl, arith, ap, inl, inr}
+use Rattle.std.proofs.Common.{◌≡◌, [], length, refl, arith, ap}
 use Rattle.work_ledger.specs.declared.entry.Call.TheVariants.{Take}
 use Rattle.work_ledger.specs.declared.entry.Reply.TheVariants as R
 use Rattle.work_ledger.proofs.ledger.Ledger.take.Goals as goal
