@@ -120,3 +120,17 @@ pub fn ride_lines(
         ride_line(table, line, earliest[number] as usize, ready, rode);
     }
 }
+
+/// Lowers each moment to that of the same stop in `below`.
+pub fn serve_below(below: &[u32], served: &mut [u32])
+    requires { length below.now ≡ length served.old }
+    ensures {
+        (p : ℕ) → (slice_index served.new p ≡ slice_index served.old p) ⊎ (slice_index served.new p ≡ slice_index below.now p)
+    }
+{
+    for stop in 0..served.len() {
+        if below[stop] < served[stop] {
+            served[stop] = below[stop];
+        }
+    }
+}
