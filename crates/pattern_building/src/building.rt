@@ -32,14 +32,10 @@ fn add_round<A: Allocator + Clone>(
     ensures once { AllPairs (λ p q. p ≢ q) tree.new.pairs }
     ensures adds { AddsGiven (rounds_of view.now) (InRound rides stops) tree.old.pairs tree.new.pairs }
     ensures keeps { Keeps tree.old.pairs tree.new.pairs }
-    ensures all {
-        OnOk result
-        (HasGiven (rounds_of view.now) (Lowered (rounds_of view.now) (before_of view.now) (InRound rides stops)) tree.new.pairs)
-    }
-    ensures large {
-        result ≡ Err TreeFault.TooLarge
-        → (p : Pair) × IsGiven (rounds_of view.now) (InRound rides stops) p × IsTooLarge tree.new.pairs p
-    }
+    ensures all { OnOk result
+        (HasGiven (rounds_of view.now) (Lowered (rounds_of view.now) (before_of view.now) (InRound rides stops)) tree.new.pairs) }
+    ensures large { result ≡ Err TreeFault.TooLarge
+        → (p : Pair) × IsGiven (rounds_of view.now) (InRound rides stops) p × IsTooLarge tree.new.pairs p }
 {
     for number in 0..stops {
         let stop = StopId::new(number as u16);

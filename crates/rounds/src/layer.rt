@@ -169,10 +169,8 @@ fn ride_layer(
     requires linked { Stepped (link table.now) walked.old ready.old }
     requires ended { Stepped (foot table.now) walked.old round.old }
     ensures round { length round.new ≡ length round.old }
-    ensures rides {
-        (mid : List (Option Mark)) × Joined below_rode.now rode.old mid
-        × Scanned table.now (λ _. Unit {0}) below_ready.now mid rode.new
-    }
+    ensures rides { (mid : List (Option Mark)) × Joined below_rode.now rode.old mid
+        × Scanned table.now (λ _. Unit {0}) below_ready.now mid rode.new }
     ensures links { Walked (link table.now) (λ _. Unit {0}) rode.new ready.old ready.new }
     ensures ends { Walked (foot table.now) (λ _. Unit {0}) rode.new round.old round.new }
     ensures served { Served table.now served.new rode.new }

@@ -76,14 +76,10 @@ fn no_arrivals(alloc: Global, stops: usize, rides: Rides) -> Result<Vec<Arrivals
 // Forgets all layers.
 fn forget_layers(layers: &mut [Layer])
     ensures sized { (stops : ℕ) → All (IsSized stops) layers.old → All (IsSized stops) layers.new }
-    ensures kept {
-        (table : Table) (s d r : ℕ) → r < length layers.old → IsTable table → IsSized (stops_of table) (layer_at layers.old r)
-        → IsLayer table s d r (layer_at layers.new r)
-    }
-    ensures never {
-        (r : ℕ) → r < length layers.old
-        → (layer_at layers.new r).walked ≡ replicate (length (layer_at layers.old r).walked) 4_294_967_295
-    }
+    ensures kept { (table : Table) (s d r : ℕ) → r < length layers.old → IsTable table → IsSized (stops_of table) (layer_at layers.old r)
+        → IsLayer table s d r (layer_at layers.new r) }
+    ensures never { (r : ℕ) → r < length layers.old
+        → (layer_at layers.new r).walked ≡ replicate (length (layer_at layers.old r).walked) 4_294_967_295 }
 {
     for layer in layers.iter_mut() {
         layer.forget();
@@ -92,9 +88,7 @@ fn forget_layers(layers: &mut [Layer])
 
 // Forgets all rounds.
 fn forget_rounds(rounds: &mut [Round])
-    ensures sizes {
-        (stops : ℕ) → All (λ marks. length marks ≡ stops) rounds.old → All (λ marks. length marks ≡ stops) rounds.new
-    }
+    ensures sizes { (stops : ℕ) → All (λ marks. length marks ≡ stops) rounds.old → All (λ marks. length marks ≡ stops) rounds.new }
     ensures empty { (r stop : ℕ) → r < length rounds.old → at (round_at rounds.new r) stop ≡ None }
 {
     for round in rounds.iter_mut() {
@@ -105,9 +99,7 @@ fn forget_rounds(rounds: &mut [Round])
 // Keeps the arrivals of all rounds.
 fn keep_arrivals(rounds: &[Round], before: &mut [Arrivals])
     requires count { length before.old ≡ length rounds.now }
-    requires sizes {
-        (r : ℕ) → r < length rounds.now → length (slice_index_or before.old r []) ≡ length (round_at rounds.now r)
-    }
+    requires sizes { (r : ℕ) → r < length rounds.now → length (slice_index_or before.old r []) ≡ length (round_at rounds.now r) }
     ensures { (r : ℕ) → r < length rounds.now → slice_index_or before.new r [] ≡ map arrival_of (round_at rounds.now r) }
 {
     for index in 0..before.len() {
@@ -123,10 +115,8 @@ fn begin_layers(table: &Timetable, source: StopId, depart: u32, layers: &mut [La
     requires some { 0 < length layers.old }
     ensures valid { IsTable table.now }
     ensures sized { All (IsSized (stops_of table.now)) layers.new }
-    ensures begun {
-        (rounds : List (List (Option Mark))) → IsTable table.now → AreKept table.now source depart layers.old rounds
-        → length layers.new ≡ suc (length rounds) → DoneTo table.now source depart 0 layers.new rounds
-    }
+    ensures begun { (rounds : List (List (Option Mark))) → IsTable table.now → AreKept table.now source depart layers.old rounds
+        → length layers.new ≡ suc (length rounds) → DoneTo table.now source depart 0 layers.new rounds }
 {
     for layer in layers.iter_mut() {
         layer.begin(table, source, depart);
@@ -186,9 +176,7 @@ fn run_layers(
     ensures sized { All (IsSized (stops_of table.now)) layers.new }
     ensures kept { AreKept table.now source depart layers.new rounds.new }
     ensures right { AreRounds table.now source depart (length rounds.old) rounds.new }
-    ensures before {
-        (r : ℕ) → r < length rounds.old → slice_index_or before.new r [] ≡ map arrival_of (round_at rounds.old r)
-    }
+    ensures before { (r : ℕ) → r < length rounds.old → slice_index_or before.new r [] ≡ map arrival_of (round_at rounds.old r) }
 {
     keep_arrivals(rounds, before);
     begin_layers(table, source, depart, layers);

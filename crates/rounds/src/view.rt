@@ -207,10 +207,8 @@ impl RoundView<'_> {
     pub fn pattern(&self, rides: u8, stop: StopId) -> Option<Path>
         requires some { 1 ≤ rides }
         requires few { rides ≤ length (rounds_of self.now) }
-        ensures sooner {
-            IsSome result
-            ↔ IsSooner (arrival_in (rounds_of self.now) rides stop) (arrival_in (rounds_of self.now) (rides - 1) stop)
-        }
+        ensures sooner { IsSome result
+            ↔ IsSooner (arrival_in (rounds_of self.now) rides stop) (arrival_in (rounds_of self.now) (rides - 1) stop) }
         ensures path { IfSome result (λ path. IsSomeAnd (mark_in (rounds_of self.now) rides stop) (λ m. path.items ≡ m.path)) }
     {
         let label = self.label(rides, stop)?;
@@ -223,9 +221,7 @@ impl RoundView<'_> {
     /// Whether the run lowered the arrival: it is sooner than in the run before since the last restart.
     pub fn changed(&self, rides: u8, stop: StopId) -> bool
         requires { rides ≤ length (rounds_of self.now) }
-        ensures {
-            IsTrue result ↔ IsSooner (arrival_in (rounds_of self.now) rides stop) (moment_in (before_of self.now) rides stop)
-        }
+        ensures { IsTrue result ↔ IsSooner (arrival_in (rounds_of self.now) rides stop) (moment_in (before_of self.now) rides stop) }
     {
         match (self.arrival(rides, stop), self.before(rides, stop)) {
             (Some(now), Some(before)) => now < before,
