@@ -8,6 +8,7 @@ use Rattle.std.proofs.lemmas.List.Elements.{at_from_Contains}
 use Rattle.timetable.specs.Table.{Table, stops_of}
 use Rattle.rounds.specs.Mark.{Mark}
 use Rattle.rounds.specs.Answers.{AreRounds}
+use Rattle.rounds.specs.Events.{IsEvent}
 use Rattle.rounds.specs.declared.scratch.Scratch.{Scratch}
 use Rattle.rounds.specs.Scratch.{MayGoOn, rides_of, source_of, kept_of}
 use Rattle.pattern_tree.specs.declared.fault.TreeFault.{TreeFault}
@@ -33,7 +34,7 @@ loop-index-init g c =
       source = ap (λ (x : Content). x.source) c.new_in-tree.ensures;
       once = subst (λ (ps : List Pair). AllPairs (λ p q. p ≢ q) ps) (sym pairs) (λ i j d lt below. absurd (omega (arith, below)));
       earned = subst (λ (ps : List Pair). Earned T k c.args.source ps) (sym pairs) (λ path t h. let below = h.1 in absurd (omega (arith, below)));
-      complete = λ i le lt. absurd (omega (arith, count, le, lt));
+      complete = λ i le lt. absurd (let z : ⊥ = omega (arith, count, le, lt) in z);
       later = λ i _. later_none T c.args.source k c.new_in-tree.result.pairs (kept_of c.restart.new.self) (get_or c.in_ok-moments.moments.items i 0) c.restart.ensures.none;
     }
 
@@ -116,16 +117,28 @@ loop-index-preserved g c =
     }
 
 -- the moment of this event
-event_at : (moments : List ℕ) (index count event : ℕ) → event ≡ get_or moments (index - 1) event → 0 < index → index ≤ count → count ≡ length moments
-    → event ≡ get_or moments (index - 1) 0
-event_at moments index count event e some most same = e ∙ get_or_default moments (index - 1) event 0 (omega (arith, some, most, same))
+event_at : (moments : List ℕ) (i event : ℕ) → event ≡ get_or moments i event → i < length moments → event ≡ get_or moments i 0
+event_at moments i event e in' = e ∙ get_or_default moments i event 0 in'
+
+pub add_event-requires-clause-event : goal.add_event-requires-clause-event
+add_event-requires-clause-event g c =
+    let i : ℕ = c.loop-index.index - 1 in
+    let some = c.loop-index-test.true in
+    let most = c.loop-index.auto.index in
+    let count = c.len-index.ensures in
+    let in' : i < length c.in_ok-moments.moments.items = omega (arith, some, most, count) in
+    subst (λ (x : ℕ). IsEvent c.args.table.now x c.index.result.now) (sym c.loop-index.invariant.from)
+    (c.in_ok-moments.ensures.each c.index.result.now (i, in', sym c.index.ensures))
 
 pub add_event-requires-clause-later : goal.add_event-requires-clause-later
 add_event-requires-clause-later g c =
     let inv = c.loop-index.invariant in
     let i : ℕ = c.loop-index.index - 1 in
     let some = c.loop-index-test.true in
-    let event = event_at c.in_ok-moments.moments.items c.loop-index.index _ c.index.result.now c.index.ensures some c.loop-index.auto.index c.len-index.ensures in
+    let most = c.loop-index.auto.index in
+    let count = c.len-index.ensures in
+    let in' : i < length c.in_ok-moments.moments.items = omega (arith, some, most, count) in
+    let event = event_at c.in_ok-moments.moments.items i c.index.result.now c.index.ensures in' in
     later_there c.args.table.now c.args.source (rides_of c.args.scratch.now) c.loop-index.scratch inv.same.rides inv.from
     (get_or c.in_ok-moments.moments.items i 0) c.index.result.now c.loop-index.tree.pairs event (inv.later i (omega (arith, some)))
 
@@ -134,7 +147,10 @@ add_event-requires-clause-kept g c =
     let inv = c.loop-index.invariant in
     let i : ℕ = c.loop-index.index - 1 in
     let some = c.loop-index-test.true in
-    let event = event_at c.in_ok-moments.moments.items c.loop-index.index _ c.index.result.now c.index.ensures some c.loop-index.auto.index c.len-index.ensures in
+    let most = c.loop-index.auto.index in
+    let count = c.len-index.ensures in
+    let in' : i < length c.in_ok-moments.moments.items = omega (arith, some, most, count) in
+    let event = event_at c.in_ok-moments.moments.items i c.index.result.now c.index.ensures in' in
     subst (λ (d : ℕ). MayGoOn c.args.table.now d c.loop-index.scratch) (sym event) (inv.may i (omega (arith, some)))
 
 pub add_event-requires-clause-source : goal.add_event-requires-clause-source

@@ -10,11 +10,11 @@ use Rattle.pattern_building.proofs.building.build.Given as goal
 abbrev pub invariant-loop-index : goal.invariant-loop-index
 invariant-loop-index g l = record {
   same : IsAlike l.fn.scratch l.scratch;
-  from : source_of l.scratch ≡ l.source;
+  from : source_of l.scratch ≡ l.fn.source;
   may : (i : ℕ) → i < l.index → MayGoOn l.table (get_or l.moments.items i 0) l.scratch;
-  source : l.tree.source ≡ l.source;
+  source : l.tree.source ≡ l.fn.source;
   once : AllPairs (λ p q. p ≢ q) l.tree.pairs;
-  earned : Earned l.table (rides_of l.fn.scratch) l.source l.tree.pairs;
-  complete : (i : ℕ) → l.index ≤ i → i < length l.moments.items → CompleteAt l.table (rides_of l.fn.scratch) l.source (get_or l.moments.items i 0) l.tree.pairs;
-  later : (i : ℕ) → i < l.index → AreLater l.table (rides_of l.fn.scratch) l.source (get_or l.moments.items i 0) l.tree.pairs (kept_of l.scratch);
+  earned : Earned l.table (rides_of l.fn.scratch) l.fn.source l.tree.pairs;
+  complete : (i : ℕ) → l.index ≤ i → i < length l.moments.items → CompleteAt l.table (rides_of l.fn.scratch) l.fn.source (get_or l.moments.items i 0) l.tree.pairs;
+  later : (i : ℕ) → i < l.index → AreLater l.table (rides_of l.fn.scratch) l.fn.source (get_or l.moments.items i 0) l.tree.pairs (kept_of l.scratch);
 }
