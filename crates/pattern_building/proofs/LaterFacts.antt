@@ -1,5 +1,5 @@
 -- What is passed over where an arrival is no sooner than it was before.
-use Rattle.std.proofs.Common.{Option, ◌≡◌, ℕ, ◌+◌, ◌<◌, ◌≤◌, ◌⊎◌, List, length, Some, None, arith, refl, sym, ◌∙◌, ap, subst, inl, inr, le_refl}
+use Rattle.std.proofs.Common.{Option, ◌≡◌, ℕ, ◌+◌, ◌≤◌, ◌⊎◌, List, length, Some, None, arith, refl, sym, ◌∙◌, ap, subst, inl, inr, le_refl}
 use Rattle.std.proofs.lemmas.Bool.{cases_lt}
 use Rattle.std.proofs.lemmas.Option.{none-some}
 use Rattle.timetable.specs.declared.parts.Numbers.{Numbers}

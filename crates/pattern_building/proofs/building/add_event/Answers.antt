@@ -1,4 +1,4 @@
-use Rattle.std.proofs.Common.{Option, ◌≡◌, ℕ, ◌+◌, ◌<◌, ◌≤◌, inl, arith, refl, sym, ◌∙◌, ap, subst, List, [], ◌∷◌, Err, length, slice_index_or, le_refl, All}
+use Rattle.std.proofs.Common.{Option, ◌≡◌, ℕ, ◌+◌, ◌≤◌, inl, arith, refl, ◌∙◌, ap, subst, List, ◌∷◌, Err}
 use Rattle.timetable.specs.Table.{Table, stops_of}
 use Rattle.rounds.specs.Mark.{Mark}
 use Rattle.rounds.specs.Answers.{AreRounds}

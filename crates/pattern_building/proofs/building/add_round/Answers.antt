@@ -1,4 +1,4 @@
-use Rattle.std.proofs.Common.{Option, ◌≡◌, ◌≢◌, false, slice_set, le_refl, ℕ, ◌+◌, ◌-◌, ◌<◌, ◌≤◌, inl, inr, arith, refl, sym, ◌∙◌, ap, subst, List, length, None, IsSome, true≢false, Err}
+use Rattle.std.proofs.Common.{Option, ◌≡◌, ◌≢◌, false, ℕ, ◌+◌, ◌-◌, ◌<◌, inl, inr, arith, refl, sym, ◌∙◌, ap, subst, List, None, IsSome, true≢false, Err}
 use Rattle.timetable.specs.Front.{IsSooner}
 use Rattle.rounds.specs.Mark.{arrival_in, moment_in}
 use Rattle.rounds.specs.Scratch.{rounds_of, before_of}

@@ -1,4 +1,4 @@
-use Rattle.std.proofs.Common.{◌≡◌, ◌≢◌, ℕ}
+use Rattle.std.proofs.Common.{◌≡◌, ◌≢◌}
 use Rattle.std.specs.List.{AllPairs}
 use Rattle.rounds.specs.Scratch.{rounds_of, before_of}
 use Rattle.pattern_building.specs.RoundPairs.{InRound, AddsGiven, Keeps, HasGiven}
