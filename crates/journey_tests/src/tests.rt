@@ -3,6 +3,7 @@
 mod agreement;
 mod building;
 mod direct;
+mod keeping;
 mod planning;
 mod querying;
 mod rounding;

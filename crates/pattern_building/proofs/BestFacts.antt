@@ -7,13 +7,13 @@ use Rattle.timetable.specs.declared.parts.Numbers.{Numbers}
 use Rattle.timetable.specs.Table.{Table, stops_of}
 use Rattle.timetable.specs.Journeys.{Journey, Reaches, Beats, Unbeaten, IsLeast, pattern, from, to}
 use Rattle.timetable.specs.Front.{IsSooner}
-use Rattle.rounds.specs.Mark.{Mark, mark_in, arrival_in}
+use Rattle.rounds.specs.Mark.{Mark, mark_in, arrival_in, moment_in}
 use Rattle.rounds.specs.Answers.{AreRounds, ArrivesWithin}
 use Rattle.pattern_tree.specs.Forest.{Step, Pair}
 use Rattle.pattern_tree.specs.Completeness.{IsPathOf, Earned}
 use Rattle.pattern_building.specs.RoundPairs.{Gives, UpToRound, AddsGiven, HasGiven, CompleteAt}
-use Rattle.pattern_building.specs.Arrivals.{kept_in, Changed, AreLater}
-use Rattle.pattern_building.proofs.ArrivalFacts.{same_or_not, path_later}
+use Rattle.pattern_building.specs.Lowered.{Lowered, AreLater}
+use Rattle.pattern_building.proofs.LaterFacts.{sooner_or_not, arrival_kept, path_later}
 
 the_mark : (o : Option Mark) (P : Mark → Type 0) → IsSomeAnd o P → (m : Mark) × (o ≡ Some m) × P m
 the_mark None P h = absurd h
@@ -133,24 +133,31 @@ module _ (table : Table) (s k d : ℕ) (rounds : List (List (Option Mark))) (are
   pub earned_up : (n : ℕ) (old new : List Pair) → n ≡ stops_of table → AddsGiven rounds (UpToRound k n) old new → Earned table k s old → Earned table k s new
   earned_up n old new same adds earned = earned_given old new (subst (λ (m : ℕ). AddsGiven rounds (UpToRound k m) old new) same adds) earned
 
-  -- with all pairs that are given, but those with an arrival that is kept of a later departure, the content is complete at this moment
-  pub complete_given : (content : List Pair) (kept : List (List (Option ℕ)))
+  -- with all pairs that are given, but those with an arrival that a later departure has too, the content is complete at this moment
+  pub complete_given : (content : List Pair) (kept : List (List (Option Mark))) (before : List (List (Option ℕ)))
       → ((legs : List Leg) (t z : ℕ) → 1 ≤ length legs → Journey table s d legs t z → t < stops_of table)
-      → AreLater table k s d content kept → HasGiven rounds (Changed rounds (kept_in kept) (UpToRound k (stops_of table))) content
+      → ((r t : ℕ) → moment_in before r t ≡ arrival_in kept r t)
+      → AreLater table k s d content kept → HasGiven rounds (Lowered rounds before (UpToRound k (stops_of table))) content
       → CompleteAt table k s d content
-  complete_given content kept inside later has t n is =
+  complete_given content kept before inside told later has t n is =
       let h = is.0 in
       let some : 1 ≤ length h.0 = (let a = h.2 in let b = h.3 in omega (arith, a, b)) in
       let in' = inside h.0 t n.arrival some h.1 in
+      let seen : UpToRound k (stops_of table) n.rides t = (h.3, h.4, in') in
       let m = round_of t n in' is in
       let j = are.attained n.rides t m.0 h.3 h.4 in' m.1 m.3 in
       let gives : Gives rounds n.rides (m.0.path, t) = (m.3, subst (λ (o : Option Mark). IsSomeAnd o (λ x. m.0.path ≡ x.path)) (sym m.1) refl) in
       let arrival : arrival_in rounds n.rides t ≡ Some n.arrival = arrival_of n.rides t m.0 m.1 ∙ ap (λ x. Some x) m.2 in
-      elim (same_or_not (kept_in kept n.rides t) (Some n.arrival)) [
-        | inl same ↦ path_later table s k content d t n is (later n.rides t n.arrival (h.3, h.4, in') same)
-        | inr apart ↦ (
+      elim (sooner_or_not (arrival_in rounds n.rides t) (moment_in before n.rides t)) [
+        | inl sooner ↦ (
           m.0.path,
           (j.0, subst (λ z. Journey table s d j.0 t z) m.2 j.1, j.2, j.3),
-          has (m.0.path, t) (n.rides, ((h.3, h.4, in'), λ e. apart (e ∙ arrival)), gives),
+          has (m.0.path, t) (n.rides, (seen, sooner), gives),
         )
+        | inr not_sooner ↦
+            let least = subst (λ (o : Option ℕ). IsLeast (ArrivesWithin table s d n.rides t) o) arrival (are.least n.rides t h.3 h.4 in') in
+            let same = arrival_kept table s k content d n.rides t n.arrival kept later seen least (λ sooner.
+            not_sooner (subst (λ (o : Option ℕ). IsSooner o (moment_in before n.rides t)) (sym arrival)
+            (subst (λ (o : Option ℕ). IsSooner (Some n.arrival) o) (sym (told n.rides t)) sooner))) in
+            path_later table s k content d t n is (later n.rides t n.arrival seen same)
       ]

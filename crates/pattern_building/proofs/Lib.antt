@@ -1,4 +1,4 @@
 pub mod GivenFacts
 pub mod BestFacts
 pub mod CompleteFacts
-pub mod ArrivalFacts
+pub mod LaterFacts

@@ -1,2 +1,2 @@
 pub mod RoundPairs
-pub mod Arrivals
+pub mod Lowered

@@ -1,50 +1,45 @@
 //! The tree of a source, built from the rounds at each of its events.
 
 ghost use Rattle.std.specs.Prelude.{◌≡◌, ◌≢◌, ℕ, ◌<◌, ◌≤◌, length, Err, IfOk, OnOk};
-ghost use Rattle.std.specs.List.{All, AllPairs};
+ghost use Rattle.std.specs.List.{AllPairs};
 ghost use Rattle.timetable.specs.Table.{stops_of};
 ghost use Rattle.rounds.specs.Events.{IsEvent};
-ghost use Rattle.rounds.specs.Scratch.{IsMadeFor, IsAlike, rides_of, rounds_of};
+ghost use Rattle.rounds.specs.Scratch.{IsMadeFor, IsAlike, MayGoOn, GoesOn, rides_of, rounds_of, before_of, source_of, kept_of};
 ghost use Rattle.pattern_tree.specs.Forest.{Pair};
 ghost use Rattle.pattern_tree.specs.Content.{IsTooLarge, longest};
 ghost use Rattle.pattern_tree.specs.Completeness.{Complete, Earned, TooManyAreEarned};
 ghost use Rattle.pattern_building.specs.RoundPairs.{Gives, InRound, IsGiven, AddsGiven, Keeps, HasGiven, CompleteAt};
-ghost use Rattle.pattern_building.specs.Arrivals.{kept_at, Changed, AreKept, ArrivalsAt, AreLater};
+ghost use Rattle.pattern_building.specs.Lowered.{Lowered, AreLater};
 
-use crate::arrivals::{Arrivals, no_arrivals};
 use pattern_tree::{PatternTree, TreeFault};
 use rounds::{RoundView, Scratch, departures};
 use std::alloc::{Allocator, Global};
 use timetable::{StopId, Timetable};
 
-// Puts in the pairs of journeys of exactly so many rides that are sooner than with fewer, where the arrival isn't the one
-// that was kept. Then the arrivals of this round are kept.
+// Puts in the pairs of journeys of exactly so many rides that are sooner than with fewer, where the run lowered the arrival.
 fn add_round<A: Allocator + Clone>(
     view: &RoundView<'_>,
     rides: u8,
     stops: usize,
-    kept: &mut Arrivals,
     tree: &mut PatternTree<A>,
 ) -> Result<(), TreeFault>
     requires some { 1 ≤ rides }
     requires few { rides ≤ length (rounds_of view.now) }
     requires known { stops ≤ 65_534 }
-    requires size { length kept.old ≡ stops }
     requires ridden { (p : Pair) → p.1 < stops → Gives (rounds_of view.now) rides p → 0 < length p.0 }
     requires once { AllPairs (λ p q. p ≢ q) tree.old.pairs }
     ensures source { tree.new.source ≡ tree.old.source }
     ensures once { AllPairs (λ p q. p ≢ q) tree.new.pairs }
     ensures adds { AddsGiven (rounds_of view.now) (InRound rides stops) tree.old.pairs tree.new.pairs }
     ensures keeps { Keeps tree.old.pairs tree.new.pairs }
-    ensures all { OnOk result (HasGiven (rounds_of view.now) (Changed (rounds_of view.now) (λ _ t. kept_at kept.old t) (InRound rides stops)) tree.new.pairs) }
-    ensures kept { OnOk result (AreKept (rounds_of view.now) (λ _ t. kept_at kept.new t) (InRound rides stops)) }
-    ensures size { length kept.new ≡ stops }
-    ensures large { result ≡ Err TreeFault.TooLarge → (p : Pair) × IsGiven (rounds_of view.now) (InRound rides stops) p × IsTooLarge tree.new.pairs p }
+    ensures all { OnOk result
+        (HasGiven (rounds_of view.now) (Lowered (rounds_of view.now) (before_of view.now) (InRound rides stops)) tree.new.pairs) }
+    ensures large { result ≡ Err TreeFault.TooLarge
+        → (p : Pair) × IsGiven (rounds_of view.now) (InRound rides stops) p × IsTooLarge tree.new.pairs p }
 {
     for number in 0..stops {
         let stop = StopId::new(number as u16);
-        let arrival = view.arrival(rides, stop);
-        if kept.keep(stop, arrival) {
+        if view.changed(rides, stop) {
             if let Some(path) = view.pattern(rides, stop) {
                 tree.insert(path.as_slice(), stop)?;
             }
@@ -53,46 +48,40 @@ fn add_round<A: Allocator + Clone>(
     Ok(())
 }
 
-// Puts in the pairs of the best journeys at one event, but those with an arrival that is kept of a later one: for these the
-// tree has pairs. Then the arrivals of this event are kept.
+// Puts in the pairs of the best journeys at one event, but those with an arrival that a later event has too: for these the
+// tree has pairs.
 fn add_event<A: Allocator + Clone>(
     table: &Timetable,
-    source: StopId,
     event: u32,
     scratch: &mut Scratch,
-    kept: &mut [Arrivals],
     tree: &mut PatternTree<A>,
 ) -> Result<(), TreeFault>
     requires table { IsMadeFor scratch.old table.now }
-    requires source { source < stops_of table.now }
-    requires count { length kept.old ≡ rides_of scratch.old }
-    requires sizes { All (λ arrivals. length arrivals ≡ stops_of table.now) kept.old }
-    requires later { AreLater table.now (rides_of scratch.old) source event tree.old.pairs kept.old }
-    requires event { IsEvent table.now source event }
+    requires source { source_of scratch.old < stops_of table.now }
+    requires kept { MayGoOn table.now event scratch.old }
+    requires later { AreLater table.now (rides_of scratch.old) (source_of scratch.old) event tree.old.pairs (kept_of scratch.old) }
+    requires event { IsEvent table.now (source_of scratch.old) event }
     requires once { AllPairs (λ p q. p ≢ q) tree.old.pairs }
-    requires earned { Earned table.now (rides_of scratch.old) source tree.old.pairs }
-    ensures same { IsAlike scratch.old scratch.new }
+    requires earned { Earned table.now (rides_of scratch.old) (source_of scratch.old) tree.old.pairs }
+    ensures on { GoesOn table.now event scratch.old scratch.new }
     ensures source { tree.new.source ≡ tree.old.source }
     ensures once { AllPairs (λ p q. p ≢ q) tree.new.pairs }
-    ensures earned { Earned table.now (rides_of scratch.old) source tree.new.pairs }
+    ensures earned { Earned table.now (rides_of scratch.old) (source_of scratch.old) tree.new.pairs }
     ensures keeps { Keeps tree.old.pairs tree.new.pairs }
-    ensures complete { OnOk result (CompleteAt table.now (rides_of scratch.old) source event tree.new.pairs) }
-    ensures sizes { All (λ arrivals. length arrivals ≡ stops_of table.now) kept.new }
-    ensures kept { OnOk result (ArrivalsAt table.now (rides_of scratch.old) source event kept.new) }
-    ensures large { result ≡ Err TreeFault.TooLarge → TooManyAreEarned table.now (rides_of scratch.old) source }
+    ensures complete { OnOk result (CompleteAt table.now (rides_of scratch.old) (source_of scratch.old) event tree.new.pairs) }
+    ensures large { result ≡ Err TreeFault.TooLarge → TooManyAreEarned table.now (rides_of scratch.old) (source_of scratch.old) }
 {
     let rides = scratch.rides();
     let stops = table.stops();
-    let view = scratch.run(table, source, event)?;
+    let view = scratch.run_kept(table, event)?;
     for round in 0..rides.number() {
-        add_round(&view, round + 1, stops, &mut kept[round as usize], tree)?;
+        add_round(&view, round + 1, stops, tree)?;
     }
     Ok(())
 }
 
 /// The tree of a source: for each moment and stop, the patterns of the best journeys of at most as many rides as the
-/// scratch has, and no others. It lies in the memory of `alloc`; the moments to leave at, and the arrivals of one of them, lie
-/// in that of `global` meanwhile.
+/// scratch has, and no others. It lies in the memory of `alloc`; the moments to leave at lie in that of `global` meanwhile.
 ///
 /// TooLarge comes only where there are more such patterns and ends than a tree holds. Every other fault is that memory ran
 /// out. The scratch is one of this timetable, and serves further runs, also after a fault.
@@ -113,11 +102,11 @@ pub fn build<A: Allocator + Clone>(
     ensures large { result ≡ Err TreeFault.TooLarge → TooManyAreEarned table.now (rides_of scratch.old) source }
 {
     let moments = departures(global, table, source)?;
-    let mut kept = no_arrivals(global, scratch.rides(), table.stops())?;
     let mut tree = PatternTree::new_in(alloc, source);
     // From the last to the first: the rides of a later event can be taken by one who is there earlier.
+    scratch.restart(source);
     for index in (0..moments.len()).rev() {
-        add_event(table, source, moments[index], scratch, &mut kept, &mut tree)?;
+        add_event(table, moments[index], scratch, &mut tree)?;
     }
     Ok(tree)
 }

@@ -3,7 +3,6 @@
 //! the rounds at each moment that is worth leaving at.
 #![tactic(auto)]
 
-mod arrivals;
 mod building;
 mod finishing;
 

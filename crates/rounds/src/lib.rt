@@ -4,10 +4,10 @@
 
 mod best;
 mod boarding;
-mod by_lines;
 mod events;
 mod label;
 pub mod laws;
+mod layer;
 mod parts;
 mod plain;
 mod riding;

@@ -1,19 +1,21 @@
 //! Runs of the rounds, one after the other.
 
-ghost use Rattle.std.specs.Prelude.{◌≡◌, ℕ, ◌≤◌, ◌<◌, IfOk, length, ⊤};
+ghost use Rattle.std.specs.Prelude.{◌≡◌, ℕ, suc, ◌+◌, ◌≤◌, ◌<◌, IfOk, length, map, replicate, slice_index_or, None, Option, List, [], ⊤};
 ghost use Rattle.std.specs.List.{All};
 ghost use Rattle.std.specs.Borrow.{sem, follows_so};
 ghost use mathlib.Core.Option.{none};
-ghost use Rattle.timetable.specs.Table.{stops_of};
+ghost use Rattle.timetable.specs.Table.{Table, IsTable, stops_of};
+ghost use Rattle.lines.specs.Lines.{AreLines};
 ghost use Rattle.timetable.specs.Front.{AreFront};
 ghost use Rattle.rounds.specs.contracts.scratch.Scratch.{the_row};
 ghost use Rattle.rounds.specs.Answers.{AreRounds};
-ghost use Rattle.rounds.specs.Scratch.{IsMadeFor, IsAlike, rides_of, rounds_of};
+ghost use Rattle.rounds.specs.Mark.{Mark, at, arrival_of, arrival_in, moment_in};
+ghost use Rattle.rounds.specs.Layers.{IsSized, IsLayer, AreKept, DoneTo, layer_at, round_at};
+ghost use Rattle.rounds.specs.Scratch.{IsMadeFor, IsAlike, MayGoOn, GoesOn, TellsOf, rides_of, rounds_of, source_of, kept_of, before_of};
 
 use crate::best::points;
-use crate::by_lines::line_rounds;
-use crate::label::{Label, no_labels};
-use crate::view::{Round, RoundView};
+use crate::layer::Layer;
+use crate::view::{Arrivals, Round, RoundView};
 use arrayvec::ArrayVec;
 use lines::Lines;
 use std::alloc::{AllocError, Global};
@@ -25,11 +27,11 @@ pub struct Scratch {
     rides: Rides,
     lines: Lines,
     // Room for what a run knows of each stop and each line meanwhile.
-    ready: Vec<Option<Label>>,
-    rode: Vec<Option<Label>>,
-    served: Vec<u32>,
+    layers: Vec<Layer>,
     earliest: Vec<u16>,
+    source: StopId,
     rounds: Vec<Round>,
+    before: Vec<Arrivals>,
 }
 
 // As many rounds as rides, with no labels.
@@ -45,6 +47,142 @@ fn no_rounds(alloc: Global, stops: usize, rides: Rides) -> Result<Vec<Round>, Al
     Ok(rounds)
 }
 
+// A layer before any ride, and one for each ride.
+fn no_layers(alloc: Global, stops: usize, rides: Rides) -> Result<Vec<Layer>, AllocError>
+    ensures count { IfOk result (λ layers. length layers.items ≡ rides + 1) }
+    ensures sized { IfOk result (λ layers. All (IsSized stops) layers.items) }
+{
+    let count = rides.number() as usize + 1;
+    let mut layers = Vec::with_capacity(alloc, count)?;
+    for _ in 0..count {
+        layers.push(Layer::empty(alloc, stops)?)?;
+    }
+    Ok(layers)
+}
+
+// As many arrivals as rides, none of which is there.
+fn no_arrivals(alloc: Global, stops: usize, rides: Rides) -> Result<Vec<Arrivals>, AllocError>
+    ensures count { IfOk result (λ before. length before.items ≡ rides) }
+    ensures sizes { IfOk result (λ before. All (λ moments. length moments ≡ stops) before.items) }
+{
+    let count = rides.number();
+    let mut before = Vec::with_capacity(alloc, count as usize)?;
+    for _ in 0..count {
+        before.push(Arrivals::none(alloc, stops)?)?;
+    }
+    Ok(before)
+}
+
+// Forgets all layers.
+fn forget_layers(layers: &mut [Layer])
+    ensures sized { (stops : ℕ) → All (IsSized stops) layers.old → All (IsSized stops) layers.new }
+    ensures kept { (table : Table) (s d r : ℕ) → r < length layers.old → IsTable table → IsSized (stops_of table) (layer_at layers.old r)
+        → IsLayer table s d r (layer_at layers.new r) }
+    ensures never { (r : ℕ) → r < length layers.old
+        → (layer_at layers.new r).walked ≡ replicate (length (layer_at layers.old r).walked) 4_294_967_295 }
+{
+    for layer in layers.iter_mut() {
+        layer.forget();
+    }
+}
+
+// Forgets all rounds.
+fn forget_rounds(rounds: &mut [Round])
+    ensures sizes { (stops : ℕ) → All (λ marks. length marks ≡ stops) rounds.old → All (λ marks. length marks ≡ stops) rounds.new }
+    ensures empty { (r stop : ℕ) → r < length rounds.old → at (round_at rounds.new r) stop ≡ None }
+{
+    for round in rounds.iter_mut() {
+        round.forget();
+    }
+}
+
+// Keeps the arrivals of all rounds.
+fn keep_arrivals(rounds: &[Round], before: &mut [Arrivals])
+    requires count { length before.old ≡ length rounds.now }
+    requires sizes { (r : ℕ) → r < length rounds.now → length (slice_index_or before.old r []) ≡ length (round_at rounds.now r) }
+    ensures { (r : ℕ) → r < length rounds.now → slice_index_or before.new r [] ≡ map arrival_of (round_at rounds.now r) }
+{
+    for index in 0..before.len() {
+        before[index].keep(&rounds[index]);
+    }
+}
+
+// Begins a run in each layer.
+fn begin_layers(table: &Timetable, source: StopId, depart: u32, layers: &mut [Layer])
+    requires source { source < stops_of table.now }
+    requires early { depart ≤ 4_000_000_000 }
+    requires sized { All (IsSized (stops_of table.now)) layers.old }
+    requires some { 0 < length layers.old }
+    ensures valid { IsTable table.now }
+    ensures sized { All (IsSized (stops_of table.now)) layers.new }
+    ensures begun { (rounds : List (List (Option Mark))) → IsTable table.now → AreKept table.now source depart layers.old rounds
+        → length layers.new ≡ suc (length rounds) → DoneTo table.now source depart 0 layers.new rounds }
+{
+    for layer in layers.iter_mut() {
+        layer.begin(table, source, depart);
+    }
+}
+
+// What comes of each layer by one ride more, one after the other.
+fn ride_layers(
+    table: &Timetable,
+    lines: &Lines,
+    source: StopId,
+    depart: u32,
+    layers: &mut [Layer],
+    earliest: &mut [u16],
+    rounds: &mut [Round],
+)
+    requires lines { AreLines table.now lines.now }
+    requires valid { IsTable table.now }
+    requires earliest { length earliest.old ≡ length lines.now.lines }
+    requires few { length rounds.old ≤ 8 }
+    requires sizes { All (λ marks. length marks ≡ stops_of table.now) rounds.old }
+    requires sized { All (IsSized (stops_of table.now)) layers.old }
+    requires begun { DoneTo table.now source depart 0 layers.old rounds.old }
+    ensures sizes { All (λ marks. length marks ≡ stops_of table.now) rounds.new }
+    ensures sized { All (IsSized (stops_of table.now)) layers.new }
+    ensures done { DoneTo table.now source depart (length rounds.old) layers.new rounds.new }
+{
+    for index in 0..rounds.len() {
+        let (front, back) = layers.split_at_mut(index + 1);
+        back[0].ride_on(table, lines, &front[index], earliest, &mut rounds[index]);
+    }
+}
+
+// A run over all layers, which keeps their labels.
+fn run_layers(
+    table: &Timetable,
+    lines: &Lines,
+    source: StopId,
+    depart: u32,
+    layers: &mut [Layer],
+    earliest: &mut [u16],
+    rounds: &mut [Round],
+    before: &mut [Arrivals],
+)
+    requires lines { AreLines table.now lines.now }
+    requires source { source < stops_of table.now }
+    requires early { depart ≤ 4_000_000_000 }
+    requires earliest { length earliest.old ≡ length lines.now.lines }
+    requires few { length rounds.old ≤ 8 }
+    requires count { length layers.old ≡ suc (length rounds.old) }
+    requires befores { length before.old ≡ length rounds.old }
+    requires sizes { All (λ marks. length marks ≡ stops_of table.now) rounds.old }
+    requires before { All (λ moments. length moments ≡ stops_of table.now) before.old }
+    requires sized { All (IsSized (stops_of table.now)) layers.old }
+    requires kept { IsTable table.now → AreKept table.now source depart layers.old rounds.old }
+    ensures sizes { All (λ marks. length marks ≡ stops_of table.now) rounds.new }
+    ensures sized { All (IsSized (stops_of table.now)) layers.new }
+    ensures kept { AreKept table.now source depart layers.new rounds.new }
+    ensures right { AreRounds table.now source depart (length rounds.old) rounds.new }
+    ensures before { (r : ℕ) → r < length rounds.old → slice_index_or before.new r [] ≡ map arrival_of (round_at rounds.old r) }
+{
+    keep_arrivals(rounds, before);
+    begin_layers(table, source, depart, layers);
+    ride_layers(table, lines, source, depart, layers, earliest, rounds);
+}
+
 impl Scratch {
     /// For runs over this timetable, of journeys of at most so many rides. It makes the timetable's lines, and fails only
     /// where memory runs out.
@@ -58,11 +196,11 @@ impl Scratch {
         Ok(Scratch {
             rides,
             lines,
-            ready: no_labels(alloc, stops)?,
-            rode: no_labels(alloc, stops)?,
-            served: vec![in alloc; 0_u32; stops]?,
+            layers: no_layers(alloc, stops, rides)?,
             earliest,
+            source: StopId::new(0),
             rounds: no_rounds(alloc, stops, rides)?,
+            before: no_arrivals(alloc, stops, rides)?,
         })
     }
 
@@ -73,30 +211,60 @@ impl Scratch {
         self.rides
     }
 
-    fn fill(&mut self, table: &Timetable, source: StopId, depart: u32)
-        requires table { IsMadeFor self.old table.now }
-        requires source { source < stops_of table.now }
-        requires early { depart ≤ 4_000_000_000 }
+    /// Forgets all labels. The runs that follow and keep labels are from this stop.
+    pub fn restart(&mut self, source: StopId)
         ensures same { IsAlike self.old self.new }
-        ensures right { AreRounds table.now source depart (rides_of self.old) self.new.rounds.items }
+        ensures source { source_of self.new ≡ source }
+        ensures kept { (table : Table) (d : ℕ) → IsMadeFor self.old table → MayGoOn table d self.new }
+        ensures none { (rides t : ℕ) → arrival_in (kept_of self.new) rides t ≡ None }
     {
-        line_rounds(
+        self.source = source;
+        forget_layers(&mut self.layers);
+        forget_rounds(&mut self.rounds);
+    }
+
+    fn fill(&mut self, table: &Timetable, depart: u32)
+        requires table { IsMadeFor self.old table.now }
+        requires source { source_of self.old < stops_of table.now }
+        requires early { depart ≤ 4_000_000_000 }
+        requires kept { MayGoOn table.now depart self.old }
+        ensures on { GoesOn table.now depart self.old self.new }
+        ensures before { (rides t : ℕ) → moment_in self.new.before.items rides t ≡ arrival_in (kept_of self.old) rides t }
+    {
+        run_layers(
             table,
             &self.lines,
-            source,
+            self.source,
             depart,
-            &mut self.ready,
-            &mut self.rode,
-            &mut self.served,
+            &mut self.layers,
             &mut self.earliest,
             &mut self.rounds,
+            &mut self.before,
         );
     }
 
     fn view(&self) -> RoundView<'_>
-        ensures { rounds_of result ≡ self.now.rounds.items }
+        ensures rounds { rounds_of result ≡ kept_of self.now }
+        ensures before { before_of result ≡ self.now.before.items }
     {
-        RoundView::of(&self.rounds)
+        RoundView::of(&self.rounds, &self.before)
+    }
+
+    /// The rounds from the stop of the last restart at this moment, as `run` has them, by a run that keeps the labels of the
+    /// runs since then. The moment is no later than that of the last of these. The view tells which arrivals this run lowered.
+    ///
+    /// It fails only where memory runs out; then the next call is `restart`, or one that begins with it.
+    pub fn run_kept(&mut self, table: &Timetable, depart: u32) -> Result<RoundView<'_>, AllocError>
+        requires table { IsMadeFor self.old table.now }
+        requires source { source_of self.old < stops_of table.now }
+        requires early { depart ≤ 4_000_000_000 }
+        requires kept { MayGoOn table.now depart self.old }
+        ensures* on { sem 𝓛 (follows_so the_row the_row self.entry.ghost_name none (λ _ _. ⊤) (GoesOn table.now depart self.old)) }
+        ensures right { IfOk result (λ view. AreRounds table.now (source_of self.old) depart (rides_of self.old) (rounds_of view)) }
+        ensures before { IfOk result (TellsOf (kept_of self.old)) }
+    {
+        self.fill(table, depart);
+        Ok(self.view())
     }
 
     /// The rounds from a stop at a moment of at most 4,000,000,000 seconds: for each number of rides up to that of the
@@ -115,8 +283,8 @@ impl Scratch {
         ensures* same { sem 𝓛 (follows_so the_row the_row self.entry.ghost_name none (λ _ _. ⊤) (λ after. IsAlike self.old after)) }
         ensures right { IfOk result (λ view. AreRounds table.now source depart (rides_of self.old) (rounds_of view)) }
     {
-        self.fill(table, source, depart);
-        Ok(self.view())
+        self.restart(source);
+        self.run_kept(table, depart)
     }
 
     /// The best numbers from a stop to a stop at a moment of at most 4,000,000,000 seconds, as `scan` has them, among journeys

@@ -1,13 +1,13 @@
 //! What a run of the rounds found.
 
-ghost use Rattle.std.specs.Prelude.{◌≡◌, ℕ, ◌≤◌, ◌-◌, ◌↔◌, length, IsNone, IsSome, IfOk, IfSome, IsSomeAnd, None, Some};
+ghost use Rattle.std.specs.Prelude.{◌≡◌, ℕ, ◌≤◌, ◌-◌, ◌↔◌, length, IsNone, IsSome, IfOk, IfSome, IsSomeAnd, IsTrue, None, Some, map};
 ghost use Rattle.timetable.specs.Front.{IsSooner};
-ghost use Rattle.rounds.specs.Mark.{mark_in, arrival_in};
-ghost use Rattle.rounds.specs.Scratch.{rounds_of};
+ghost use Rattle.rounds.specs.Mark.{mark_in, arrival_in, arrival_of, moment_in};
+ghost use Rattle.rounds.specs.Scratch.{rounds_of, before_of};
 
 use crate::label::{Label, clear, no_labels};
 use crate::parts::Path;
-use crate::walking::{Stay, walk_on};
+use crate::walking::walk_further;
 use std::alloc::{AllocError, AllocFailed, Global};
 use std::marker::Model;
 use timetable::{StopId, Timetable};
@@ -28,11 +28,11 @@ impl Model for Round {
 }
 
 impl Round {
-    ghost use Rattle.std.specs.Prelude.{[], ◌∷◌, ◌++◌, OnOk};
     ghost use Rattle.timetable.specs.Table.{stops_of};
-    ghost use Rattle.timetable.specs.Journeys.{foot};
-    ghost use Rattle.rounds.specs.Mark.{AllEarly};
+    ghost use Rattle.timetable.specs.Journeys.{foot, link};
+    ghost use Rattle.rounds.specs.Mark.{AllEarly, at};
     ghost use Rattle.rounds.specs.Moves.{Walked};
+    ghost use Rattle.rounds.specs.Layers.{Stepped};
 
     /// No labels, at so many stops.
     pub(crate) fn empty(alloc: Global, stops: usize) -> Result<Self, AllocError>
@@ -43,16 +43,95 @@ impl Round {
         })
     }
 
-    /// The labels that come of these by the ways on foot at the end of a journey, in place of those that were there.
-    pub(crate) fn fill(&mut self, table: &Timetable, rode: &[Option<Label>])
-        requires starts { length rode.now ≡ stops_of table.now }
-        requires size { length self.old ≡ stops_of table.now }
-        requires early { AllEarly 4_000_000_000 rode.now }
-        ensures size { length self.new ≡ stops_of table.now }
-        ensures walked { Walked (foot table.now) (λ _. Unit {0}) rode.now [] self.new }
+    /// Forgets all.
+    pub(crate) fn forget(&mut self)
+        ensures size { length self.new ≡ length self.old }
+        ensures empty { (stop : ℕ) → at self.new stop ≡ None }
     {
         clear(&mut self.labels);
-        walk_on(table, Stay::Free, rode, &mut self.labels);
+    }
+
+    /// Walks from each stop where one alights sooner than it was walked from before: to the ends of journeys, whose labels
+    /// these are, and to where one may board next.
+    pub(crate) fn walk(
+        &mut self,
+        table: &Timetable,
+        rode: &[Option<Label>],
+        walked: &mut [u32],
+        ready: &mut [Option<Label>],
+    )
+        requires starts { length rode.now ≡ stops_of table.now }
+        requires moments { length walked.old ≡ stops_of table.now }
+        requires ends { length self.old ≡ stops_of table.now }
+        requires readies { length ready.old ≡ stops_of table.now }
+        requires early { AllEarly 4_000_000_000 rode.now }
+        requires walked { Stepped (foot table.now) walked.old self.old }
+        requires linked { Stepped (link table.now) walked.old ready.old }
+        ensures size { length self.new ≡ length self.old }
+        ensures walks { Walked (foot table.now) (λ _. Unit {0}) rode.now self.old self.new }
+        ensures links { Walked (link table.now) (λ _. Unit {0}) rode.now ready.old ready.new }
+        ensures walked { Stepped (foot table.now) walked.new self.new }
+        ensures linked { Stepped (link table.now) walked.new ready.new }
+    {
+        walk_further(table, rode, walked, &mut self.labels, ready);
+    }
+}
+
+/// When one was at each stop in the run before.
+#[derive(Debug, Drop)]
+pub struct Arrivals {
+    moments: Vec<Option<u32>>,
+}
+
+impl Model for Arrivals {
+    ghost use Rattle.std.specs.Prelude.{ℕ, List, Option};
+
+    ghost Value = { List (Option ℕ) };
+
+    ghost view = { λ a. a.moments.items };
+}
+
+// Keeps when one is at each stop by these labels.
+fn keep_moments(labels: &[Option<Label>], moments: &mut [Option<u32>])
+    requires { length moments.old ≡ length labels.now }
+    ensures { moments.new ≡ map arrival_of labels.now }
+{
+    for stop in 0..labels.len() {
+        moments[stop] = match &labels[stop] {
+            Some(here) => Some(here.arrival()),
+            None => None,
+        };
+    }
+}
+
+impl Arrivals {
+    ghost use Rattle.std.specs.Prelude.{slice_index_or};
+
+    /// No arrival, at so many stops.
+    pub(crate) fn none(alloc: Global, stops: usize) -> Result<Self, AllocError>
+        ensures { IfOk result (λ arrivals. length arrivals ≡ stops) }
+    {
+        Ok(Arrivals {
+            moments: vec![in alloc; None; stops]?,
+        })
+    }
+
+    /// Keeps the arrivals of a round.
+    pub(crate) fn keep(&mut self, round: &Round)
+        requires { length self.old ≡ length round.now }
+        ensures { self.new ≡ map arrival_of round.now }
+    {
+        keep_moments(&round.labels, &mut self.moments);
+    }
+
+    fn at(&self, stop: StopId) -> Option<u32>
+        ensures { result ≡ slice_index_or self.now stop None }
+    {
+        if stop.number() < self.moments.len() {
+            self.moments[stop.number()]
+        } else {
+            None
+        }
     }
 }
 
@@ -92,7 +171,7 @@ impl Rounds {
     pub fn view(&self) -> RoundView<'_>
         ensures { rounds_of result ≡ self.now }
     {
-        RoundView::of(&self.rounds)
+        RoundView::of(&self.rounds, &[])
     }
 }
 
@@ -100,13 +179,15 @@ impl Rounds {
 #[derive(Clone, Copy, Debug)]
 pub struct RoundView<'a> {
     rounds: &'a [Round],
+    before: &'a [Arrivals],
 }
 
 impl<'a> RoundView<'a> {
-    pub(crate) fn of(rounds: &'a [Round]) -> RoundView<'a>
-        ensures { rounds_of result ≡ rounds.now }
+    pub(crate) fn of(rounds: &'a [Round], before: &'a [Arrivals]) -> RoundView<'a>
+        ensures rounds { rounds_of result ≡ rounds.now }
+        ensures before { before_of result ≡ before.now }
     {
-        RoundView { rounds }
+        RoundView { rounds, before }
     }
 }
 
@@ -126,7 +207,8 @@ impl RoundView<'_> {
     pub fn pattern(&self, rides: u8, stop: StopId) -> Option<Path>
         requires some { 1 ≤ rides }
         requires few { rides ≤ length (rounds_of self.now) }
-        ensures sooner { IsSome result ↔ IsSooner (arrival_in (rounds_of self.now) rides stop) (arrival_in (rounds_of self.now) (rides - 1) stop) }
+        ensures sooner { IsSome result
+            ↔ IsSooner (arrival_in (rounds_of self.now) rides stop) (arrival_in (rounds_of self.now) (rides - 1) stop) }
         ensures path { IfSome result (λ path. IsSomeAnd (mark_in (rounds_of self.now) rides stop) (λ m. path.items ≡ m.path)) }
     {
         let label = self.label(rides, stop)?;
@@ -134,6 +216,28 @@ impl RoundView<'_> {
             Some(before) if before.arrival() <= label.arrival() => None,
             _ => Some(label.path()),
         }
+    }
+
+    /// Whether the run lowered the arrival: it is sooner than in the run before since the last restart.
+    pub fn changed(&self, rides: u8, stop: StopId) -> bool
+        requires { rides ≤ length (rounds_of self.now) }
+        ensures { IsTrue result ↔ IsSooner (arrival_in (rounds_of self.now) rides stop) (moment_in (before_of self.now) rides stop) }
+    {
+        match (self.arrival(rides, stop), self.before(rides, stop)) {
+            (Some(now), Some(before)) => now < before,
+            (Some(_), None) => true,
+            (None, _) => false,
+        }
+    }
+
+    fn before(&self, rides: u8, stop: StopId) -> Option<u32>
+        ensures { result ≡ moment_in (before_of self.now) rides stop }
+    {
+        if rides == 0 {
+            return None;
+        }
+        let arrivals = self.before.get(rides as usize - 1)?;
+        arrivals.at(stop)
     }
 
     fn label(&self, rides: u8, stop: StopId) -> Option<&Label>

@@ -49,12 +49,13 @@ impl Feed<'static> {
     };
 }
 
-/// Which days are covered: so many from a day of January 2024 on, by the clock of UTC; and the seconds of a walk or change whose
-/// row gives none.
+/// Which days are covered: so many from a day of January 2024 on, by the clock of a zone's rule; and the seconds of a walk or
+/// change whose row gives none.
 #[derive(Clone, Copy)]
 pub struct Span {
     pub first: i8,
     pub days: u8,
+    pub zone: &'static str,
     pub default_walk: u32,
 }
 
@@ -63,7 +64,22 @@ impl Span {
     pub const TUESDAY: Span = Span {
         first: 2,
         days: 1,
+        zone: "UTC0",
         default_walk: 120,
+    };
+
+    /// A Tuesday and a Wednesday.
+    pub const TWO_DAYS: Span = Span {
+        days: 2,
+        ..Span::TUESDAY
+    };
+
+    /// A Monday of 23 hours and a Tuesday: by this rule the clock is put forward in the night between them.
+    pub const SHORT_DAY: Span = Span {
+        first: 1,
+        days: 2,
+        zone: "CET-1CEST,M1.1.2,M10.5.0/3",
+        ..Span::TUESDAY
     };
 }
 
@@ -83,7 +99,7 @@ pub fn tables_of(rt: &HostRuntime, feed: Feed<'_>) -> Result<Tables, Fail> {
 /// The timetable of a feed.
 pub fn table_of(rt: &HostRuntime, feed: Feed<'_>, span: Span) -> Result<Timetable, Fail> {
     let tables = tables_of(rt, feed)?;
-    let cover = Cover::new(Date::new(2024, 1, span.first)?, span.days, "UTC0")?;
+    let cover = Cover::new(Date::new(2024, 1, span.first)?, span.days, span.zone)?;
     Ok(assemble(rt.alloc(), &tables, &cover, span.default_walk.min(86_400))?)
 }
 

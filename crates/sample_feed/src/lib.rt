@@ -7,7 +7,7 @@ mod towns;
 pub use feed::{
     CALENDAR, Feed, STOP_TIMES, STOPS, Span, TRANSFERS, TRIPS, demo, of_calls, table_of, tables_of,
 };
-pub use towns::town;
+pub use towns::{town, town_on};
 
 #[cfg(test)]
 mod tests;

@@ -77,9 +77,9 @@ fn write_course(
     Ok(())
 }
 
-/// A town of twelve stops on two days. Its trips are often alike and overtake one another, and some come by a stop twice. One walks
-/// between some of the stops, and can't change at one. Each seed has a town of its own.
-pub fn town(rt: &HostRuntime, seed: u32) -> Result<Timetable, Fail>
+/// A town of twelve stops on these days. Its trips are often alike and overtake one another, and some come by a stop twice. One
+/// walks between some of the stops, and can't change at one. Each seed has a town of its own.
+pub fn town_on(rt: &HostRuntime, seed: u32, span: Span) -> Result<Timetable, Fail>
     ensures { IfOk result (λ table. stops_of table ≡ 12) }
 {
     let mut state = seed;
@@ -98,9 +98,12 @@ pub fn town(rt: &HostRuntime, seed: u32) -> Result<Timetable, Fail>
         transfers: TRANSFERS,
         ..Feed::SAMPLE
     };
-    let span = Span {
-        days: 2,
-        ..Span::TUESDAY
-    };
     with_stops(table_of(rt, feed, span)?, 12)
+}
+
+/// The town of a seed on two days.
+pub fn town(rt: &HostRuntime, seed: u32) -> Result<Timetable, Fail>
+    ensures { IfOk result (λ table. stops_of table ≡ 12) }
+{
+    town_on(rt, seed, Span::TWO_DAYS)
 }

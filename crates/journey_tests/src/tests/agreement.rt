@@ -30,7 +30,7 @@ fn are_alike(plain: &RoundView<'_>, lines: &RoundView<'_>, stop: StopId) -> bool
 }
 
 // How many stops of a town are sooner by three rides, where two runs found the same.
-fn count_alike(plain: &RoundView<'_>, lines: &RoundView<'_>) -> Result<u32, Fail>
+pub fn count_alike(plain: &RoundView<'_>, lines: &RoundView<'_>) -> Result<u32, Fail>
     requires plain { length (rounds_of plain.now) ≡ 3 }
     requires lines { length (rounds_of lines.now) ≡ 3 }
 {

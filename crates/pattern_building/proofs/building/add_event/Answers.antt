@@ -1,16 +1,14 @@
-use Rattle.std.proofs.Common.{Option, ◌≡◌, ℕ, ◌+◌, ◌<◌, ◌≤◌, inl, arith, refl, sym, ◌∙◌, ap, subst, List, [], ◌∷◌, Err, length, slice_index_or, le_refl, All}
+use Rattle.std.proofs.Common.{Option, ◌≡◌, ℕ, ◌+◌, ◌≤◌, inl, arith, refl, ◌∙◌, ap, subst, List, ◌∷◌, Err}
 use Rattle.timetable.specs.Table.{Table, stops_of}
 use Rattle.rounds.specs.Mark.{Mark}
 use Rattle.rounds.specs.Answers.{AreRounds}
-use Rattle.rounds.specs.Scratch.{rounds_of, rides_of}
+use Rattle.rounds.specs.Scratch.{rounds_of, before_of, rides_of, source_of, kept_of}
 use Rattle.pattern_tree.specs.declared.fault.TreeFault.{TreeFault}
 use Rattle.pattern_tree.specs.Forest.{Pair}
 use Rattle.pattern_tree.specs.Completeness.{Earned}
 use Rattle.pattern_building.specs.RoundPairs.{InRound, UpToRound, AddsGiven, HasGiven}
-use Rattle.std.proofs.lemmas.List.{get_or-set_other, get_or_default}
-use Rattle.std.proofs.lemmas.List.Elements.{All-set}
-use Rattle.pattern_building.specs.Arrivals.{kept_at, kept_in, Changed}
-use Rattle.pattern_building.proofs.ArrivalFacts.{later_kept, arrivals_of, kept_round, changed_round}
+use Rattle.pattern_building.specs.Lowered.{Lowered}
+use Rattle.pattern_building.proofs.LaterFacts.{later_kept, lowered_round}
 use Rattle.pattern_building.proofs.GivenFacts.{given_wider, adds_wider, adds_then, has_then, more_rounds, own_round, adds_front}
 use Rattle.pattern_building.proofs.BestFacts.{earned_up, complete_given}
 use Rattle.pattern_building.proofs.CompleteFacts.{end_inside, event_early, too_many, same_fault}
@@ -23,9 +21,6 @@ loop-round-init g c = record {
   adds = λ p h. inl h;
   keeps = λ p h. h;
   all = λ p given. let a = given.1.0.0 in let b = given.1.0.1 in absurd (omega (arith, a, b));
-  sizes = subst (λ (n : ℕ). All (λ arrivals. length arrivals ≡ n) c.args.kept.now) (sym c.stops-stops.ensures.value) c.requires.sizes;
-  kept = λ r t h. let a = h.0 in let b = h.1 in absurd (omega (arith, a, b));
-  rest = λ r le. refl;
 }
 
 pub loop-round-preserved : goal.loop-round-preserved
@@ -37,36 +32,25 @@ loop-round-preserved g c =
     let r = c.loop-round.round in
     let old = c.loop-round.tree.pairs in
     let new = c.add_round.new.tree.pairs in
-    let first = c.args.kept.now in
-    let kept = c.loop-round.kept in
-    let before = slice_index_or kept r c.index-kept-round.result in
-    let row = c.add_round.new.kept in
-    let e = c.rides-rides.ensures in
-    let v = c.number-round-end.ensures.value in
-    let l = c.loop-round-test.true in
-    let long = c.loop-round.auto.kept in
-    let count = c.requires.count in
-    let in' : r < length kept = omega (arith, e, v, l, long, count) in
-    let same : before ≡ slice_index_or first r [] = get_or_default kept r c.index-kept-round.result [] in' ∙ inv.rest r (le_refl r) in
+    let before = before_of c.in_ok-view.view in
     record {
       source = now.source ∙ inv.source;
       once = now.once;
       adds = adds_then rounds (UpToRound r n) (UpToRound (r + 1) n) c.args.tree.now.pairs old new (λ i t h. more_rounds r (r + 1) n i t (omega arith) h) inv.adds
           (adds_wider rounds (InRound (r + 1) n) (UpToRound (r + 1) n) old new (own_round r n) now.adds);
       keeps = λ p h. now.keeps p (inv.keeps p h);
-      all = has_then rounds (Changed rounds (kept_in first) (UpToRound r n)) (Changed rounds (λ _ t. kept_at before t) (InRound (r + 1) n))
-          (Changed rounds (kept_in first) (UpToRound (r + 1) n)) old new (changed_round rounds r n first before same) inv.all now.keeps now.all;
-      sizes = All-set (λ (arrivals : List (Option ℕ)). length arrivals ≡ n) kept r row now.size inv.sizes;
-      kept = kept_round rounds r n kept row in' inv.kept now.kept;
-      rest = λ i le. get_or-set_other kept r i row [] (λ e. (let b : ⊥ = omega (arith, le, e) in b)) ∙ inv.rest i (omega (arith, le));
+      all = has_then rounds (Lowered rounds before (UpToRound r n)) (Lowered rounds before (InRound (r + 1) n)) (Lowered rounds before (UpToRound (r + 1) n))
+          old new (lowered_round rounds before r n) inv.all now.keeps now.all;
     }
 
-pub run-requires-clause-early : goal.run-requires-clause-early
-run-requires-clause-early g c = event_early c.args.table.now c.args.source c.args.event c.stops-stops.ensures.valid c.requires.event
+pub run_kept-requires-clause-early : goal.run_kept-requires-clause-early
+run_kept-requires-clause-early g c = event_early c.args.table.now (source_of c.args.scratch.now) c.args.event c.stops-stops.ensures.valid c.requires.event
 
 pub returns-clause-complete : goal.returns-clause-complete
 returns-clause-complete g c =
     let T = c.args.table.now in
+    let s = source_of c.args.scratch.now in
+    let before = before_of c.in_ok-view.view in
     let k = rides_of c.args.scratch.now in
     let rounds = rounds_of c.in_ok-view.view in
     let n = c.stops-stops.result in
@@ -76,10 +60,10 @@ returns-clause-complete g c =
     let e = c.rides-rides.ensures in
     let t = c.loop-round-test.false in
     let most : k ≤ r = omega arith in
-    complete_given T c.args.source k c.args.event rounds c.in_ok-view.ensures.right content c.args.kept.now
-    (end_inside T c.args.source c.args.event c.stops-stops.ensures.valid)
-    (later_kept T c.args.source k c.args.event c.args.tree.now.pairs content c.args.kept.now inv.keeps c.requires.later)
-    (subst (λ (m : ℕ). HasGiven rounds (Changed rounds (kept_in c.args.kept.now) (UpToRound k m)) content) c.stops-stops.ensures.value
+    complete_given T s k c.args.event rounds c.in_ok-view.ensures.right content (kept_of c.args.scratch.now) before
+    (end_inside T s c.args.event c.stops-stops.ensures.valid) c.in_ok-view.ensures.before
+    (later_kept T s k c.args.event c.args.tree.now.pairs content (kept_of c.args.scratch.now) inv.keeps c.requires.later)
+    (subst (λ (m : ℕ). HasGiven rounds (Lowered rounds before (UpToRound k m)) content) c.stops-stops.ensures.value
     (λ p given. inv.all p (given.0, (more_rounds k r n given.0 p.1 most given.1.0, given.1.1), given.2)))
 
 pub returns-clause-earned : goal.returns-clause-earned
@@ -93,7 +77,7 @@ returns-clause-earned g c =
     let v = c.number-round-end.ensures.value in
     let l = c.loop-round.auto.round-end in
     let few : r ≤ k = omega (arith, e, v, l) in
-    earned_up c.args.table.now c.args.source k c.args.event rounds c.in_ok-view.ensures.right n c.args.tree.now.pairs content c.stops-stops.ensures.value
+    earned_up c.args.table.now (source_of c.args.scratch.now) k c.args.event rounds c.in_ok-view.ensures.right n c.args.tree.now.pairs content c.stops-stops.ensures.value
     (adds_wider rounds (UpToRound r n) (UpToRound k n) c.args.tree.now.pairs content (λ i t h. more_rounds r k n i t few h) c.loop-round.invariant.adds)
     c.requires.earned
 
@@ -112,7 +96,7 @@ returns-in_err-add_round-clause-earned g c =
     let e = c.rides-rides.ensures in
     let v = c.number-round-end.ensures.value in
     let l = c.loop-round-test.true in
-    earned_so_far c.args.table.now c.args.source (rides_of c.args.scratch.now) c.args.event (rounds_of c.in_ok-view.view) c.in_ok-view.ensures.right
+    earned_so_far c.args.table.now (source_of c.args.scratch.now) (rides_of c.args.scratch.now) c.args.event (rounds_of c.in_ok-view.view) c.in_ok-view.ensures.right
     c.stops-stops.result c.loop-round.round c.args.tree.now.pairs c.loop-round.tree.pairs c.add_round.new.tree.pairs
     c.stops-stops.ensures.value (omega (arith, e, v, l)) c.loop-round.invariant.adds c.add_round.ensures.adds c.requires.earned
 
@@ -122,7 +106,7 @@ returns-in_err-add_round-clause-keeps g c = λ p h. c.add_round.ensures.keeps p 
 pub returns-in_err-add_round-clause-large : goal.returns-in_err-add_round-clause-large
 returns-in_err-add_round-clause-large g c = λ is.
     let T = c.args.table.now in
-    let s = c.args.source in
+    let s = source_of c.args.scratch.now in
     let k = rides_of c.args.scratch.now in
     let rounds = rounds_of c.in_ok-view.view in
     let n = c.stops-stops.result in
@@ -141,17 +125,3 @@ returns-in_err-add_round-clause-large g c = λ is.
     too_many T s k new found.0
     (earned_up T s k c.args.event rounds right n new (found.0 ∷ new) c.stops-stops.ensures.value (adds_front rounds (UpToRound k n) new found.0 given) so_far)
     c.add_round.ensures.once found.2
-
-pub returns-clause-kept : goal.returns-clause-kept
-returns-clause-kept g c =
-    let k = rides_of c.args.scratch.now in
-    let n = c.stops-stops.result in
-    let r = c.loop-round.round in
-    let e = c.rides-rides.ensures in
-    let t = c.loop-round-test.false in
-    let most : k ≤ r = omega arith in
-    arrivals_of c.args.table.now c.args.source k c.args.event n (rounds_of c.in_ok-view.view) c.loop-round.kept c.in_ok-view.ensures.right c.stops-stops.ensures.value
-    (λ i t seen. c.loop-round.invariant.kept i t (more_rounds k r n i t most seen))
-
-pub returns-clause-sizes : goal.returns-clause-sizes
-returns-clause-sizes g c = subst (λ (n : ℕ). All (λ arrivals. length arrivals ≡ n) c.loop-round.kept) c.stops-stops.ensures.value c.loop-round.invariant.sizes

@@ -1,18 +1,17 @@
-use Rattle.std.proofs.Common.{Option, ◌≡◌, ◌≢◌, false, slice_set, le_refl, ℕ, ◌+◌, ◌-◌, ◌<◌, ◌≤◌, inl, inr, arith, refl, sym, ◌∙◌, ap, subst, List, length, None, IsSome, true≢false, Err}
+use Rattle.std.proofs.Common.{Option, ◌≡◌, ◌≢◌, false, ℕ, ◌+◌, ◌-◌, ◌<◌, inl, inr, arith, refl, sym, ◌∙◌, ap, subst, List, None, IsSome, true≢false, Err}
 use Rattle.timetable.specs.Front.{IsSooner}
-use Rattle.rounds.specs.Mark.{arrival_in}
-use Rattle.rounds.specs.Scratch.{rounds_of}
+use Rattle.rounds.specs.Mark.{arrival_in, moment_in}
+use Rattle.rounds.specs.Scratch.{rounds_of, before_of}
 use Rattle.pattern_tree.specs.declared.fault.TreeFault.{TreeFault}
 use Rattle.pattern_tree.specs.Forest.{Step, Pair}
 use Rattle.pattern_tree.specs.Content.{Content, IsTooLarge}
 use Rattle.pattern_building.specs.RoundPairs.{Gives, InRound, AddsGiven, Keeps}
-use Rattle.std.proofs.lemmas.List.{length-set, get_or-set_other}
-use Rattle.pattern_building.specs.Arrivals.{kept_at, Changed, AreKept}
-use Rattle.pattern_building.proofs.ArrivalFacts.{same_or_not, changed_split, has_changed, has_same, kept_more}
+use Rattle.pattern_building.specs.Lowered.{Lowered}
+use Rattle.pattern_building.proofs.LaterFacts.{lowered_split, has_lowered, has_no_sooner}
 use Rattle.pattern_building.proofs.GivenFacts.{IsAdded, AtStop, more_stops, all_stops, adds_wider, adds_one, has_then, has_one, has_none, next_stop}
 use Rattle.pattern_building.proofs.CompleteFacts.{same_fault}
 use Rattle.pattern_building.proofs.building.add_round.Goals as goal
-use Rattle.pattern_building.proofs.building.add_round.Goals.{then-keep+in-Some+in_ok-insert, then-keep+in_default, else-keep}
+use Rattle.pattern_building.proofs.building.add_round.Goals.{then-changed+in-Some+in_ok-insert, then-changed+in_default, else-changed}
 
 none_is : {X : Type 0} (o : Option X) → o ≡ None → IsSome o → ⊥
 none_is {X} o e h = absurd (true≢false (sym (subst (λ (o : Option X). IsSome o) e h)))
@@ -24,9 +23,6 @@ loop-number-init g c = record {
   adds = λ p h. inl h;
   keeps = λ p h. h;
   all = λ p given. let a = given.1.0.1 in absurd (omega (arith, a));
-  size = c.requires.size;
-  kept = λ r t h. let a = h.1 in absurd (omega (arith, a));
-  rest = λ t le. refl;
 }
 
 pub loop-number-preserved : goal.loop-number-preserved
@@ -34,29 +30,15 @@ loop-number-preserved g c =
     let r = c.args.rides in
     let n = c.loop-number.number in
     let rounds = rounds_of c.args.view.now in
+    let before = before_of c.args.view.now in
+    let first = c.args.tree.now.pairs in
     let old = c.loop-number.tree.pairs in
     let inv = c.loop-number.invariant in
-    let first : ℕ → ℕ → Option ℕ = λ _ t. kept_at c.args.kept.now t in
-    let row = c.loop-number.kept in
     let stop = c.new-stop.ensures in
-    let below = c.loop-number-test.true in
-    let in' : n < length row = (let e = inv.size in omega (arith, e, below)) in
-    let arrival : c.arrival-arrival.result ≡ arrival_in rounds r n = subst (λ (t : ℕ). c.arrival-arrival.result ≡ arrival_in rounds r t) stop c.arrival-arrival.ensures in
-    let set : c.keep.new.self ≡ slice_set row n (arrival_in rounds r n) =
-    c.keep.ensures.kept ∙ ap (λ (i : ℕ). slice_set row i c.arrival-arrival.result) stop ∙ ap (λ (a : Option ℕ). slice_set row n a) arrival in
-    let kept = subst (λ (x : List (Option ℕ)). AreKept rounds (λ _ t. kept_at x t) (InRound r (n + 1))) (sym set) (kept_more rounds r n row in' inv.kept) in
-    let rest : (t : ℕ) → n + 1 ≤ t → kept_at c.keep.new.self t ≡ kept_at c.args.kept.now t = λ t le.
-    ap (λ (x : List (Option ℕ)). kept_at x t) set ∙ get_or-set_other row n t (arrival_in rounds r n) None (λ e. (let b : ⊥ = omega (arith, le, e) in b)) ∙ inv.rest t (omega (arith, le)) in
-    let size : length c.keep.new.self ≡ c.args.stops = ap (λ (x : List (Option ℕ)). length x) set ∙ length-set row n (arrival_in rounds r n) ∙ inv.size in
-    let same : c.keep.result ≡ false → kept_at row n ≡ arrival_in rounds r n = λ no. elim (same_or_not (kept_at row n) (arrival_in rounds r n)) [
-      | inl e ↦ e
-      | inr apart ↦
-          let other : kept_at row c.new-stop.result ≢ c.arrival-arrival.result = λ e. apart (subst (λ (t : ℕ). kept_at row t ≡ c.arrival-arrival.result) stop e ∙ arrival) in
-          absurd (true≢false (sym (c.keep.ensures.changed.1 other) ∙ no))
-    ] in
-    let split = changed_split rounds first (InRound r n) (AtStop r n) (InRound r (n + 1)) (next_stop r n) in
-    elim c.if-keep.branch [
-      | then-keep+in-Some+in_ok-insert w ↦
+    let split = lowered_split rounds before (InRound r n) (AtStop r n) (InRound r (n + 1)) (next_stop r n) in
+    let wider = adds_wider rounds (InRound r n) (InRound r (n + 1)) first old (more_stops r n) inv.adds in
+    elim c.if-changed.branch [
+      | then-changed+in-Some+in_ok-insert w ↦
           let new = w.insert.new.self.pairs in
           let p : Pair = (w.in-Some.path.items, c.new-stop.result) in
           let gives : Gives rounds r p = (w.in-Some.ensures.sooner.0 refl, w.in-Some.ensures.path) in
@@ -64,38 +46,30 @@ loop-number-preserved g c =
           rw w.tree-is record {
             source = w.insert.ensures.source ∙ inv.source;
             once = w.insert.ensures.once;
-            adds = adds_one rounds (InRound r n) (InRound r (n + 1)) c.args.tree.now.pairs old new p (more_stops r n) inv.adds (r, (refl, (let e = stop in omega (arith, e))), gives) added;
+            adds = adds_one rounds (InRound r n) (InRound r (n + 1)) first old new p (more_stops r n) inv.adds (r, (refl, (let e = stop in omega (arith, e))), gives) added;
             keeps = λ q h. (added q).1 (inl (inv.keeps q h));
-            all = has_then rounds (Changed rounds first (InRound r n)) (Changed rounds first (AtStop r n)) (Changed rounds first (InRound r (n + 1))) old new split inv.all (λ q h. (added q).1 (inl h))
-                (has_changed rounds first (AtStop r n) new (has_one rounds r n p new gives stop ((added p).1 (inr refl))));
-            size = size;
-            kept = kept;
-            rest = rest;
+            all = has_then rounds (Lowered rounds before (InRound r n)) (Lowered rounds before (AtStop r n)) (Lowered rounds before (InRound r (n + 1))) old new split inv.all (λ q h. (added q).1 (inl h))
+                (has_lowered rounds before (AtStop r n) new (has_one rounds r n p new gives stop ((added p).1 (inr refl))));
           }
-      | then-keep+in_default w ↦
+      | then-changed+in_default w ↦
           rw w.tree-is record {
             source = inv.source;
             once = inv.once;
-            adds = adds_wider rounds (InRound r n) (InRound r (n + 1)) c.args.tree.now.pairs old (more_stops r n) inv.adds;
+            adds = wider;
             keeps = inv.keeps;
-            all = has_then rounds (Changed rounds first (InRound r n)) (Changed rounds first (AtStop r n)) (Changed rounds first (InRound r (n + 1))) old old split inv.all (λ q h. h)
-                (has_changed rounds first (AtStop r n) old
+            all = has_then rounds (Lowered rounds before (InRound r n)) (Lowered rounds before (AtStop r n)) (Lowered rounds before (InRound r (n + 1))) old old split inv.all (λ q h. h)
+                (has_lowered rounds before (AtStop r n) old
                 (has_none rounds r n old (λ sooner. none_is w.pattern.result w.in_default.is (w.pattern.ensures.sooner.1 (subst (λ (t : ℕ). IsSooner (arrival_in rounds r t) (arrival_in rounds (r - 1) t)) (sym stop) sooner)))));
-            size = size;
-            kept = kept;
-            rest = rest;
           }
-      | else-keep w ↦
+      | else-changed w ↦
           rw w.tree-is record {
             source = inv.source;
             once = inv.once;
-            adds = adds_wider rounds (InRound r n) (InRound r (n + 1)) c.args.tree.now.pairs old (more_stops r n) inv.adds;
+            adds = wider;
             keeps = inv.keeps;
-            all = has_then rounds (Changed rounds first (InRound r n)) (Changed rounds first (AtStop r n)) (Changed rounds first (InRound r (n + 1))) old old split inv.all (λ q h. h)
-                (has_same rounds first r n old (sym (inv.rest n (le_refl n)) ∙ same w.if-keep.false));
-            size = size;
-            kept = kept;
-            rest = rest;
+            all = has_then rounds (Lowered rounds before (InRound r n)) (Lowered rounds before (AtStop r n)) (Lowered rounds before (InRound r (n + 1))) old old split inv.all (λ q h. h)
+                (has_no_sooner rounds before r n old (λ sooner. true≢false
+                (sym (c.changed.ensures.1 (subst (λ (t : ℕ). IsSooner (arrival_in rounds r t) (moment_in before r t)) (sym stop) sooner)) ∙ w.if-changed.false)));
           }
     ]
 

@@ -1,8 +1,8 @@
-use Rattle.std.proofs.Common.{◌≡◌, ◌≢◌, ℕ, ◌≤◌, length}
+use Rattle.std.proofs.Common.{◌≡◌, ◌≢◌}
 use Rattle.std.specs.List.{AllPairs}
-use Rattle.rounds.specs.Scratch.{rounds_of}
+use Rattle.rounds.specs.Scratch.{rounds_of, before_of}
 use Rattle.pattern_building.specs.RoundPairs.{InRound, AddsGiven, Keeps, HasGiven}
-use Rattle.pattern_building.specs.Arrivals.{kept_at, Changed, AreKept}
+use Rattle.pattern_building.specs.Lowered.{Lowered}
 use Rattle.pattern_building.proofs.building.add_round.Given as goal
 
 abbrev pub invariant-loop-number : goal.invariant-loop-number
@@ -11,8 +11,5 @@ invariant-loop-number g l = record {
   once : AllPairs (λ p q. p ≢ q) l.tree.pairs;
   adds : AddsGiven (rounds_of l.view) (InRound l.rides l.number) l.fn.tree.pairs l.tree.pairs;
   keeps : Keeps l.fn.tree.pairs l.tree.pairs;
-  all : HasGiven (rounds_of l.view) (Changed (rounds_of l.view) (λ _ t. kept_at l.fn.kept t) (InRound l.rides l.number)) l.tree.pairs;
-  size : length l.kept ≡ l.stops;
-  kept : AreKept (rounds_of l.view) (λ _ t. kept_at l.kept t) (InRound l.rides l.number);
-  rest : (t : ℕ) → l.number ≤ t → kept_at l.kept t ≡ kept_at l.fn.kept t;
+  all : HasGiven (rounds_of l.view) (Lowered (rounds_of l.view) (before_of l.view) (InRound l.rides l.number)) l.tree.pairs;
 }
