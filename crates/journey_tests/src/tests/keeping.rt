@@ -42,7 +42,7 @@ fn compare_next(
     requires source { source_of scratch.old ≡ source }
     requires known { source < stops_of table.now }
     requires early { depart ≤ 4_000_000_000 }
-    requires kept { MayGoOn table.now depart scratch.old }
+    requires kept { (d : ℕ) → d ≤ depart → MayGoOn table.now d scratch.old }
     requires room { length last.old ≡ 36 }
     ensures table { IsMadeFor scratch.new table.now }
     ensures rides { rides_of scratch.new ≡ 3 }
