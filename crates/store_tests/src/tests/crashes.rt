@@ -4,15 +4,14 @@ ghost use Rattle.std.specs.Prelude.{IfOk};
 ghost use Rattle.disk_model.specs.MemDisk.{state_of};
 ghost use Rattle.section_store.specs.Store.{IsFreshRest};
 
+use super::files::{Town, bytes_of, new_file, old_file, town_of};
+use super::layout::list_in;
 use disk_model::MemDisk;
 use section_store::{PutFault, begin};
 use std::alloc::Global;
 use std::process::Abort;
 use std::test::Fail;
 use timetable::Rides;
-
-use super::files::{Town, bytes_of, new_file, old_file, town_of};
-use super::layout::list_in;
 
 // When the calls of the disk fail, counted from 1: one alone, or that and all later ones.
 #[derive(Clone, Copy)]
@@ -62,7 +61,8 @@ fn run(alloc: Global, town: &Town, before: Before, failing: Failing) -> Result<E
     let mut wanted = PutFault::Device;
     for tree in &town.trees {
         match store.put(tree) {
-            Ok(receipt) if receipt.number == receipts && wanted == PutFault::Device => receipts += 1,
+            Ok(receipt) if receipt.number == receipts && wanted == PutFault::Device => receipts +=
+                1,
             Err(fault) if fault == wanted => wanted = PutFault::Failed,
             _ => return Err(Fail::new("another answer")),
         }
@@ -111,7 +111,7 @@ fn written_in(alloc: Global, one: &[u8], other: &[u8], target: &[u8]) -> Result<
 // Whether the bytes stand for the trees with a receipt, or for one more.
 fn is_right(town: &Town, receipts: usize, bytes: &[u8]) -> bool {
     match list_in(bytes, &town.header) {
-        Some(count) => count == receipts || count == receipts + 1,
+        Some(count) => count == receipts || count.checked_sub(1) == Some(receipts),
         None => false,
     }
 }
@@ -214,6 +214,9 @@ fn crashes_of_a_new_file(rt: HostRuntime) -> Result<(), Fail> {
 #[test]
 fn crashes_of_an_old_file(rt: HostRuntime) -> Result<(), Fail> {
     let town = town_of(&rt)?;
-    assert_eq!(rt; check_calls(&rt, rt.alloc(), &town, Before::ClosedGate)?, 29);
+    assert_eq!(rt;
+        check_calls(&rt, rt.alloc(), &town, Before::ClosedGate)?,
+        29
+    );
     Ok(())
 }

@@ -6,6 +6,7 @@ ghost use Rattle.timetable.specs.Table.{stops_of};
 ghost use Rattle.disk_model.specs.MemDisk.{state_of};
 ghost use Rattle.section_store.specs.Store.{IsFreshRest};
 
+use super::layout::header_of;
 use disk_model::{Disk, MemDisk, read_up_to};
 use pattern_building::finish;
 use pattern_tree::{Arena, Finished};
@@ -17,8 +18,6 @@ use std::sync::Arc;
 use std::test::Fail;
 use timetable::{Rides, StopId, Timetable};
 
-use super::layout::header_of;
-
 /// The trees of the sample feed's five stops, and the header of their file.
 #[derive(Drop)]
 pub struct Town {
@@ -28,13 +27,25 @@ pub struct Town {
 }
 
 /// The tree of a stop of the sample feed.
-pub fn tree_of(alloc: Global, table: &Arc<Timetable>, source: u16, k: Rides) -> Result<Finished, Fail>
+pub fn tree_of(
+    alloc: Global,
+    table: &Arc<Timetable>,
+    source: u16,
+    k: Rides,
+) -> Result<Finished, Fail>
     requires stops { stops_of (arc_value table.now) ≡ 5 }
     requires source { source < 5 }
 {
     let mut scratch = Scratch::new(alloc, table, k)?;
     let mut arena = Arena::new(alloc)?;
-    Ok(finish(alloc, table, StopId::new(source), k, &mut scratch, &mut arena)?)
+    Ok(finish(
+        alloc,
+        table,
+        StopId::new(source),
+        k,
+        &mut scratch,
+        &mut arena,
+    )?)
 }
 
 /// The sample feed's town, for journeys of at most three rides.

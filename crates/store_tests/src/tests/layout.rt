@@ -44,7 +44,9 @@ fn behind<'a>(rest: &'a [u8], text: &[u8]) -> Option<&'a [u8]> {
     let (gate, rest) = rest.split_first()?;
     let (size, rest) = rest.split_at_checked(4)?;
     let (found, rest) = rest.split_at_checked(text.len())?;
-    let same = *gate == 0xA5 && size == u32::try_from(text.len()).ok()?.to_be_bytes().as_slice() && found == text;
+    let same = *gate == 0xA5
+        && size == u32::try_from(text.len()).ok()?.to_be_bytes().as_slice()
+        && found == text;
     same.then_some(rest)
 }
 
@@ -54,18 +56,14 @@ pub fn list_in(bytes: &[u8], header: &[u8]) -> Option<usize> {
         return Some(0);
     }
     let mut rest = bytes.strip_prefix(header)?;
-    let mut count = 0;
-    for text in TEXTS {
-        match behind(rest, text) {
-            Some(more) => {
-                rest = more;
-                count += 1;
-            }
-            None => break,
+    for (count, text) in TEXTS.iter().enumerate() {
+        if rest.first() != Some(&0xA5) {
+            return rest.first().map(|_| count);
         }
+        rest = behind(rest, text)?;
     }
     match rest.first() {
-        Some(gate) if *gate != 0xA5 => Some(count),
+        Some(gate) if *gate != 0xA5 => Some(TEXTS.len()),
         _ => None,
     }
 }

@@ -1,14 +1,13 @@
 //! What a file has after each put, and what a crash in one of them leaves.
 
+use super::files::{Town, bytes_of, new_store, town_of, tree_of};
+use super::layout::{file_of, list_in};
 use disk_model::MemDisk;
 use section_store::{PutFault, SectionStore, Step};
 use std::alloc::Global;
 use std::process::Abort;
 use std::test::Fail;
 use timetable::Rides;
-
-use super::files::{Town, bytes_of, new_store, town_of, tree_of};
-use super::layout::{file_of, list_in};
 
 // How long the file is after the store was begun, and after each put.
 const LENGTHS: [usize; 6] = [155, 216, 253, 264, 275, 286];
@@ -47,7 +46,12 @@ fn files_by_the_layout(rt: HostRuntime) -> Result<(), Fail> {
 }
 
 // A crash of the file leaves one of this length, with these bytes where a crash leaves them open.
-fn crashed(alloc: Global, store: SectionStore<MemDisk>, len: u64, fill: &[u8]) -> Result<Vec<u8>, Fail> {
+fn crashed(
+    alloc: Global,
+    store: SectionStore<MemDisk>,
+    len: u64,
+    fill: &[u8],
+) -> Result<Vec<u8>, Fail> {
     match store.into_disk().crash(len, fill) {
         Ok(mut disk) => bytes_of(alloc, &mut disk),
         Err(_) => Err(Fail::new("no such crash")),
