@@ -1,4 +1,4 @@
-//! Building the tree of a source.
+//! Building the trees of sources.
 
 ghost use Rattle.std.specs.Prelude.{◌<◌};
 ghost use Rattle.timetable.specs.Table.{stops_of};
@@ -8,8 +8,9 @@ use pattern_building::build;
 use pattern_query::Patterns;
 use pattern_tree::{Arena, TreeFault};
 use rounds::Scratch;
-use std::alloc::Global;
+use std::alloc::{AllocError, Global};
 use timetable::{StopId, Timetable};
+use tree_codec::encode;
 
 /// How large a tree is.
 #[derive(Clone, Copy, Debug)]
@@ -18,14 +19,32 @@ pub struct TreeSize {
     pub ends: u32,
 }
 
-/// Builds the tree of a stop in the arena, for journeys of at most as many rides as the scratch has: its patterns, and its size.
-pub fn source_patterns(
+/// The trees that were built: the patterns of each, and the texts of all, one behind the other.
+#[derive(Drop)]
+pub struct Trees {
+    pub patterns: Vec<Patterns>,
+    pub texts: Vec<u8>,
+}
+
+impl Trees {
+    /// No trees.
+    pub fn new(alloc: Global) -> Trees {
+        Trees {
+            patterns: Vec::new(alloc),
+            texts: Vec::new(alloc),
+        }
+    }
+}
+
+/// Builds the tree of a stop in the arena, for journeys of at most as many rides as the scratch has, and adds it to the trees. Its size.
+pub fn build_tree(
     alloc: Global,
     arena: &Arena,
     timetable: &Timetable,
     source: StopId,
     scratch: &mut Scratch,
-) -> Result<(Patterns, TreeSize), TreeFault>
+    trees: &mut Trees,
+) -> Result<TreeSize, TreeFault>
     requires table { IsMadeFor scratch.old timetable.now }
     requires known { source < stops_of timetable.now }
     ensures { IsMadeFor scratch.new timetable.now }
@@ -35,5 +54,8 @@ pub fn source_patterns(
         nodes: tree.nodes(),
         ends: tree.ends(),
     };
-    Ok((Patterns::of(alloc, &tree)?, size))
+    let patterns = Patterns::of(alloc, &tree)?;
+    trees.patterns.push(patterns).map_err(AllocError::from)?;
+    encode(&tree, &mut trees.texts)?;
+    Ok(size)
 }

@@ -8,8 +8,9 @@ ghost use Rattle.direct_connections.specs.Direct.{IsMadeFor};
 ghost use Rattle.programs.specs.declared.fault.Fault.TheVariants.{BadDate};
 
 use crate::asking::{ask_direct, ask_plain, ask_rounds, ask_trees};
-use crate::building::source_patterns;
+use crate::building::{Trees, build_tree};
 use crate::clock::{now, tell};
+use crate::texts::{Rewritten, read_texts, write_texts};
 use crate::total::times_faster;
 use crate::words::Measure;
 use direct_connections::Direct;
@@ -107,14 +108,14 @@ fn measure_journeys(
     Ok(())
 }
 
-// Measures the tree of a stop, which is built in the arena's memory, and keeps its patterns.
+// Measures the tree of a stop, which is built in the arena's memory, and keeps its patterns and its text.
 fn measure_tree(
     rt: &HostRuntime,
     timetable: &Timetable,
     source: StopId,
     scratch: &mut Scratch,
     arena: &mut Arena,
-    trees: &mut Vec<Patterns>,
+    trees: &mut Trees,
 ) -> Result<(), Fault<'static>>
     requires made { IsScratchFor scratch.old timetable.now }
     requires known { source < stops_of timetable.now }
@@ -122,8 +123,7 @@ fn measure_tree(
 {
     let alloc = rt.alloc();
     let start = now(rt);
-    let (patterns, size) = source_patterns(alloc, arena, timetable, source, scratch)?;
-    trees.push(patterns).map_err(AllocError::from)?;
+    let size = build_tree(alloc, arena, timetable, source, scratch, trees)?;
     arena.renew(alloc)?;
     let number = source.number();
     tell(rt, "tree", number as u64, start);
@@ -137,7 +137,7 @@ fn measure_trees(
     timetable: &Timetable,
     scratch: &mut Scratch,
     arena: &mut Arena,
-    trees: &mut Vec<Patterns>,
+    trees: &mut Trees,
     sources: u32,
 ) -> Result<(), Fault<'static>>
     requires { IsScratchFor scratch.old timetable.now }
@@ -181,6 +181,29 @@ fn measure_answers(
     Ok(())
 }
 
+// Measures how the trees' texts are read, and how they are written again.
+fn measure_texts(rt: &HostRuntime, stops: usize, trees: &Trees) -> Result<(), AllocError> {
+    let alloc = rt.alloc();
+    let texts = trees.texts.as_slice();
+    let bytes = texts.len();
+
+    let start = now(rt);
+    let read = read_texts(alloc, texts, stops, trees.patterns.len())?;
+    tell(rt, "decode", bytes as u64, start);
+
+    let start = now(rt);
+    let written = write_texts(alloc, &read)?;
+    tell(rt, "encode", written.len() as u64, start);
+
+    let rewritten = Rewritten {
+        trees: read.len(),
+        bytes: written.len(),
+        same: written.as_slice() == texts,
+    };
+    let _ = writeln!(rt.stdout(), "texts {rewritten}");
+    Ok(())
+}
+
 // Measures searches for journeys: by the rounds, and from the trees of the first stops. Without trees nothing is asked of them.
 fn measure_searches(
     rt: &HostRuntime,
@@ -197,7 +220,7 @@ fn measure_searches(
     let mut scratch = Scratch::new(alloc, timetable, Rides::new(job.settings.rides))?;
     measure_journeys(rt, timetable, &mut scratch, job, start)?;
 
-    let mut trees = Vec::new(alloc);
+    let mut trees = Trees::new(alloc);
     measure_trees(
         rt,
         timetable,
@@ -206,9 +229,10 @@ fn measure_searches(
         &mut trees,
         job.sources,
     )?;
-    if !trees.is_empty() {
-        let trees = trees.as_slice();
-        measure_answers(rt, timetable, lines, connections, &mut scratch, trees, job)?;
+    if !trees.patterns.is_empty() {
+        let patterns = trees.patterns.as_slice();
+        measure_answers(rt, timetable, lines, connections, &mut scratch, patterns, job)?;
+        measure_texts(rt, timetable.stops(), &trees)?;
     }
     Ok(())
 }
