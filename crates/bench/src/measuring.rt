@@ -231,7 +231,15 @@ fn measure_searches(
     )?;
     if !trees.patterns.is_empty() {
         let patterns = trees.patterns.as_slice();
-        measure_answers(rt, timetable, lines, connections, &mut scratch, patterns, job)?;
+        measure_answers(
+            rt,
+            timetable,
+            lines,
+            connections,
+            &mut scratch,
+            patterns,
+            job,
+        )?;
         measure_texts(rt, timetable.stops(), &trees)?;
     }
     Ok(())
