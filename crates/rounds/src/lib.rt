@@ -17,7 +17,6 @@ mod view;
 mod walking;
 
 pub use best::scan;
-pub use events::departures;
 pub use parts::Path;
 pub use plain::plain_rounds;
 pub use scratch::Scratch;

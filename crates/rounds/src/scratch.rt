@@ -9,11 +9,13 @@ ghost use Rattle.lines.specs.Lines.{AreLines};
 ghost use Rattle.timetable.specs.Front.{AreFront};
 ghost use Rattle.rounds.specs.contracts.scratch.Scratch.{the_row};
 ghost use Rattle.rounds.specs.Answers.{AreRounds};
+ghost use Rattle.rounds.specs.Events.{AreEvents};
 ghost use Rattle.rounds.specs.Mark.{Mark, at, arrival_of, arrival_in, moment_in};
 ghost use Rattle.rounds.specs.Layers.{IsSized, IsLayer, AreKept, DoneTo, layer_at, round_at};
 ghost use Rattle.rounds.specs.Scratch.{IsMadeFor, IsAlike, MayGoOn, GoesOn, TellsOf, rides_of, rounds_of, source_of, kept_of, before_of};
 
 use crate::best::points;
+use crate::events::departures;
 use crate::layer::Layer;
 use crate::view::{Arrivals, Round, RoundView};
 use arrayvec::ArrayVec;
@@ -209,6 +211,21 @@ impl Scratch {
         ensures { result ≡ rides_of self.now }
     {
         self.rides
+    }
+
+    /// The events of a stop of the timetable, strictly rising: the moments that are worth leaving it at. It fails only where
+    /// memory runs out.
+    pub fn departures(
+        &self,
+        alloc: Global,
+        table: &Timetable,
+        source: StopId,
+    ) -> Result<Vec<u32>, AllocError>
+        requires table { IsMadeFor self.now table.now }
+        requires source { source < stops_of table.now }
+        ensures { IfOk result (λ moments. AreEvents table.now source moments.items) }
+    {
+        departures(alloc, table, &self.lines, source)
     }
 
     /// Forgets all labels. The runs that follow and keep labels are from this stop.
