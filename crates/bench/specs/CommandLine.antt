@@ -1,9 +1,9 @@
 -- The benchmark's command line, and what its words say.
 use Rattle.std.specs.Prelude.{◌^◌, List, Some, codes}
 use Rattle.clap.specs.Words.{App, Row, with_rule}
-use Rattle.programs.specs.Options.{common_app, number_rule}
-use Rattle.programs.specs.Settings.{HasSettings}
-use Rattle.programs.specs.Values.{HasNumber}
+use Rattle.program_inputs.specs.Options.{common_app, number_rule}
+use Rattle.program_inputs.specs.Settings.{HasSettings}
+use Rattle.program_inputs.specs.Values.{HasNumber}
 use Rattle.bench.specs.declared.words.Measure.{Measure}
 
 abbrev pub bench_app : App

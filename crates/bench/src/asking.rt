@@ -3,29 +3,20 @@
 ghost use Rattle.std.specs.Prelude.{◌≤◌, ◌<◌, length};
 ghost use Rattle.timetable.specs.Table.{stops_of};
 ghost use Rattle.rounds.specs.Scratch.{IsMadeFor as IsScratchFor};
-ghost use Rattle.direct_connections.specs.Direct.{IsMadeFor};
 
 use crate::questions::{Question, Questions};
 use crate::total::Total;
-use direct_connections::Direct;
-use lines::Lines;
+use direct_connections::Network;
 use pattern_query::{Patterns, ask};
 use rounds::Scratch;
 use std::alloc::AllocError;
 use timetable::{Timetable, plain_direct};
 
 // When the best ride that answers the question arrives, by the lines.
-fn ride_arrival(
-    timetable: &Timetable,
-    lines: &Lines,
-    connections: &Direct,
-    question: Question,
-) -> Option<u32>
-    requires { IsMadeFor timetable.now lines.now connections.now }
-{
+fn ride_arrival(network: &Network, question: Question) -> Option<u32> {
     let Question { from, to, depart } = question;
-    let leg = connections.earliest(timetable, lines, from, to, depart)?;
-    Some(timetable.arrival_of(leg))
+    let leg = network.earliest(from, to, depart)?;
+    Some(network.timetable().arrival_of(leg))
 }
 
 // When the best ride that answers the question arrives, looking at each trip.
@@ -52,47 +43,26 @@ fn journey_arrival(
 }
 
 // When the last of the best journeys that answer the question arrives, by the tree of the stop that it is from.
-fn tree_arrival(
-    timetable: &Timetable,
-    lines: &Lines,
-    connections: &Direct,
-    trees: &[Patterns],
-    question: Question,
-) -> Option<u32>
-    requires tables { IsMadeFor timetable.now lines.now connections.now }
+fn tree_arrival(network: &Network, trees: &[Patterns], question: Question) -> Option<u32>
     requires from { question.from < length trees.now }
     requires early { question.depart ≤ 4_000_000_000 }
 {
     let Question { from, to, depart } = question;
-    let answer = ask(
-        timetable,
-        lines,
-        connections,
-        &trees[from.number()],
-        to,
-        depart,
-    );
+    let answer = ask(network, &trees[from.number()], to, depart);
     let point = answer.points().last()?;
     Some(point.arrival())
 }
 
 /// Asks for the least arrival of one ride, so many times: by the lines. Between fewer than two stops nothing is asked.
-pub fn ask_direct(
-    timetable: &Timetable,
-    lines: &Lines,
-    connections: &Direct,
-    queries: u32,
-    seed: u32,
-) -> Total
-    requires { IsMadeFor timetable.now lines.now connections.now }
-{
+pub fn ask_direct(network: &Network, queries: u32, seed: u32) -> Total {
     let mut total = Total::default();
-    let Some(mut questions) = Questions::new(seed, timetable.stops(), timetable.stops()) else {
+    let stops = network.timetable().stops();
+    let Some(mut questions) = Questions::new(seed, stops, stops) else {
         return total;
     };
     for _ in 0..queries {
         let question = questions.ask();
-        total.add(ride_arrival(timetable, lines, connections, question));
+        total.add(ride_arrival(network, question));
     }
     total
 }
@@ -134,23 +104,14 @@ pub fn ask_rounds(
 
 /// Asks for the best journeys, so many times, from the sources of the trees: from these trees. The arrival that counts is the earliest
 /// one. Between fewer than two stops, and from no trees, nothing is asked.
-pub fn ask_trees(
-    timetable: &Timetable,
-    lines: &Lines,
-    connections: &Direct,
-    trees: &[Patterns],
-    queries: u32,
-    seed: u32,
-) -> Total
-    requires { IsMadeFor timetable.now lines.now connections.now }
-{
+pub fn ask_trees(network: &Network, trees: &[Patterns], queries: u32, seed: u32) -> Total {
     let mut total = Total::default();
-    let Some(mut questions) = Questions::new(seed, trees.len(), timetable.stops()) else {
+    let Some(mut questions) = Questions::new(seed, trees.len(), network.timetable().stops()) else {
         return total;
     };
     for _ in 0..queries {
         let question = questions.ask();
-        total.add(tree_arrival(timetable, lines, connections, trees, question));
+        total.add(tree_arrival(network, trees, question));
     }
     total
 }

@@ -12,7 +12,7 @@ mod words;
 
 use crate::measuring::measure;
 use crate::words::read_words;
-use programs::{given_words, out_of_memory, show, texts, unread};
+use program_inputs::{given_words, out_of_memory, show, texts, unread};
 use std::io::Write;
 use std::process::ExitCode;
 
@@ -28,7 +28,7 @@ fn status(rt: &HostRuntime) -> u8 {
     let mut shown = Vec::new(alloc);
     let job = match read_words(alloc, texts.as_slice(), &mut shown) {
         Ok(job) => job,
-        Err(status) => return show(rt, shown.as_slice(), status),
+        Err(status) => return show(rt, "bench", shown.as_slice(), status),
     };
     match measure(rt, &job) {
         Ok(()) => 0,

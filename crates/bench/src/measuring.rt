@@ -4,8 +4,7 @@ ghost use Rattle.std.specs.Prelude.{◌≡◌, ◌<◌, None, Err};
 ghost use Rattle.gtfs_text.specs.Values.{date_of};
 ghost use Rattle.timetable.specs.Table.{stops_of};
 ghost use Rattle.rounds.specs.Scratch.{IsMadeFor as IsScratchFor};
-ghost use Rattle.direct_connections.specs.Direct.{IsMadeFor};
-ghost use Rattle.programs.specs.declared.fault.Fault.TheVariants.{BadDate};
+ghost use Rattle.program_inputs.specs.declared.fault.Fault.TheVariants.{BadDate};
 
 use crate::asking::{ask_direct, ask_plain, ask_rounds, ask_trees};
 use crate::building::{Trees, build_tree};
@@ -13,19 +12,20 @@ use crate::clock::{now, tell};
 use crate::texts::{Rewritten, read_texts, write_texts};
 use crate::total::times_faster;
 use crate::words::Measure;
-use direct_connections::Direct;
+use direct_connections::Network;
 use gtfs_tables::{Tables, read_tables};
 use gtfs_text::date;
 use jiff::civil::Date;
 use lines::Lines;
 use pattern_query::Patterns;
 use pattern_tree::Arena;
-use programs::{Fault, NO_KEYS, Settings, open_feed};
+use program_inputs::{Fault, NO_KEYS, Settings, open_feed};
 use rounds::{Rides, Scratch};
 use service_days::Cover;
 use std::alloc::{AllocError, Global};
 use std::hash::RandomState;
 use std::io::Write;
+use std::sync::Arc;
 use std::time::Instant;
 use timetable::{StopId, Timetable, assemble};
 
@@ -69,21 +69,13 @@ fn measure_making(
 }
 
 // Measures rides from a stop to a stop: by the lines, and looking at each trip.
-fn measure_rides(
-    rt: &HostRuntime,
-    timetable: &Timetable,
-    lines: &Lines,
-    connections: &Direct,
-    job: &Measure<'_>,
-)
-    requires { IsMadeFor timetable.now lines.now connections.now }
-{
+fn measure_rides(rt: &HostRuntime, network: &Network, job: &Measure<'_>) {
     let start = now(rt);
-    let direct = ask_direct(timetable, lines, connections, job.direct, job.seed);
+    let direct = ask_direct(network, job.direct, job.seed);
     let fast = tell(rt, "direct", u64::from(job.direct), start);
 
     let start = now(rt);
-    let plain = ask_plain(timetable, job.plain, job.seed);
+    let plain = ask_plain(network.timetable(), job.plain, job.seed);
     let slow = tell(rt, "plain_direct", u64::from(job.plain), start);
     let times = times_faster(slow, job.plain, fast, job.direct);
     let _ = writeln!(rt.stderr(), "times_faster {times}");
@@ -156,23 +148,20 @@ fn measure_trees(
 // Measures questions from the sources of the trees: from the trees, and the same ones by the rounds.
 fn measure_answers(
     rt: &HostRuntime,
-    timetable: &Timetable,
-    lines: &Lines,
-    connections: &Direct,
+    network: &Network,
     scratch: &mut Scratch,
     trees: &[Patterns],
     job: &Measure<'_>,
 ) -> Result<(), AllocError>
-    requires tables { IsMadeFor timetable.now lines.now connections.now }
-    requires made { IsScratchFor scratch.old timetable.now }
+    requires { IsScratchFor scratch.old network.now }
 {
     let (queries, seed) = (job.queries, job.seed);
     let start = now(rt);
-    let asked = ask_trees(timetable, lines, connections, trees, queries, seed);
+    let asked = ask_trees(network, trees, queries, seed);
     let fast = tell(rt, "ask", u64::from(queries), start);
 
     let start = now(rt);
-    let scanned = ask_rounds(timetable, scratch, trees.len(), queries, seed)?;
+    let scanned = ask_rounds(network.timetable(), scratch, trees.len(), queries, seed)?;
     let slow = tell(rt, "scan_same", u64::from(queries), start);
     let times = times_faster(slow, queries, fast, queries);
     let _ = writeln!(rt.stderr(), "ask_times_faster {times}");
@@ -207,14 +196,11 @@ fn measure_texts(rt: &HostRuntime, stops: usize, trees: &Trees) -> Result<(), Al
 // Measures searches for journeys: by the rounds, and from the trees of the first stops. Without trees nothing is asked of them.
 fn measure_searches(
     rt: &HostRuntime,
-    timetable: &Timetable,
-    lines: &Lines,
-    connections: &Direct,
+    network: &Network,
     job: &Measure<'_>,
-) -> Result<(), Fault<'static>>
-    requires { IsMadeFor timetable.now lines.now connections.now }
-{
+) -> Result<(), Fault<'static>> {
     let alloc = rt.alloc();
+    let timetable = network.timetable();
     let mut arena = Arena::new(alloc)?;
     let start = now(rt);
     let mut scratch = Scratch::new(alloc, timetable, Rides::new(job.settings.rides))?;
@@ -231,37 +217,24 @@ fn measure_searches(
     )?;
     if !trees.patterns.is_empty() {
         let patterns = trees.patterns.as_slice();
-        measure_answers(
-            rt,
-            timetable,
-            lines,
-            connections,
-            &mut scratch,
-            patterns,
-            job,
-        )?;
+        measure_answers(rt, network, &mut scratch, patterns, job)?;
         measure_texts(rt, timetable.stops(), &trees)?;
     }
     Ok(())
 }
 
-// Measures how the lines and their places by stop come about, and then the questions.
-fn measure_questions(
-    rt: &HostRuntime,
-    timetable: &Timetable,
-    job: &Measure<'_>,
-) -> Result<(), Fault<'static>> {
+// Measures how the lines come about, and how they do with the direct connections.
+fn measure_network(rt: &HostRuntime, timetable: Timetable) -> Result<Network, AllocError> {
     let alloc = rt.alloc();
     let start = now(rt);
-    let lines = Lines::of(alloc, timetable)?;
+    let lines = Lines::of(alloc, &timetable)?;
     tell(rt, "lines", lines.lines().len() as u64, start);
 
+    let timetable = Arc::new(alloc, timetable).map_err(AllocError::from)?;
     let start = now(rt);
-    let connections = Direct::of(alloc, timetable, &lines)?;
-    tell(rt, "connections", timetable.stops() as u64, start);
-
-    measure_rides(rt, timetable, &lines, &connections, job);
-    measure_searches(rt, timetable, &lines, &connections, job)
+    let network = Network::of(alloc, timetable)?;
+    tell(rt, "network", network.timetable().stops() as u64, start);
+    Ok(network)
 }
 
 /// Measures all parts: how long each took goes to standard error, what the answers add up to, and how large the trees are, to standard
@@ -273,5 +246,7 @@ pub fn measure(rt: &HostRuntime, job: &Measure<'_>) -> Result<(), Fault<'static>
         return Err(Fault::BadDate);
     };
     let timetable = measure_making(rt, first, &job.settings)?;
-    measure_questions(rt, &timetable, job)
+    let network = measure_network(rt, timetable)?;
+    measure_rides(rt, &network, job);
+    measure_searches(rt, &network, job)
 }

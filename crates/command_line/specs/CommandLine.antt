@@ -1,7 +1,7 @@
 -- The program's command line: its commands and the words that each takes.
 use Rattle.std.specs.Prelude.{codes, true}
 use Rattle.clap.specs.Words.{App, Text, new_app, with_rule, with_subcommand}
-use Rattle.programs.specs.Options.{required_rule, optional_rule, flag_rule, common_app}
+use Rattle.program_inputs.specs.Options.{required_rule, optional_rule, flag_rule, common_app}
 
 -- a command that goes from one stop to another, at a time
 abbrev pub journey_app : Text → App
@@ -18,10 +18,13 @@ ask_app = with_rule (with_rule (journey_app (codes "ask")) (optional_rule (codes
 abbrev pub needs_subcommand : App → App
 needs_subcommand app = record app { top = record app.top { subcommand_required = true } }
 
--- the program: one of its commands must be named
+abbrev pub tells_version : App → App
+tells_version app = record app { top = record app.top { has_version = true } }
+
+-- the program, which tells its version: else one of its commands must be named
 abbrev pub program_app : App
 program_app =
-    with_subcommand (with_subcommand (with_subcommand (needs_subcommand (new_app (codes "tp")))
+    with_subcommand (with_subcommand (with_subcommand (needs_subcommand (tells_version (new_app (codes "tp"))))
     (journey_app (codes "direct")).top)
     (journey_app (codes "scan")).top)
     ask_app.top

@@ -2,8 +2,8 @@
 use Rattle.std.specs.Prelude.{◌≡◌, ◌↔◌, IsTrue, List, Option, None, Some, codes}
 use Rattle.std.specs.Option.{option_map}
 use Rattle.clap.specs.Words.{Row, Text, first_of}
-use Rattle.programs.specs.Settings.{HasSettings}
-use Rattle.programs.specs.Values.{HasFlag, HasText}
+use Rattle.program_inputs.specs.Settings.{HasSettings}
+use Rattle.program_inputs.specs.Values.{HasFlag, HasText}
 use Rattle.command_line.specs.declared.job.Job.{Job}
 use Rattle.command_line.specs.declared.job.Question.{Question}
 use Rattle.command_line.specs.declared.job.Task.{Task}

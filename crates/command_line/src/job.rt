@@ -3,7 +3,7 @@
 ghost use Rattle.std.specs.Prelude.{◌≡◌};
 ghost use Rattle.command_line.specs.Tasks.{question_of, day_of};
 
-use programs::Settings;
+use program_inputs::Settings;
 
 /// From which place to which, and when.
 #[derive(Clone, Copy, Debug, PartialEq, Eq)]

@@ -7,54 +7,81 @@ ghost use Rattle.clap.specs.declared.builder.command.Command.TheViews.{out-Comma
 ghost use Rattle.command_line.specs.CommandLine.{ask_app, journey_app, program_app};
 
 use clap::{ArgMatches, Command, Error};
-use programs::{common, flag, optional, required};
+use program_inputs::{common, flag, optional, required};
 use std::alloc::Global;
+
+const VERSION: &str = "0.1.0";
 
 const ABOUT: &str = "Plans journeys over a GTFS Schedule feed.";
 
-const EXAMPLES: &str = "\
+const FAULTS: &str = "\
 Example: tp scan --feed demo/feed-m --date 20240102 --from A --to D --at 08:00:00
 
-A fault is one line on standard error, its code and name; for a fault of the feed with the file and the row:
-  F1 MissingFile    DIR lacks the file: unpack a zipped feed first
-  F2 to F8, F10     the row is at fault; row 0 is the header or the whole file
-  F9 ReadFailed     the file can't be read, or DIR is no folder: unpack a zipped feed first
-  S1 BadRange       --days is 1 to 14
-  S2 BadZone        --zone is a POSIX rule, as CET-1CEST,M3.5.0,M10.5.0/3
-  A1 BadDate        --date and --on are days of the calendar, as 20240102
-  A2 BadTime        --at is a time up to 167:59:59, as 08:00:00
-  Q1 UnknownStop    stops.txt has no stop with that stop_id; a station is a stop for ask alone
-  Q2 NotCovered     the time isn't within the covered days
-  N1 TooLarge       a stop's tree has too many patterns: ask with fewer --days or --rides, or scan
+A fault is a line on standard error, its code and name; for a fault of the feed with the file and
+the row, where row 0 is the header or the whole file:
+  F1 MissingFile       DIR lacks the file: unpack a zipped feed first
+  F2 MissingColumn     the header lacks a column that the file must have
+  F3 BadField          the row has a text that its column doesn't take
+  F4 DuplicateKey      the row has the key of a row before it
+  F5 UnknownReference  the row names a stop, station or trip that isn't in the feed
+  F6 TimesDecrease     the row arrives or leaves before an earlier time of its trip
+  F7 TooMany           a limit is passed: the README lists them
+  F8 BadCsv            the record isn't UTF-8
+  F9 ReadFailed        the file can't be read, or DIR is no folder: unpack a zipped feed first
+  F10 EndTimeMissing   the first or the last call of a trip has no times
+  S1 BadRange          --days is 1 to 14, and days lie from 1900-01-01 to 9998-12-31
+  S2 BadZone           --zone is a POSIX rule, as CET-1CEST,M3.5.0,M10.5.0/3
+  S3 ZoneJump          by --zone a day lasts less than 1 or more than 172,800 seconds
+  A1 BadDate           --date and --on are days of the calendar, as 20240102
+  A2 BadTime           --at is a time up to 167:59:59, as 08:00:00
+  Q1 UnknownStop       stops.txt has no stop with that stop_id; a station is a stop for ask alone
+  Q2 NotCovered        the time isn't within the covered days
+  N1 TooLarge          a stop has too many patterns: ask with fewer --days or --rides, or scan
 
-Statuses: 0 done, 1 the feed or its days are at fault, 2 the words are, 3 a tree would be too large, 6 the
-question is at fault (an unknown stop, a day that isn't covered), 7 memory ran out, 8 standard output refused
-a write.";
+Statuses: 0 done, 1 the feed or its days are at fault, 2 the command-line arguments are, 3 a tree
+would be too large, 6 the question is at fault (an unknown stop, a day that isn't covered), 7 out
+of memory, 8 standard output refused a write.";
 
-const SCAN: &str =
-    "Prints the best arrivals from a stop to a stop by walks and at most K rides: for each number of rides that \
-arrives earlier than all with fewer, a line.";
+const DIRECT: &str = "The least arrival of one ride from a stop to a stop, without walks";
 
-const ASK: &str =
-    "Prints the best journeys from a stop or station to a stop or station by walks and at most K rides: for each \
-number of rides that arrives earlier than all with fewer, a line. The answer comes from the patterns of the best \
-journeys of each stop, which are built first, in memory; that takes long on a large feed.";
+const DIRECT_MORE: &str = "\
+--rides and --default-walk change nothing here.
 
-const DIRECT: &str = "Prints the least arrival of one ride from a stop to a stop, without walks.";
+Example: tp direct --feed demo/feed-m --date 20240102 --from A --to D --at 08:00:00";
+
+const SCAN: &str = "The best arrivals from a stop to a stop by walks and at most K rides";
+
+const SCAN_MORE: &str = "\
+For each number of rides that arrives earlier than all with fewer there is a line.
+
+Example: tp scan --feed demo/feed-m --date 20240102 --from A --to D --at 08:00:00";
+
+const ASK: &str = "The best journeys between stops or stations by walks and at most K rides";
+
+const ASK_MORE: &str = "\
+For each number of rides that arrives earlier than all with fewer there is a line. The answer
+comes from the patterns of the best journeys of each stop, which are built first, in memory; that
+takes long on a large feed.
+
+Example: tp ask --feed demo/feed-m --date 20240102 --from A --to E --at 08:00:00 --legs";
 
 const FROM: &str = "The id of the stop to leave from, for ask also of a station";
 
 const TO: &str = "The id of the stop to go to, for ask also of a station";
 
-const AT: &str =
-    "The time to leave at, on the first covered day where no other is named; hours up to 167";
+const AT: &str = "The time of the day to leave at; hours up to 167";
 
 const ON: &str = "The covered day to leave on, where it isn't the first";
 
 const LEGS: &str = "Print the rides and walks of each journey below its line";
 
-// A command that goes from one stop to another, at a time.
-fn journey<'a>(alloc: Global, name: &'a str, about: &'a str) -> Result<Command<'a>, Error>
+// A command that goes from one stop to another, at a time, and more to be told below its options.
+fn journey<'a>(
+    alloc: Global,
+    name: &'a str,
+    about: &'a str,
+    more: &'a str,
+) -> Result<Command<'a>, Error>
     ensures shape { IfOk result (λ c. app_of c ≡ journey_app name.entry.now) }
     ensures local { IfOk result (λ c. (fields_of c).has_globals ≡ false) }
     ensures err { IfErr result (λ e. kind_of e ≡ OutOfMemory) }
@@ -63,7 +90,7 @@ fn journey<'a>(alloc: Global, name: &'a str, about: &'a str) -> Result<Command<'
         .arg(required(alloc, "from", "STOP", FROM))?
         .arg(required(alloc, "to", "STOP", TO))?
         .arg(required(alloc, "at", "HH:MM:SS", AT))?;
-    Ok(command)
+    Ok(command.after_help(more))
 }
 
 // The command that answers from pattern trees.
@@ -72,7 +99,7 @@ fn ask<'a>(alloc: Global) -> Result<Command<'a>, Error>
     ensures local { IfOk result (λ c. (fields_of c).has_globals ≡ false) }
     ensures err { IfErr result (λ e. kind_of e ≡ OutOfMemory) }
 {
-    let command = journey(alloc, "ask", ASK)?
+    let command = journey(alloc, "ask", ASK, ASK_MORE)?
         .arg(optional(alloc, "on", "YYYYMMDD", ON))?
         .arg(flag(alloc, "legs", LEGS))?;
     Ok(command)
@@ -97,11 +124,12 @@ fn program<'a>(alloc: Global) -> Result<Command<'a>, Error>
     ensures err { IfErr result (λ e. kind_of e ≡ OutOfMemory) }
 {
     let program = Command::new(alloc, "tp")
+        .version(VERSION)
         .about(ABOUT)
-        .after_help(EXAMPLES)
+        .after_help(FAULTS)
         .subcommand_required(true);
-    let program = with_command(program, journey(alloc, "direct", DIRECT))?;
-    let program = with_command(program, journey(alloc, "scan", SCAN))?;
+    let program = with_command(program, journey(alloc, "direct", DIRECT, DIRECT_MORE))?;
+    let program = with_command(program, journey(alloc, "scan", SCAN, SCAN_MORE))?;
     let program = with_command(program, ask(alloc))?;
     Ok(program)
 }

@@ -2,14 +2,14 @@
 
 ghost use Rattle.std.specs.Prelude.{◌≡◌, IfOk, IfErr, IfSome, IfNone, OnOk, [], map};
 ghost use Rattle.clap.specs.Words.{subcommand_rows_of, subcommand_of, rows_of, found_of, fault_of};
-ghost use Rattle.programs.specs.Statuses.{IsStatus};
+ghost use Rattle.program_inputs.specs.Statuses.{IsStatus};
 ghost use Rattle.command_line.specs.CommandLine.{program_app};
 ghost use Rattle.command_line.specs.Jobs.{IsJob, IsJobOf, IsQuestion, IsTask, LacksQuestion, NamesNoJob, NamesNoJobOf, NamesNoTask};
 
 use crate::job::{Job, Question, Task};
 use crate::program::matches_of;
 use clap::ArgMatches;
-use programs::{flag_of, refuse, settings_of, text_of};
+use program_inputs::{flag_of, refuse, settings_of, text_of};
 use std::alloc::Global;
 use std::io::Write;
 

@@ -16,7 +16,7 @@ use Rattle.planner.specs.Questions.{AreComplete, IsAskedPoint, IsFirstMissing, R
 use Rattle.commands.specs.Answers.{IsRideBetween, Shows}
 use Rattle.commands.specs.Points.{IsJourneyBetween, ShowsNumbers, Tells}
 use Rattle.commands.specs.declared.answer.Point.{Point}
-use Rattle.commands.specs.declared.basis.Basis.{Basis}
+use Rattle.commands.specs.Basis.{BasisData}
 
 pub contains_one : (s : ℕ) → Contains (s ∷ []) s
 contains_one s = (0, omega arith, refl)
@@ -28,10 +28,10 @@ is_one s p c = go c.0 c.1 c.2 where
   go (suc k) lt e = absurd (let b : ⊥ = omega (arith, lt) in b)
 
 -- rides and journeys between single stops
-pub ride_between : (basis : Basis) (p q d : ℕ) (leg : Leg) → Serves basis.timetable p q d leg → IsRideBetween basis (p ∷ []) (q ∷ []) d leg
+pub ride_between : (basis : BasisData) (p q d : ℕ) (leg : Leg) → Serves basis.timetable p q d leg → IsRideBetween basis (p ∷ []) (q ∷ []) d leg
 ride_between basis p q d leg h = (p, q, contains_one p, contains_one q, h)
 
-pub between_ride : (basis : Basis) (p q d : ℕ) (leg : Leg) → IsRideBetween basis (p ∷ []) (q ∷ []) d leg → Serves basis.timetable p q d leg
+pub between_ride : (basis : BasisData) (p q d : ℕ) (leg : Leg) → IsRideBetween basis (p ∷ []) (q ∷ []) d leg → Serves basis.timetable p q d leg
 between_ride basis p q d leg h = subst₂ (λ x y. Serves basis.timetable x y d leg) (sym (is_one p h.0 h.2)) (sym (is_one q h.1 h.3)) h.4
 
 module _ (table : Table) (k p q d : ℕ) where
@@ -49,7 +49,7 @@ module _ (table : Table) (k p q d : ℕ) where
   }
 
 -- the numbers alone are shown
-pub shown_numbers : (basis : Basis) (froms tos : List ℕ) (d : ℕ) (front : List Numbers) (points : List Point)
+pub shown_numbers : (basis : BasisData) (froms tos : List ℕ) (d : ℕ) (front : List Numbers) (points : List Point)
     → AllZip (ShowsNumbers basis) front points → AllZip (Shows basis froms tos d false) front points
 shown_numbers basis froms tos d [] [] h = tt
 shown_numbers basis froms tos d [] (point ∷ points) h = absurd h
@@ -79,7 +79,7 @@ journey_between table held froms tos d p h = record {
 }
 
 -- journeys between the stops are told
-pub shown_journeys : (basis : Basis) (froms tos : List ℕ) (d : ℕ) (wanted : Bool) (journeys : List PointData) (points : List Point)
+pub shown_journeys : (basis : BasisData) (froms tos : List ℕ) (d : ℕ) (wanted : Bool) (journeys : List PointData) (points : List Point)
     → All (IsJourneyBetween basis.timetable froms tos d) journeys → AllZip (Tells basis d wanted) journeys points
     → AllZip (Shows basis froms tos d wanted) (map numbers journeys) points
 shown_journeys basis froms tos d wanted [] [] are h = tt

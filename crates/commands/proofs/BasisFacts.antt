@@ -5,13 +5,14 @@ use Rattle.gtfs_tables.specs.Tables.{TableValues}
 use Rattle.service_days.specs.Cover.{CoverDays}
 use Rattle.timetable.specs.Answers.{IsTimetable}
 use Rattle.timetable.specs.Names.{AreNamesOf}
-use Rattle.commands.specs.Basis.{IsSound}
-use Rattle.commands.specs.declared.basis.Basis.{Basis}
+use Rattle.timetable.specs.Table.{IsTable}
+use Rattle.commands.specs.Basis.{BasisData, IsSound}
 
 -- a basis of a timetable and names of the same tables
-pub is_sound : (t : TableValues) (cover : CoverDays) (default_walk : ℕ) (basis : Basis)
-    → IsTimetable t cover default_walk basis.timetable → AreNamesOf t basis.names → IsSound basis
-is_sound t cover default_walk basis is named = record {
+pub is_sound : (t : TableValues) (cover : CoverDays) (default_walk : ℕ) (basis : BasisData)
+    → IsTable basis.timetable → IsTimetable t cover default_walk basis.timetable → AreNamesOf t basis.names → IsSound basis
+is_sound t cover default_walk basis valid is named = record {
+  valid = valid;
   names = (t, named);
   stops = ap (λ l. length l) named.stops ∙ length-map t.stops (λ stop. stop.id) ∙ sym is.changes.count;
   trips = λ k d lt. (

@@ -10,9 +10,9 @@ use Rattle.service_days.specs.Answers.{IsCoverAnswer}
 use Rattle.service_days.specs.declared.fault.DayFault.{DayFault}
 use Rattle.service_days.specs.declared.fault.DayFault.TheVariants as days
 use Rattle.commands.specs.Feeds.{HasDateTime, IsBasisFault, IsRowFault, IsWordFault}
-use Rattle.programs.specs.Faults.{of_days, of_feed, of_kind}
-use Rattle.programs.specs.declared.fault.Fault.{Fault}
-use Rattle.programs.specs.declared.fault.Fault.TheVariants as faults
+use Rattle.program_inputs.specs.Faults.{of_days, of_feed, of_kind}
+use Rattle.program_inputs.specs.declared.fault.Fault.{Fault}
+use Rattle.program_inputs.specs.declared.fault.Fault.TheVariants as faults
 use Rattle.command_line.specs.declared.job.Job.{Job}
 
 pub of_words : (feed : Feed) (job : Job) (f : Fault) → IsWordFault job f → IsBasisFault feed job f

@@ -8,10 +8,9 @@ use Rattle.timetable.specs.Table.{Table, Run, IsTable, walk}
 use Rattle.timetable.specs.Journeys.{call_at, Ride, from, to, arrives, Journey, Onward}
 use Rattle.timetable.proofs.Legs.{calls_are, call_is, there, ride_within}
 use Rattle.timetable.proofs.Rows.{walk_short}
-use Rattle.commands.specs.Basis.{IsSound}
+use Rattle.commands.specs.Basis.{BasisData, IsSound}
 use Rattle.commands.specs.Points.{IsKnownPart}
 use Rattle.commands.specs.Stages.{parts_of, walk_part, trip_of}
-use Rattle.commands.specs.declared.basis.Basis.{Basis}
 use Rattle.commands.specs.declared.parts.Part.TheVariants as parts
 
 -- no leg arrives later than the latest call
@@ -28,7 +27,7 @@ walk_by table p q valid = go (walk table p q) refl where
   go None e = omega arith
   go (Some s) e = walk_short table p q s valid e
 
-module _ (basis : Basis) (valid : IsTable basis.timetable) (sound : IsSound basis) where
+module _ (basis : BasisData) (valid : IsTable basis.timetable) (sound : IsSound basis) where
   at_known : (n place : ℕ) → (P : Call → Type 0) → IsSomeAnd (call_at basis.timetable n place) P
       → unwrap_or (option_map (λ c. c.stop) (call_at basis.timetable n place)) 0 < length basis.names.stops
   at_known n place P h =

@@ -14,14 +14,13 @@ use Rattle.planner.specs.declared.fault.AskFault.{AskFault}
 use Rattle.planner.specs.declared.fault.AskFault.TheVariants as faults
 use Rattle.planner.proofs.PlaceFacts.{children_known, no_place, place_is}
 use Rattle.commands.proofs.AnswerFacts.{none_missing}
-use Rattle.commands.specs.Basis.{IsSound}
+use Rattle.commands.specs.Basis.{BasisData, IsSound}
 use Rattle.commands.specs.Refusals.{AreKnown, IsCovered, IsKnown, IsUnanswered}
 use Rattle.pattern_tree.specs.declared.fault.TreeFault.{TreeFault}
 use Rattle.pattern_tree.specs.declared.fault.TreeFault.TheVariants as trees
-use Rattle.programs.specs.Faults.{of_tree}
-use Rattle.programs.specs.declared.fault.Fault.{Fault}
-use Rattle.programs.specs.declared.fault.Fault.TheVariants as told
-use Rattle.commands.specs.declared.basis.Basis.{Basis}
+use Rattle.program_inputs.specs.Faults.{of_tree}
+use Rattle.program_inputs.specs.declared.fault.Fault.{Fault}
+use Rattle.program_inputs.specs.declared.fault.Fault.TheVariants as told
 use Rattle.command_line.specs.declared.job.Question.{Question}
 
 nothing : (b : List ℕ) → None ≡ Some b → ⊥
@@ -63,7 +62,7 @@ place_known names id None h = (λ e. absurd (true≢false (sym e)), λ known. ab
 place_known names id (Some place) h = (λ e. (stops_in place, place_is names id place h), λ known. refl)
 
 -- what is refused before anything is kept is refused whatever is too much to keep
-pub refused_before : (stops : List ℕ → Option (List ℕ)) (Large : Type 0) (basis : Basis) (question : Question) (fault : Fault)
+pub refused_before : (stops : List ℕ → Option (List ℕ)) (Large : Type 0) (basis : BasisData) (question : Question) (fault : Fault)
     → IsUnanswered stops ⊥ basis question fault → IsUnanswered stops Large basis question fault
 refused_before stops Large basis question (told.UnknownStop id) h = h
 refused_before stops Large basis question told.NotCovered h = h
@@ -75,12 +74,12 @@ refused_before stops Large basis question (told.Feed f) h = absurd h
 refused_before stops Large basis question (told.Days f) h = absurd h
 
 -- why a tree isn't built
-pub tree_refused : (stops : List ℕ → Option (List ℕ)) (Large : Type 0) (basis : Basis) (question : Question) (fault : TreeFault)
+pub tree_refused : (stops : List ℕ → Option (List ℕ)) (Large : Type 0) (basis : BasisData) (question : Question) (fault : TreeFault)
     → AreKnown stops question → IsCovered basis → (fault ≡ trees.TooLarge → Large) → IsUnanswered stops Large basis question (of_tree fault)
 tree_refused stops Large basis question trees.TooLarge known covered large = (known, covered, large refl)
 tree_refused stops Large basis question trees.Memory known covered large = tt
 
-module _ (basis : Basis) (k : ℕ) (trees : List Content) (question : Question) (d : ℕ) (sound : IsSound basis) (all : AreAllTrees basis.timetable k trees)
+module _ (basis : BasisData) (k : ℕ) (trees : List Content) (question : Question) (d : ℕ) (sound : IsSound basis) (all : AreAllTrees basis.timetable k trees)
     (known : AreKnown (stops_at basis.names) question) (covered : d ≤ basis.timetable.horizon) where
   abbrev pub held : ℕ → Option Content
   held s = slice_get trees s

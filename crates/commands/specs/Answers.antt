@@ -10,7 +10,7 @@ use Rattle.planner.specs.Questions.{ReachesBetween}
 use Rattle.commands.specs.declared.answer.Answer.{Answer}
 use Rattle.commands.specs.declared.answer.Answer.TheVariants as answers
 use Rattle.commands.specs.declared.answer.Point.{Point}
-use Rattle.commands.specs.declared.basis.Basis.{Basis}
+use Rattle.commands.specs.Basis.{BasisData}
 use Rattle.command_line.specs.declared.job.Job.{Job}
 use Rattle.command_line.specs.declared.job.Question.{Question}
 use Rattle.command_line.specs.declared.job.Task.{Task}
@@ -21,11 +21,11 @@ use Rattle.command_line.specs.Tasks.{question_of}
 use Rattle.commands.specs.Tasks.{stops_for}
 
 -- the leg is a ride from one of the first stops to one of the others that departs at d or later
-abbrev pub IsRideBetween : Basis → List ℕ → List ℕ → ℕ → Leg → Type 0
+abbrev pub IsRideBetween : BasisData → List ℕ → List ℕ → ℕ → Leg → Type 0
 IsRideBetween basis froms tos d leg = (p : ℕ) × (q : ℕ) × Contains froms p × Contains tos q × Serves basis.timetable p q d leg
 
 -- no ride only where there is none, else the arrival of a ride that arrives as early as any
-abbrev pub IsDirect : Basis → List ℕ → List ℕ → ℕ → Answer → Type 0
+abbrev pub IsDirect : BasisData → List ℕ → List ℕ → ℕ → Answer → Type 0
 IsDirect basis froms tos d answers.NoRide = (leg : Leg) → ¬ IsRideBetween basis froms tos d leg
 IsDirect basis froms tos d (answers.Arrive time) =
     (leg : Leg) × IsRideBetween basis froms tos d leg
@@ -34,7 +34,7 @@ IsDirect basis froms tos d (answers.Arrive time) =
 IsDirect basis froms tos d (answers.Points points) = ⊥
 
 -- the stages are the rides and walks of a journey from one of the first stops at d to one of the others, with these numbers
-pub record AreStagesOf (basis : Basis) (froms tos : List ℕ) (d : ℕ) (n : Numbers) (stages : List Stage) : Type 0 where
+pub record AreStagesOf (basis : BasisData) (froms tos : List ℕ) (d : ℕ) (n : Numbers) (stages : List Stage) : Type 0 where
   pub from : ℕ
   pub to : ℕ
   pub legs : List Leg
@@ -45,38 +45,38 @@ pub record AreStagesOf (basis : Basis) (froms tos : List ℕ) (d : ℕ) (n : Num
   pub told : AllZip (ShowsPart basis) (parts_of basis.timetable from d legs to) stages
 
 -- a point has the rides and the arrival of these numbers, and the stages of such a journey where they are wanted
-pub record Shows (basis : Basis) (froms tos : List ℕ) (d : ℕ) (wanted : Bool) (n : Numbers) (point : Point) : Type 0 where
+pub record Shows (basis : BasisData) (froms tos : List ℕ) (d : ℕ) (wanted : Bool) (n : Numbers) (point : Point) : Type 0 where
   pub rides : point.rides ≡ n.rides
   pub at : Says basis.cover n.arrival point.at
   pub told : wanted ≡ true → AreStagesOf basis froms tos d n point.stages.items
   pub untold : wanted ≡ false → point.stages.items ≡ []
 
 -- the best numbers over journeys of at most k rides between these stops, by rising rides
-abbrev pub ArePoints : Basis → ℕ → Bool → List ℕ → List ℕ → ℕ → Answer → Type 0
+abbrev pub ArePoints : BasisData → ℕ → Bool → List ℕ → List ℕ → ℕ → Answer → Type 0
 ArePoints basis k wanted froms tos d answers.NoRide = ⊥
 ArePoints basis k wanted froms tos d (answers.Arrive time) = ⊥
 ArePoints basis k wanted froms tos d (answers.Points points) =
     (front : List Numbers) × AreBest (ReachesBetween basis.timetable k froms tos d) front × AllZip (Shows basis froms tos d wanted) front points.items
 
 -- the answer to a task of at most k rides, from the first stops to the others, for one who leaves at the moment d
-abbrev pub IsAnswerTo : Task → ℕ → Basis → List ℕ → List ℕ → ℕ → Answer → Type 0
+abbrev pub IsAnswerTo : Task → ℕ → BasisData → List ℕ → List ℕ → ℕ → Answer → Type 0
 IsAnswerTo (tasks.Direct question) k basis = IsDirect basis
 IsAnswerTo (tasks.Scan question) k basis = ArePoints basis k false
 IsAnswerTo (tasks.Ask question on legs) k basis = ArePoints basis k legs
 
 -- the question's ids stand for these stops, and its moment is this one, which is covered
-pub record IsAsked (stops : List ℕ → Option (List ℕ)) (basis : Basis) (question : Question) (froms tos : List ℕ) (depart : ℕ) : Type 0 where
+pub record IsAsked (stops : List ℕ → Option (List ℕ)) (basis : BasisData) (question : Question) (froms tos : List ℕ) (depart : ℕ) : Type 0 where
   pub leaves : stops question.from.now ≡ Some froms
   pub reaches : stops question.to.now ≡ Some tos
   pub moment : basis.moment ≡ Some depart
   pub covered : depart ≤ basis.timetable.horizon
 
 -- the answer is right between the question's stops at its moment
-abbrev pub IsAnswered : (List ℕ → Option (List ℕ)) → (List ℕ → List ℕ → ℕ → Answer → Type 0) → Basis → Question → Answer → Type 0
+abbrev pub IsAnswered : (List ℕ → Option (List ℕ)) → (List ℕ → List ℕ → ℕ → Answer → Type 0) → BasisData → Question → Answer → Type 0
 IsAnswered stops Right basis question answer =
     (froms : List ℕ) × (tos : List ℕ) × (depart : ℕ) × IsAsked stops basis question froms tos depart × Right froms tos depart answer
 
 -- the answer to a job: between the stops of its ids, at a covered moment
-abbrev pub IsAnswer : Basis → Job → Answer → Type 0
+abbrev pub IsAnswer : BasisData → Job → Answer → Type 0
 IsAnswer basis job answer =
     IsAnswered (stops_for job.task basis.names) (IsAnswerTo job.task job.settings.rides basis) basis (question_of job.task) answer

@@ -9,23 +9,22 @@ use Rattle.service_days.specs.Answers.{IsCoverAnswer}
 use Rattle.service_days.specs.Cover.{CoverDays}
 use Rattle.timetable.specs.Answers.{IsFault}
 use Rattle.commands.specs.Answers.{IsAnswer}
-use Rattle.commands.specs.Basis.{AreDateTime, AreDays, IsBasis}
+use Rattle.commands.specs.Basis.{AreDateTime, AreDays, BasisData, IsBasis}
 use Rattle.commands.specs.Refusals.{IsRefusal}
 use Rattle.command_line.specs.Tasks.{question_of, day_of}
 use Rattle.commands.specs.declared.answer.Answer.{Answer}
-use Rattle.commands.specs.declared.basis.Basis.{Basis}
-use Rattle.programs.specs.declared.fault.Fault.{Fault}
-use Rattle.programs.specs.declared.fault.Fault.TheVariants as faults
+use Rattle.program_inputs.specs.declared.fault.Fault.{Fault}
+use Rattle.program_inputs.specs.declared.fault.Fault.TheVariants as faults
 use Rattle.command_line.specs.declared.job.Job.{Job}
 
 -- the answer is that over the timetable of the feed's rows on the covered days, between the stops that have the ids, leaving
 -- at the moment of the words
 abbrev pub IsFeedAnswer : Feed → Job → Answer → Type 0
-IsFeedAnswer feed job answer = (basis : Basis) × IsBasis feed job basis × IsAnswer basis job answer
+IsFeedAnswer feed job answer = (basis : BasisData) × IsBasis feed job basis × IsAnswer basis job answer
 
 -- the question has no answer over that timetable
 abbrev pub IsFeedRefusal : Feed → Job → Fault → Type 0
-IsFeedRefusal feed job fault = (basis : Basis) × IsBasis feed job basis × IsRefusal basis job fault
+IsFeedRefusal feed job fault = (basis : BasisData) × IsBasis feed job basis × IsRefusal basis job fault
 
 -- the fault is that of the feed's first test that doesn't hold, or else the timetable on the covered days is too large
 abbrev pub IsRowFault : Feed → Job → Date → FeedFault → Type 0

@@ -9,7 +9,7 @@ use Rattle.planner.specs.Places.{stops_at}
 use Rattle.planner.specs.Questions.{ReachesBetween}
 use Rattle.command_line.specs.declared.job.Question.{Question}
 use Rattle.commands.specs.declared.answer.Point.{Point}
-use Rattle.commands.specs.declared.basis.Basis.{Basis}
+use Rattle.commands.specs.Basis.{BasisData}
 use Rattle.commands.specs.declared.parts.Part.{Part}
 use Rattle.commands.specs.declared.parts.Part.TheVariants as parts
 use Rattle.commands.specs.Stages.{Says, ShowsPart, parts_of, trip_of}
@@ -22,7 +22,7 @@ pub record IsJourneyBetween (table : Table) (froms tos : List ℕ) (d : ℕ) (p 
   pub rides : length p.legs ≡ p.rides
 
 -- journeys between the stops of the question's ids at d: the best of all of at most k rides, by rising rides
-pub record AreFound (basis : Basis) (k : ℕ) (question : Question) (d : ℕ) (points : List PointData) : Type 0 where
+pub record AreFound (basis : BasisData) (k : ℕ) (question : Question) (d : ℕ) (points : List PointData) : Type 0 where
   pub froms : List ℕ
   pub tos : List ℕ
   pub leaves : stops_at basis.names question.from.now ≡ Some froms
@@ -31,25 +31,25 @@ pub record AreFound (basis : Basis) (k : ℕ) (question : Question) (d : ℕ) (p
   pub each : All (IsJourneyBetween basis.timetable froms tos d) points
 
 -- the timetable has the instance, and the names have the trip and the stops
-abbrev pub IsKnownPart : Basis → Part → Type 0
+abbrev pub IsKnownPart : BasisData → Part → Type 0
 IsKnownPart basis (parts.Ride leg) =
     (leg.instance < length basis.timetable.instances) × (trip_of basis.timetable leg.instance < length basis.names.trips)
     × (from basis.timetable leg < length basis.names.stops) × (to basis.timetable leg < length basis.names.stops)
 IsKnownPart basis (parts.Walk p q z) = (p < length basis.names.stops) × (q < length basis.names.stops)
 
 -- the rides and walks of a journey that begins at d are known
-abbrev pub IsKnownJourney : Basis → ℕ → PointData → Type 0
+abbrev pub IsKnownJourney : BasisData → ℕ → PointData → Type 0
 IsKnownJourney basis d p = All (IsKnownPart basis) (parts_of basis.timetable p.from d p.legs p.to)
 
 -- a point tells this journey, which begins at d
-pub record Tells (basis : Basis) (d : ℕ) (wanted : Bool) (p : PointData) (point : Point) : Type 0 where
+pub record Tells (basis : BasisData) (d : ℕ) (wanted : Bool) (p : PointData) (point : Point) : Type 0 where
   pub rides : point.rides ≡ p.rides
   pub at : Says basis.cover p.arrival point.at
   pub told : wanted ≡ true → AllZip (ShowsPart basis) (parts_of basis.timetable p.from d p.legs p.to) point.stages.items
   pub untold : wanted ≡ false → point.stages.items ≡ []
 
 -- a point has these numbers, and nothing else is told of it
-pub record ShowsNumbers (basis : Basis) (n : Numbers) (point : Point) : Type 0 where
+pub record ShowsNumbers (basis : BasisData) (n : Numbers) (point : Point) : Type 0 where
   pub rides : point.rides ≡ n.rides
   pub at : Says basis.cover n.arrival point.at
   pub untold : point.stages.items ≡ []

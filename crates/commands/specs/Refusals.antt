@@ -2,9 +2,9 @@
 use Rattle.std.specs.Prelude.{◌≡◌, ℕ, ◌<◌, ◌≤◌, ◌⊎◌, List, Option, None, Some}
 use Rattle.timetable.specs.Table.{Table, stops_of}
 use Rattle.pattern_tree.specs.Completeness.{TooManyAreEarned}
-use Rattle.programs.specs.declared.fault.Fault.{Fault}
-use Rattle.programs.specs.declared.fault.Fault.TheVariants as faults
-use Rattle.commands.specs.declared.basis.Basis.{Basis}
+use Rattle.program_inputs.specs.declared.fault.Fault.{Fault}
+use Rattle.program_inputs.specs.declared.fault.Fault.TheVariants as faults
+use Rattle.commands.specs.Basis.{BasisData}
 use Rattle.command_line.specs.declared.job.Job.{Job}
 use Rattle.command_line.specs.declared.job.Question.{Question}
 use Rattle.command_line.specs.declared.job.Task.{Task}
@@ -21,7 +21,7 @@ abbrev pub AreKnown : (List ℕ → Option (List ℕ)) → Question → Type 0
 AreKnown stops question = IsKnown stops question.from.now × IsKnown stops question.to.now
 
 -- the moment is one of the covered days, and within them
-abbrev pub IsCovered : Basis → Type 0
+abbrev pub IsCovered : BasisData → Type 0
 IsCovered basis = (d : ℕ) × (basis.moment ≡ Some d) × (d ≤ basis.timetable.horizon)
 
 -- the tree of some stop would have more patterns and ends than a tree holds
@@ -30,7 +30,7 @@ IsTooLarge table k = (s : ℕ) × (s < stops_of table) × TooManyAreEarned table
 
 -- The first id stands for no stops, or else the second; or else the moment isn't covered; or else there is too much to keep. Memory may
 -- run out as well.
-abbrev pub IsUnanswered : (List ℕ → Option (List ℕ)) → Type 0 → Basis → Question → Fault → Type 0
+abbrev pub IsUnanswered : (List ℕ → Option (List ℕ)) → Type 0 → BasisData → Question → Fault → Type 0
 IsUnanswered stops Large basis question (faults.UnknownStop id) =
     (stops id.now ≡ None) × ((id.now ≡ question.from.now) ⊎ (IsKnown stops question.from.now × (id.now ≡ question.to.now)))
 IsUnanswered stops Large basis question faults.NotCovered = AreKnown stops question × ¬ IsCovered basis
@@ -48,6 +48,6 @@ KeepsTooMuch (tasks.Scan question) k table = ⊥
 KeepsTooMuch (tasks.Ask question on legs) k table = IsTooLarge table k
 
 -- why a job has no answer
-abbrev pub IsRefusal : Basis → Job → Fault → Type 0
+abbrev pub IsRefusal : BasisData → Job → Fault → Type 0
 IsRefusal basis job fault =
     IsUnanswered (stops_for job.task basis.names) (KeepsTooMuch job.task job.settings.rides basis.timetable) basis (question_of job.task) fault

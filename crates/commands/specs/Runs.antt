@@ -4,9 +4,9 @@ use Rattle.std.specs.Io.KnownBytes.{Appends, Keeps}
 use Rattle.gtfs_tables.specs.Feed.{Feed}
 use Rattle.commands.specs.Feeds.{IsFeedAnswer, IsFeedFault}
 use Rattle.commands.specs.Printed.{answer_text}
-use Rattle.programs.specs.Faults.{status_of}
+use Rattle.program_inputs.specs.Faults.{status_of}
 use Rattle.commands.specs.declared.answer.Answer.{Answer}
-use Rattle.programs.specs.declared.fault.Fault.{Fault}
+use Rattle.program_inputs.specs.declared.fault.Fault.{Fault}
 use Rattle.command_line.specs.declared.job.Job.{Job}
 
 -- the answer stands on standard output, as lines

@@ -8,7 +8,7 @@ use Rattle.timetable.specs.declared.parts.Leg.{Leg}
 use Rattle.timetable.specs.Table.{Table, walk}
 use Rattle.timetable.specs.Journeys.{from, to, departs, arrives}
 use Rattle.timetable.specs.NameLists.{NameLists}
-use Rattle.commands.specs.declared.basis.Basis.{Basis}
+use Rattle.commands.specs.Basis.{BasisData}
 use Rattle.commands.specs.declared.moment.DayTime.{DayTime}
 use Rattle.commands.specs.declared.parts.Part.{Part}
 use Rattle.commands.specs.declared.parts.Part.TheVariants as parts
@@ -40,7 +40,7 @@ abbrev pub trip_id : Table → NameLists → ℕ → List ℕ
 trip_id table names instance = slice_index_or names.trips (trip_of table instance) []
 
 -- a ride is told by its trip, and the stop and the time at which it boards and alights; a walk by its stops, and when it arrives
-abbrev pub ShowsPart : Basis → Part → Stage → Type 0
+abbrev pub ShowsPart : BasisData → Part → Stage → Type 0
 ShowsPart basis (parts.Ride leg) (stages.Ride trip board leaves alight comes) =
     (trip ≡ trip_id basis.timetable basis.names leg.instance)
     × (board ≡ stop_id basis.names (from basis.timetable leg)) × Says basis.cover (departs basis.timetable leg) leaves

@@ -1,38 +1,35 @@
 //! Answers to questions.
 
-ghost use Rattle.std.specs.Prelude.{◌≡◌, ◌≤◌, ◌<◌, ◌↔◌, IsTrue, [], ◌∷◌, Some, Err, IfOk, IfErr, IfSome, IfNone, false, length};
+ghost use Rattle.std.specs.Prelude.{◌≡◌, ◌≤◌, ◌<◌, [], ◌∷◌, Some, Err, IfOk, IfErr, IfSome, IfNone, false, length};
 ghost use Rattle.planner.specs.Places.{stops_at};
-ghost use Rattle.timetable.specs.Table.{IsTable, stops_of};
+ghost use Rattle.timetable.specs.Table.{stops_of};
 ghost use Rattle.commands.specs.Answers.{ArePoints, IsAnswer, IsAnswered, IsAsked, IsDirect};
 ghost use Rattle.pattern_tree.specs.declared.fault.TreeFault.{TreeFault};
 ghost use Rattle.commands.specs.Basis.{IsSound};
 ghost use Rattle.commands.specs.Points.{AreFound};
-ghost use Rattle.commands.specs.Refusals.{AreKnown, IsCovered, IsKnown, IsRefusal, IsTooLarge, IsUnanswered};
+ghost use Rattle.commands.specs.Refusals.{AreKnown, IsCovered, IsRefusal, IsTooLarge, IsUnanswered};
 ghost use Rattle.commands.specs.Tasks.{stop_alone};
 
 use crate::answer::Answer;
 use crate::basis::Basis;
-use crate::moment::day_time;
 use crate::points::{points_of, told};
 use command_line::{Job, Question, Task};
-use direct_connections::Direct;
-use lines::Lines;
 use pattern_tree::TreeFault;
 use planner::{Forest, ask_on};
-use programs::Fault;
+use program_inputs::Fault;
 use rounds::Rides;
 use std::alloc::Global;
-use timetable::{Names, StopId};
+use timetable::StopId;
 
 // The covered moment to leave at: none where the job's moment isn't one.
 fn covered_moment(basis: &Basis) -> Option<u32>
     ensures moment { IfSome result (λ moment. (basis.now.moment ≡ Some moment) × (moment ≤ basis.now.timetable.horizon)) }
     ensures early { IfSome result (λ moment. moment ≤ 4_000_000_000) }
-    ensures valid { IfSome result (λ moment. IsTable basis.now.timetable) }
+    ensures sound { IfSome result (λ moment. IsSound basis.now) }
     ensures none { IfNone result (¬ IsCovered basis.now) }
 {
-    let moment = basis.moment?;
-    if moment <= basis.timetable.horizon() {
+    let moment = basis.moment()?;
+    if basis.timetable().covers(moment) {
         Some(moment)
     } else {
         None
@@ -49,17 +46,17 @@ struct Asked {
 
 // The stops of the question's ids and its moment: a station is no stop.
 fn between<'a>(basis: &Basis, question: &Question<'a>) -> Result<Asked, Fault<'a>>
-    requires { IsSound basis.now }
-    ensures asked { IfOk result (λ asked. IsAsked (stop_alone basis.now.names) basis.now question.now (asked.from ∷ []) (asked.to ∷ []) asked.depart) }
+    ensures asked { IfOk result (λ asked. IsAsked (stop_alone basis.now.names) basis.now question.now
+        (asked.from ∷ []) (asked.to ∷ []) asked.depart) }
     ensures from { IfOk result (λ asked. asked.from < stops_of basis.now.timetable) }
     ensures to { IfOk result (λ asked. asked.to < stops_of basis.now.timetable) }
     ensures early { IfOk result (λ asked. asked.depart ≤ 4_000_000_000) }
     ensures refusal { IfErr result (IsUnanswered (stop_alone basis.now.names) ⊥ basis.now question.now) }
 {
-    let Some(from) = basis.names.stop_named(question.from) else {
+    let Some(from) = basis.stop_named(question.from) else {
         return Err(Fault::UnknownStop(question.from));
     };
-    let Some(to) = basis.names.stop_named(question.to) else {
+    let Some(to) = basis.stop_named(question.to) else {
         return Err(Fault::UnknownStop(question.to));
     };
     let Some(depart) = covered_moment(basis) else {
@@ -70,18 +67,14 @@ fn between<'a>(basis: &Basis, question: &Question<'a>) -> Result<Asked, Fault<'a
 
 // The least arrival of one ride.
 fn direct<'a>(alloc: Global, basis: &Basis, question: &Question<'a>) -> Result<Answer, Fault<'a>>
-    requires { IsSound basis.now }
     ensures answer { IfOk result (IsAnswered (stop_alone basis.now.names) (IsDirect basis.now) basis.now question.now) }
     ensures refusal { IfErr result (IsUnanswered (stop_alone basis.now.names) ⊥ basis.now question.now) }
 {
     let asked = between(basis, question)?;
-    let timetable = &basis.timetable;
-    let lines = Lines::of(alloc, timetable)?;
-    let connections = Direct::of(alloc, timetable, &lines)?;
-    let ride = connections.earliest(timetable, &lines, asked.from, asked.to, asked.depart);
-    let answer = match ride {
+    let network = basis.network(alloc)?;
+    let answer = match network.earliest(asked.from, asked.to, asked.depart) {
         None => Answer::NoRide,
-        Some(leg) => Answer::Arrive(day_time(&basis.cover, timetable.arrival_of(leg))),
+        Some(leg) => Answer::Arrive(basis.day_time(basis.timetable().arrival_of(leg))),
     };
     Ok(answer)
 }
@@ -93,14 +86,13 @@ fn scan<'a>(
     question: &Question<'a>,
     rides: Rides,
 ) -> Result<Answer, Fault<'a>>
-    requires { IsSound basis.now }
     ensures answer { IfOk result (IsAnswered (stop_alone basis.now.names) (ArePoints basis.now rides false) basis.now question.now) }
     ensures refusal { IfErr result (IsUnanswered (stop_alone basis.now.names) ⊥ basis.now question.now) }
 {
     let asked = between(basis, question)?;
     let front = rounds::scan(
         alloc,
-        &basis.timetable,
+        basis.timetable(),
         asked.from,
         asked.to,
         asked.depart,
@@ -118,25 +110,16 @@ fn journeys(
     depart: u32,
     rides: Rides,
 ) -> Result<pattern_query::Answer, TreeFault>
-    requires sound { IsSound basis.now }
     requires known { AreKnown (stops_at basis.now.names) question.now }
     requires covered { depart ≤ basis.now.timetable.horizon }
     ensures found { IfOk result (AreFound basis.now rides question.now depart) }
     ensures large { result ≡ Err TreeFault.TooLarge → IsTooLarge basis.now.timetable rides }
 {
-    let Basis {
-        timetable,
-        names,
-        ..
-    } = basis;
-    let lines = Lines::of(alloc, timetable)?;
-    let connections = Direct::of(alloc, timetable, &lines)?;
-    let forest = Forest::build(alloc, timetable, rides)?;
+    let network = basis.network(alloc)?;
+    let forest = Forest::build(alloc, basis.timetable(), rides)?;
     let answer = ask_on(
-        timetable,
-        &lines,
-        &connections,
-        names,
+        &network,
+        basis.names(),
         &forest,
         question.from,
         question.to,
@@ -149,25 +132,18 @@ fn journeys(
     }
 }
 
-// Whether an id stands for a stop or a station.
-fn is_place(names: &Names, id: &str) -> bool
-    ensures { IsTrue result ↔ IsKnown (stops_at names.now) id.now }
-{
-    names.place(id).is_some()
-}
-
 // The moment of a question between two places that has an answer.
 fn asked_moment<'a>(basis: &Basis, question: &Question<'a>) -> Result<u32, Fault<'a>>
     ensures known { IfOk result (λ moment. AreKnown (stops_at basis.now.names) question.now) }
     ensures moment { IfOk result (λ moment. (basis.now.moment ≡ Some moment) × (moment ≤ basis.now.timetable.horizon)) }
     ensures early { IfOk result (λ moment. moment ≤ 4_000_000_000) }
-    ensures valid { IfOk result (λ moment. IsTable basis.now.timetable) }
+    ensures sound { IfOk result (λ moment. IsSound basis.now) }
     ensures refusal { IfErr result (IsUnanswered (stops_at basis.now.names) ⊥ basis.now question.now) }
 {
-    if !is_place(&basis.names, question.from) {
+    if !basis.is_place(question.from) {
         return Err(Fault::UnknownStop(question.from));
     }
-    if !is_place(&basis.names, question.to) {
+    if !basis.is_place(question.to) {
         return Err(Fault::UnknownStop(question.to));
     }
     match covered_moment(basis) {
@@ -184,7 +160,6 @@ fn ask<'a>(
     rides: Rides,
     legs: bool,
 ) -> Result<Answer, Fault<'a>>
-    requires { IsSound basis.now }
     ensures answer { IfOk result (IsAnswered (stops_at basis.now.names) (ArePoints basis.now rides legs) basis.now question.now) }
     ensures refusal { IfErr result (IsUnanswered (stops_at basis.now.names) (IsTooLarge basis.now.timetable rides) basis.now question.now) }
 {
@@ -196,7 +171,6 @@ fn ask<'a>(
 
 /// Answers a job's question.
 pub fn perform<'a>(alloc: Global, basis: &Basis, job: &Job<'a>) -> Result<Answer, Fault<'a>>
-    requires { IsSound basis.now }
     ensures answer { IfOk result (IsAnswer basis.now job.now) }
     ensures refusal { IfErr result (IsRefusal basis.now job.now) }
 {

@@ -2,12 +2,10 @@
 
 ghost use Rattle.std.specs.Prelude.{◌≤◌, IfOk};
 ghost use Rattle.std.specs.List.{All, AllZip};
-ghost use Rattle.timetable.specs.Table.{IsTable};
 ghost use Rattle.commands.specs.Points.{IsKnownJourney, ShowsNumbers, Tells};
 
 use crate::answer::Point;
 use crate::basis::Basis;
-use crate::moment::day_time;
 use crate::parts::parts;
 use crate::stages::stages_of;
 use std::alloc::{AllocError, Global};
@@ -21,7 +19,7 @@ pub fn points_of(alloc: Global, basis: &Basis, front: &[Numbers]) -> Result<Vec<
     for numbers in front {
         points.push(Point {
             rides: numbers.rides,
-            at: day_time(&basis.cover, numbers.arrival),
+            at: basis.day_time(numbers.arrival),
             stages: Vec::new(alloc),
         })?;
     }
@@ -36,7 +34,6 @@ fn tell(
     wanted: bool,
     journey: &pattern_query::Point,
 ) -> Result<Point, AllocError>
-    requires valid { IsTable basis.now.timetable }
     requires early { depart ≤ 4_000_000_000 }
     requires known { IsKnownJourney basis.now depart journey.now }
     ensures { IfOk result (Tells basis.now depart wanted journey.now) }
@@ -44,7 +41,7 @@ fn tell(
     let stages = if wanted {
         let parts = parts(
             alloc,
-            &basis.timetable,
+            basis.timetable(),
             journey.from(),
             depart,
             journey.legs(),
@@ -56,7 +53,7 @@ fn tell(
     };
     Ok(Point {
         rides: journey.rides(),
-        at: day_time(&basis.cover, journey.arrival()),
+        at: basis.day_time(journey.arrival()),
         stages,
     })
 }
@@ -70,7 +67,6 @@ pub fn told(
     wanted: bool,
     journeys: &[pattern_query::Point],
 ) -> Result<Vec<Point>, AllocError>
-    requires valid { IsTable basis.now.timetable }
     requires early { depart ≤ 4_000_000_000 }
     requires known { All (IsKnownJourney basis.now depart) journeys.now }
     ensures { IfOk result (λ points. AllZip (Tells basis.now depart wanted) journeys.now points.items) }

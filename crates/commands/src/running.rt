@@ -10,7 +10,7 @@ use crate::asking::perform;
 use crate::basis::basis_of;
 use command_line::Job;
 use gtfs_tables::Files;
-use programs::Fault;
+use program_inputs::{Fault, unwritten};
 use std::alloc::Global;
 use std::hash::RandomState;
 use std::io::{Read, Write};
@@ -47,7 +47,7 @@ pub fn run<R: Read + Drop, W: Write, E: Write>(
     match answer(alloc, keys, job, files) {
         Ok(answer) => {
             if writeln!(out, "{answer}").is_err() || out.flush().is_err() {
-                return 8;
+                return unwritten("tp", err);
             }
             0
         }

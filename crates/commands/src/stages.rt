@@ -7,9 +7,10 @@ ghost use Rattle.commands.specs.Printed.{stage_text};
 ghost use Rattle.commands.specs.Stages.{ShowsPart};
 
 use crate::basis::Basis;
-use crate::moment::{DayTime, day_time};
+use crate::moment::DayTime;
 use crate::parts::Part;
 use gtfs_tables::Id;
+use shown_ids::Shown;
 use std::alloc::{AllocError, Global};
 use std::fmt;
 
@@ -45,15 +46,15 @@ impl fmt::Display for Stage {
             } => write!(
                 f,
                 "  ride {} {} {departs} {} {arrives}",
-                trip.as_str(),
-                from.as_str(),
-                to.as_str()
+                Shown(trip.as_str()),
+                Shown(from.as_str()),
+                Shown(to.as_str())
             ),
             Stage::Walk { from, to, arrives } => write!(
                 f,
                 "  walk {} {} {arrives}",
-                from.as_str(),
-                to.as_str()
+                Shown(from.as_str()),
+                Shown(to.as_str())
             ),
         }
     }
@@ -64,27 +65,23 @@ fn stage_of(alloc: Global, basis: &Basis, part: Part) -> Result<Stage, AllocErro
     requires { IsKnownPart basis.now part }
     ensures { IfOk result (ShowsPart basis.now part) }
 {
-    let Basis {
-        timetable,
-        names,
-        cover,
-        ..
-    } = basis;
+    let timetable = basis.timetable();
+    let names = basis.names();
     let stage = match part {
         Part::Ride(leg) => {
             let trip = timetable.instance(leg.instance as usize).trip();
             Stage::Ride {
                 trip: Id::new(alloc, names.trip(trip))?,
                 from: Id::new(alloc, names.stop(timetable.boarding_stop(leg)))?,
-                departs: day_time(cover, timetable.departure_of(leg)),
+                departs: basis.day_time(timetable.departure_of(leg)),
                 to: Id::new(alloc, names.stop(timetable.alighting_stop(leg)))?,
-                arrives: day_time(cover, timetable.arrival_of(leg)),
+                arrives: basis.day_time(timetable.arrival_of(leg)),
             }
         }
         Part::Walk { from, to, arrival } => Stage::Walk {
             from: Id::new(alloc, names.stop(from))?,
             to: Id::new(alloc, names.stop(to))?,
-            arrives: day_time(cover, arrival),
+            arrives: basis.day_time(arrival),
         },
     };
     Ok(stage)

@@ -3,6 +3,7 @@
 #![tactic(auto)]
 
 mod direct;
+mod network;
 mod places;
 
-pub use direct::Direct;
+pub use network::Network;

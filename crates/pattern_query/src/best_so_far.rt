@@ -1,18 +1,16 @@
 //! The best journeys found so far.
 
 ghost use Rattle.std.specs.Prelude.{◌≡◌, ℕ, ◌≤◌, ◌<◌, ◌↔◌, IsTrue, None, length};
-ghost use Rattle.direct_connections.specs.Direct.{IsMadeFor};
 ghost use Rattle.pattern_query.specs.BestSoFar.{at, ThereBy, AddsTree, AreChosen, Offered};
 
 use crate::answer::{Answer, Point};
 use crate::patterns::Patterns;
 use crate::search::Search;
 use arrayvec::ArrayVec;
-use direct_connections::Direct;
-use lines::Lines;
+use direct_connections::Network;
 use std::alloc::Allocator;
 use std::marker::Model;
-use timetable::{StopId, Timetable};
+use timetable::StopId;
 
 /// The best journeys found so far: a place for each number of rides, from 0 to 8.
 #[derive(Debug, Drop)]
@@ -69,24 +67,19 @@ impl BestSoFar {
     }
 
     /// Puts in the journeys of a source's patterns to `to` at the moment, where none with as few rides arrives as early. The
-    /// connections are those of the timetable and its lines; the moment is at most 4,000,000,000 seconds. It takes no memory.
+    /// moment is at most 4,000,000,000 seconds. It takes no memory.
     pub fn search<A: Allocator>(
         &mut self,
-        table: &Timetable,
-        lines: &Lines,
-        direct: &Direct,
+        network: &Network,
         patterns: &Patterns<A>,
         to: StopId,
         depart: u32,
     )
-        requires tables { IsMadeFor table.now lines.now direct.now }
         requires early { depart ≤ 4_000_000_000 }
-        ensures { AddsTree table.now patterns.now to depart self.old self.new }
+        ensures { AddsTree network.now patterns.now to depart self.old self.new }
     {
         let search = Search {
-            table,
-            lines,
-            direct,
+            network,
             source: patterns.source(),
             to,
             depart,

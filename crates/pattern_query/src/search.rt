@@ -1,8 +1,8 @@
 //! The search of a source's patterns for the best journeys to a stop.
 
 ghost use Rattle.std.specs.Prelude.{◌≡◌, ◌+◌, ◌<◌, ◌≤◌, ◌++◌, ◌∷◌, [], map, length, IfSome, IfNone};
-ghost use Rattle.timetable.specs.Journeys.{pattern};
-ghost use Rattle.direct_connections.specs.Direct.{IsMadeFor};
+ghost use Rattle.timetable.specs.Table.{IsTable};
+ghost use Rattle.timetable.specs.Journeys.{arrives, pattern};
 ghost use Rattle.pattern_query.specs.Patterns.{path_of};
 ghost use Rattle.pattern_query.specs.Way.{Earliest, Boards, Exactly, EmptyOrIn, HasFront, hop, is_some};
 ghost use Rattle.pattern_query.specs.BestSoFar.{Searched, AreThere};
@@ -10,26 +10,25 @@ ghost use Rattle.pattern_query.specs.BestSoFar.{Searched, AreThere};
 use crate::answer::{Legs, Point};
 use crate::best_so_far::{is_there_by, offer};
 use crate::patterns::Pattern;
-use direct_connections::Direct;
-use lines::Lines;
-use timetable::{Leg, StopId, Timetable};
+use direct_connections::Network;
+use timetable::{Leg, StopId};
 
 /// What is sought, and where: journeys from a source to a stop.
 #[derive(Clone, Copy)]
 pub(crate) struct Search<'a> {
-    pub(crate) table: &'a Timetable,
-    pub(crate) lines: &'a Lines,
-    pub(crate) direct: &'a Direct,
+    pub(crate) network: &'a Network,
     pub(crate) source: StopId,
     pub(crate) to: StopId,
     pub(crate) depart: u32,
 }
 
 // The seconds between being at a stop and boarding at another, before any ride or after one.
-fn hop(table: &Timetable, ridden: bool, from: StopId, to: StopId) -> Option<u32>
-    ensures value { result ≡ hop table.now ridden from to }
+fn hop(network: &Network, ridden: bool, from: StopId, to: StopId) -> Option<u32>
+    ensures value { result ≡ hop network.now ridden from to }
     ensures short { IfSome result (λ seconds. seconds ≤ 86_400) }
+    ensures valid { IsTable network.now }
 {
+    let table = network.timetable();
     if from != to {
         table.walk(from, to)
     } else if ridden {
@@ -40,6 +39,14 @@ fn hop(table: &Timetable, ridden: bool, from: StopId, to: StopId) -> Option<u32>
 }
 
 impl Search<'_> {
+    // When a ride arrives.
+    fn arrival_of(&self, leg: Leg) -> u32
+        ensures value { result ≡ arrives self.now.network.now leg }
+        ensures valid { IsTable self.now.network.now }
+    {
+        self.network.timetable().arrival_of(leg)
+    }
+
     // The earliest ride along a step behind the legs, on a path of so many rides. None where there is none, or where a journey that
     // was found arrives no later than one could board, or than the ride does, with no more rides than the path: then no journey
     // along the path is better.
@@ -52,23 +59,20 @@ impl Search<'_> {
         rides: usize,
         points: &[Option<Point>],
     ) -> Option<Leg>
-        requires tables { IsMadeFor self.now.table.now self.now.lines.now self.now.direct.now }
-        requires way { Earliest self.now.table.now self.now.source self.now.depart legs.now.items at since }
+        requires way { Earliest self.now.network.now self.now.source self.now.depart legs.now.items at since }
         requires early { since ≤ 4_000_000_000 }
         requires room { rides < length points.now }
-        ensures boards { IfSome result (Boards self.now.table.now (is_some legs.now.items) at since step.0 step.1) }
-        ensures none { IfNone result (AreThere self.now.table.now self.now.source self.now.to self.now.depart
-            (HasFront rides (pattern self.now.table.now legs.now.items ++ step ∷ [])) points.now) }
+        ensures boards { IfSome result (Boards self.now.network.now (is_some legs.now.items) at since step.0 step.1) }
+        ensures none { IfNone result (AreThere self.now.network.now self.now.source self.now.to self.now.depart
+            (HasFront rides (pattern self.now.network.now legs.now.items ++ step ∷ [])) points.now) }
     {
         let (board, alight) = step;
-        let ready = since + hop(self.table, !legs.is_empty(), at, board)?;
+        let ready = since + hop(self.network, !legs.is_empty(), at, board)?;
         if is_there_by(points, rides + 1, ready) {
             return None;
         }
-        let leg = self
-            .direct
-            .earliest(self.table, self.lines, board, alight, ready)?;
-        if is_there_by(points, rides + 1, self.table.arrival_of(leg)) {
+        let leg = self.network.earliest(board, alight, ready)?;
+        if is_there_by(points, rides + 1, self.arrival_of(leg)) {
             return None;
         }
         Some(leg)
@@ -76,13 +80,13 @@ impl Search<'_> {
 
     // Offers the journey of the legs and the walk from where they lead.
     fn arrive(&self, at: StopId, since: u32, legs: &Legs, points: &mut [Option<Point>])
-        requires way { Earliest self.now.table.now self.now.source self.now.depart legs.now.items at since }
+        requires way { Earliest self.now.network.now self.now.source self.now.depart legs.now.items at since }
         requires early { since ≤ 4_000_000_000 }
         requires room { length legs.now.items < length points.old }
-        ensures { Searched self.now.table.now self.now.source self.now.to self.now.depart
-            (Exactly (pattern self.now.table.now legs.now.items)) points.old points.new }
+        ensures { Searched self.now.network.now self.now.source self.now.to self.now.depart
+            (Exactly (pattern self.now.network.now legs.now.items)) points.old points.new }
     {
-        if let Some(seconds) = hop(self.table, false, at, self.to) {
+        if let Some(seconds) = hop(self.network, false, at, self.to) {
             let point = Point::new(self.source, self.to, since + seconds, legs);
             offer(points, point);
         }
@@ -90,11 +94,10 @@ impl Search<'_> {
 
     // Offers the earliest journey along a path, or on foot along an empty one.
     fn follow(&self, path: &[(StopId, StopId)], points: &mut [Option<Point>])
-        requires tables { IsMadeFor self.now.table.now self.now.lines.now self.now.direct.now }
         requires early { self.now.depart ≤ 4_000_000_000 }
         requires short { length path.now ≤ 8 }
         requires nine { length points.old ≡ 9 }
-        ensures { Searched self.now.table.now self.now.source self.now.to self.now.depart (Exactly path.now) points.old points.new }
+        ensures { Searched self.now.network.now self.now.source self.now.to self.now.depart (Exactly path.now) points.old points.new }
     {
         let mut legs = Legs::new();
         let mut at = self.source;
@@ -105,17 +108,16 @@ impl Search<'_> {
             };
             legs.push(leg);
             at = step.1;
-            since = self.table.arrival_of(leg);
+            since = self.arrival_of(leg);
         }
         self.arrive(at, since, &legs, points);
     }
 
     /// Puts in the journeys from the source to the stop on foot, and along the paths of the patterns.
     pub(crate) fn run(&self, patterns: &[Pattern], points: &mut [Option<Point>])
-        requires tables { IsMadeFor self.now.table.now self.now.lines.now self.now.direct.now }
         requires early { self.now.depart ≤ 4_000_000_000 }
         requires nine { length points.old ≡ 9 }
-        ensures { Searched self.now.table.now self.now.source self.now.to self.now.depart
+        ensures { Searched self.now.network.now self.now.source self.now.to self.now.depart
             (EmptyOrIn (map path_of patterns.now)) points.old points.new }
     {
         self.follow(&[], points);

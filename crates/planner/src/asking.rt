@@ -1,18 +1,16 @@
 //! Answers to questions between two places.
 
 ghost use Rattle.std.specs.Prelude.{◌≡◌, ◌≤◌, MatchResult};
-ghost use Rattle.direct_connections.specs.Direct.{IsMadeFor};
 ghost use Rattle.planner.specs.Places.{stops_in, AreNames};
 ghost use Rattle.planner.specs.Questions.{IsAnswer, IsRefusal};
 ghost use Rattle.planner.specs.Gathered.{IsTo, AddsAsked};
 
 use crate::fault::AskFault;
 use crate::trees::Trees;
-use direct_connections::Direct;
-use lines::Lines;
+use direct_connections::Network;
 use pattern_query::{Answer, BestSoFar, Patterns};
 use std::slice;
-use timetable::{Names, Place, StopId, Timetable};
+use timetable::{Names, Place, StopId};
 
 // The stops of a place.
 fn stops_of<'a>(place: &'a Place<'a>) -> &'a [StopId]
@@ -26,20 +24,17 @@ fn stops_of<'a>(place: &'a Place<'a>) -> &'a [StopId]
 
 // Puts in the journeys of the patterns to each of the stops.
 fn search_to(
-    table: &Timetable,
-    lines: &Lines,
-    direct: &Direct,
+    network: &Network,
     patterns: &Patterns,
     tos: &[StopId],
     depart: u32,
     best: &mut BestSoFar,
 )
-    requires tables { IsMadeFor table.now lines.now direct.now }
     requires early { depart ≤ 4_000_000_000 }
-    ensures { AddsAsked table.now (IsTo patterns.now tos.now) depart best.old best.new }
+    ensures { AddsAsked network.now (IsTo patterns.now tos.now) depart best.old best.new }
 {
     for to in tos {
-        best.search(table, lines, direct, patterns, *to, depart);
+        best.search(network, patterns, *to, depart);
     }
 }
 
@@ -48,22 +43,19 @@ fn search_to(
 /// complete, these are the best numbers of all journeys between these stops. A station without stops gives no journeys.
 ///
 /// It is refused where an id names nothing, the first before the second; else where the moment isn't covered; else where a tree isn't
-/// there, with the id of the first stop that lacks one. The names are those of the timetable's feed, and the connections those of the
-/// timetable and its lines. It takes no memory.
+/// there, with the id of the first stop that lacks one. The names are those of the timetable's feed. It takes no
+/// memory.
 pub fn ask_on<'a, T: Trees>(
-    table: &Timetable,
-    lines: &Lines,
-    direct: &Direct,
+    network: &Network,
     names: &'a Names,
     trees: &T,
     from: &'a str,
     to: &'a str,
     depart: u32,
 ) -> Result<Answer, AskFault<'a>>
-    requires tables { IsMadeFor table.now lines.now direct.now }
     requires names { AreNames names.now }
-    ensures { MatchResult result (IsAnswer table.now names.now (T.held trees.now) from.now to.now depart)
-        (IsRefusal table.now names.now (T.held trees.now) from.now to.now depart) }
+    ensures { MatchResult result (IsAnswer network.now names.now (T.held trees.now) from.now to.now depart)
+        (IsRefusal network.now names.now (T.held trees.now) from.now to.now depart) }
 {
     let Some(start) = names.place(from) else {
         return Err(AskFault::UnknownStop(from));
@@ -71,7 +63,7 @@ pub fn ask_on<'a, T: Trees>(
     let Some(end) = names.place(to) else {
         return Err(AskFault::UnknownStop(to));
     };
-    if !table.covers(depart) {
+    if !network.timetable().covers(depart) {
         return Err(AskFault::NotCovered);
     }
     let mut best = BestSoFar::new();
@@ -79,15 +71,7 @@ pub fn ask_on<'a, T: Trees>(
         let Some(patterns) = trees.patterns(*source) else {
             return Err(AskFault::NotStored(names.stop(*source)));
         };
-        search_to(
-            table,
-            lines,
-            direct,
-            patterns,
-            stops_of(&end),
-            depart,
-            &mut best,
-        );
+        search_to(network, patterns, stops_of(&end), depart, &mut best);
     }
     Ok(best.answer())
 }

@@ -1,7 +1,7 @@
 use command_line::{Job, Question, Task};
 use commands::run;
 use gtfs_tables::Files;
-use programs::{Settings, out_of_memory, unread};
+use program_inputs::{Settings, out_of_memory, unread};
 use std::hash::RandomState;
 use std::io;
 use std::io::{ErrorKind, Read, Write};
@@ -17,6 +17,8 @@ WK,1,1,1,1,1,1,1,20240101,20241231\n";
 
 const STOP_TIMES: &[u8] = b"trip_id,stop_id,stop_sequence,arrival_time,departure_time\n\
 T,A,1,08:00:00,08:00:00\nT,B,2,08:10:00,08:10:00\n";
+
+const REFUSED: &str = "tp: standard output refused a write\n";
 
 const ANSWER: &str = "rides 1 arrive 20240102 08:10:00\n";
 
@@ -135,9 +137,13 @@ fn a_writer_that_refuses_the_rest(rt: HostRuntime) -> Result<(), Fail> {
             &mut out,
             &mut err,
         );
-        let wanted = if room < ANSWER.len() { 8 } else { 0 };
+        let (wanted, said) = if room < ANSWER.len() {
+            (8, REFUSED)
+        } else {
+            (0, "")
+        };
         assert_eq!(rt; status, wanted, "with room for {room} bytes");
-        assert!(rt; err.is_empty());
+        assert_eq!(rt; std::str::from_utf8(err.as_slice())?, said);
     }
     Ok(())
 }

@@ -3,7 +3,7 @@
 
 use command_line::{Job, read_words};
 use commands::run;
-use programs::{given_words, open_feed, out_of_memory, show, texts, unread};
+use program_inputs::{given_words, open_feed, out_of_memory, show, texts, unread};
 use std::hash::RandomState;
 use std::process::ExitCode;
 
@@ -33,7 +33,7 @@ fn status(rt: &HostRuntime) -> u8 {
     let mut shown = Vec::new(alloc);
     match read_words(alloc, texts.as_slice(), &mut shown) {
         Ok(job) => perform(rt, &job),
-        Err(status) => show(rt, shown.as_slice(), status),
+        Err(status) => show(rt, "tp", shown.as_slice(), status),
     }
 }
 

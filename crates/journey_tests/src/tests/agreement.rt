@@ -2,16 +2,15 @@
 
 ghost use Rattle.std.specs.Prelude.{◌≡◌, ◌<◌, ◌≤◌, length};
 ghost use Rattle.timetable.specs.Table.{stops_of};
-ghost use Rattle.direct_connections.specs.Direct.{IsMadeFor};
 ghost use Rattle.rounds.specs.Scratch.{rounds_of};
 
-use direct_connections::Direct;
-use lines::Lines;
+use direct_connections::Network;
 use pattern_query::{Answer, Patterns, ask};
 use planner::{Forest, Trees};
 use rounds::{Rides, RoundView, Scratch, plain_rounds, scan};
 use sample_feed::town;
 use std::alloc::Global;
+use std::sync::Arc;
 use std::test::Fail;
 use timetable::{Numbers, StopId, Timetable, plain_direct};
 
@@ -79,19 +78,11 @@ fn rounds_by_lines_and_by_trips(rt: HostRuntime) -> Result<(), Fail> {
 
 // Whether there is a ride from a stop to a stop, where the search among lines finds the arrival that the search among all trips
 // finds.
-fn compare_rides(
-    table: &Timetable,
-    lines: &Lines,
-    direct: &Direct,
-    from: StopId,
-    to: StopId,
-    ready: u32,
-) -> Result<bool, Fail>
-    requires { IsMadeFor table.now lines.now direct.now }
-{
+fn compare_rides(network: &Network, from: StopId, to: StopId, ready: u32) -> Result<bool, Fail> {
+    let table = network.timetable();
     let plain = plain_direct(table, from, to, ready).map(|leg| table.arrival_of(leg));
-    let by_lines = direct
-        .earliest(table, lines, from, to, ready)
+    let by_lines = network
+        .earliest(from, to, ready)
         .map(|leg| table.arrival_of(leg));
     if plain != by_lines {
         return Err(Fail::new("another arrival"));
@@ -102,15 +93,13 @@ fn compare_rides(
 // From before the first trip until after the last of two days.
 #[test]
 fn rides_by_lines_and_by_trips(rt: HostRuntime) -> Result<(), Fail> {
-    let table = town(&rt, 2)?;
-    let lines = Lines::of(rt.alloc(), &table)?;
-    let direct = Direct::of(rt.alloc(), &table, &lines)?;
+    let network = Network::of(rt.alloc(), Arc::new(rt.alloc(), town(&rt, 2)?)?)?;
     let mut rides = 0_u32;
     for from in 0..12_u16 {
         for to in 0..12_u16 {
             for step in 0..120_u32 {
                 let (from, to) = (StopId::new(from), StopId::new(to));
-                if compare_rides(&table, &lines, &direct, from, to, 21_000 + step * 1_000)? {
+                if compare_rides(&network, from, to, 21_000 + step * 1_000)? {
                     rides = rides.saturating_add(1);
                 }
             }
@@ -130,21 +119,25 @@ fn has_numbers(answer: &Answer, numbers: &[Numbers]) -> bool {
 // How many best journeys there are from a stop to a stop, where those of the tree have the numbers that the rounds find.
 fn compare_answers(
     alloc: Global,
-    table: &Timetable,
-    lines: &Lines,
-    direct: &Direct,
+    network: &Network,
     patterns: &Patterns,
     source: StopId,
     to: StopId,
     depart: u32,
 ) -> Result<usize, Fail>
-    requires tables { IsMadeFor table.now lines.now direct.now }
-    requires source { source < stops_of table.now }
-    requires to { to < stops_of table.now }
+    requires source { source < stops_of network.now }
+    requires to { to < stops_of network.now }
     requires early { depart ≤ 4_000_000_000 }
 {
-    let front = scan(alloc, table, source, to, depart, Rides::new(3))?;
-    let answer = ask(table, lines, direct, patterns, to, depart);
+    let front = scan(
+        alloc,
+        network.timetable(),
+        source,
+        to,
+        depart,
+        Rides::new(3),
+    )?;
+    let answer = ask(network, patterns, to, depart);
     if !has_numbers(&answer, front.as_slice()) {
         return Err(Fail::new("another answer"));
     }
@@ -153,26 +146,15 @@ fn compare_answers(
 
 #[test]
 fn answers_of_trees_and_of_rounds(rt: HostRuntime) -> Result<(), Fail> {
-    let table = town(&rt, 3)?;
-    let lines = Lines::of(rt.alloc(), &table)?;
-    let direct = Direct::of(rt.alloc(), &table, &lines)?;
-    let forest = Forest::build(rt.alloc(), &table, Rides::new(3))?;
+    let network = Network::of(rt.alloc(), Arc::new(rt.alloc(), town(&rt, 3)?)?)?;
+    let forest = Forest::build(rt.alloc(), network.timetable(), Rides::new(3))?;
     let mut several = 0_u32;
     for pair in 0..144_u16 {
         let (source, to) = (StopId::new(pair / 12), StopId::new(pair % 12));
         let patterns = forest.patterns(source).ok_or("no tree")?;
         for step in 0..16_u32 {
             let depart = 21_000 + step * 900;
-            let found = compare_answers(
-                rt.alloc(),
-                &table,
-                &lines,
-                &direct,
-                patterns,
-                source,
-                to,
-                depart,
-            )?;
+            let found = compare_answers(rt.alloc(), &network, patterns, source, to, depart)?;
             if found > 1 {
                 several = several.saturating_add(1);
             }

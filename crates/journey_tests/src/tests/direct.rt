@@ -1,12 +1,10 @@
 //! Rides of one trip.
 
-ghost use Rattle.direct_connections.specs.Direct.{IsMadeFor};
-
-use direct_connections::Direct;
-use lines::Lines;
+use direct_connections::Network;
 use sample_feed::of_calls;
+use std::sync::Arc;
 use std::test::Fail;
-use timetable::{StopId, Timetable};
+use timetable::StopId;
 
 const EIGHT: u32 = 28_800;
 
@@ -27,28 +25,18 @@ const RIDES: [(u16, u16, u32, Option<(u16, u16, u32)>); 8] = [
 ];
 
 // The places and the arrival of a ride.
-fn ride(
-    table: &Timetable,
-    lines: &Lines,
-    direct: &Direct,
-    from: u16,
-    to: u16,
-    ready: u32,
-) -> Option<(u16, u16, u32)>
-    requires { IsMadeFor table.now lines.now direct.now }
-{
+fn ride(network: &Network, from: u16, to: u16, ready: u32) -> Option<(u16, u16, u32)> {
     let (from, to) = (StopId::new(from.min(60_000)), StopId::new(to.min(60_000)));
-    let leg = direct.earliest(table, lines, from, to, ready)?;
-    Some((leg.board, leg.alight, table.arrival_of(leg)))
+    let leg = network.earliest(from, to, ready)?;
+    Some((leg.board, leg.alight, network.timetable().arrival_of(leg)))
 }
 
 #[test]
 fn stop_that_comes_twice(rt: HostRuntime) -> Result<(), Fail> {
-    let table = of_calls(&rt, TWICE)?;
-    let lines = Lines::of(rt.alloc(), &table)?;
-    let direct = Direct::of(rt.alloc(), &table, &lines)?;
+    let table = Arc::new(rt.alloc(), of_calls(&rt, TWICE)?)?;
+    let network = Network::of(rt.alloc(), table)?;
     for (from, to, ready, wanted) in RIDES {
-        let found = ride(&table, &lines, &direct, from, to, ready);
+        let found = ride(&network, from, to, ready);
         assert_eq!(rt; found, wanted, "from {from} to {to} at {ready}");
     }
     Ok(())

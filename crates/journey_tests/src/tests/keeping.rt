@@ -5,7 +5,7 @@ ghost use Rattle.timetable.specs.Table.{stops_of};
 ghost use Rattle.rounds.specs.Scratch.{IsMadeFor, MayGoOn, rides_of, rounds_of, source_of};
 
 use super::agreement::count_alike;
-use rounds::{Rides, RoundView, Scratch, departures, plain_rounds};
+use rounds::{Rides, RoundView, Scratch, plain_rounds};
 use sample_feed::{Span, town_on};
 use std::alloc::Global;
 use std::test::Fail;
@@ -64,8 +64,8 @@ fn compare_next(
 fn compare_moments(alloc: Global, table: &Timetable, source: StopId) -> Result<u32, Fail>
     requires { source < stops_of table.now }
 {
-    let moments = departures(alloc, table, source)?;
     let mut scratch = Scratch::new(alloc, table, Rides::new(3))?;
+    let moments = scratch.departures(alloc, table, source)?;
     let mut last = vec![in alloc; None; 36]?;
     let mut by_three = 0_u32;
     let mut before = 4_000_000_000;

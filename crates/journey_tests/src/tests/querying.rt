@@ -1,13 +1,13 @@
 //! Answers from a tree, with their rides.
 
-use direct_connections::Direct;
-use lines::Lines;
+use direct_connections::Network;
 use pattern_query::{Answer, ask};
 use planner::{Forest, Trees};
 use rounds::Rides;
 use sample_feed::demo;
 use std::alloc::{AllocError, Global};
 use std::fmt::Write;
+use std::sync::Arc;
 use std::test::Fail;
 use timetable::StopId;
 
@@ -49,14 +49,12 @@ const ANSWERS: [(u16, u32, &str); 5] = [
 
 #[test]
 fn answers_of_a_tree(rt: HostRuntime) -> Result<(), Fail> {
-    let table = demo(&rt)?;
-    let lines = Lines::of(rt.alloc(), &table)?;
-    let direct = Direct::of(rt.alloc(), &table, &lines)?;
-    let forest = Forest::build(rt.alloc(), &table, Rides::new(3))?;
+    let network = Network::of(rt.alloc(), Arc::new(rt.alloc(), demo(&rt)?)?)?;
+    let forest = Forest::build(rt.alloc(), network.timetable(), Rides::new(3))?;
     let patterns = forest.patterns(StopId::new(0)).ok_or("no tree")?;
     for (to, depart, wanted) in ANSWERS {
         let to = StopId::new(to.min(60_000));
-        let answer = ask(&table, &lines, &direct, patterns, to, depart.min(100_000));
+        let answer = ask(&network, patterns, to, depart.min(100_000));
         let text = text_of(rt.alloc(), &answer)?;
         assert_eq!(rt; text.as_str(), wanted, "{to:?} at {depart}");
     }

@@ -1,6 +1,6 @@
 //! Moments to leave a stop at.
 
-use rounds::departures;
+use rounds::{Rides, Scratch};
 use sample_feed::{Feed, Span, table_of};
 use std::test::Fail;
 use timetable::StopId;
@@ -11,7 +11,8 @@ fn moments(rt: &HostRuntime, feed: Feed<'_>, number: u16) -> Result<Vec<u32>, Fa
     if number as usize >= table.stops() {
         return Err(Fail::new("no such stop"));
     }
-    Ok(departures(rt.alloc(), &table, StopId::new(number))?)
+    let scratch = Scratch::new(rt.alloc(), &table, Rides::new(1))?;
+    Ok(scratch.departures(rt.alloc(), &table, StopId::new(number))?)
 }
 
 // From E one walks to A at once, and to B in 600 seconds: one moment serves T3 at A and T2 at B.

@@ -4,7 +4,7 @@ use Rattle.clap.specs.Words.{App, app_of, with_subcommand}
 use Rattle.clap.specs.Simple.{app_of_fields}
 use Rattle.clap.specs.declared.builder.command.Command.{Command}
 use Rattle.clap.specs.declared.error.Error.{Error}
-use Rattle.command_line.specs.CommandLine.{ask_app, journey_app, needs_subcommand}
+use Rattle.command_line.specs.CommandLine.{ask_app, journey_app, needs_subcommand, tells_version}
 use Rattle.command_line.proofs.program.program.Goals as goal
 
 -- a program with a command more whose command line is known
@@ -28,4 +28,5 @@ returns-clause-shape c =
     added c.journey.result none one direct c.in_ok-program.ensures.shape c.journey.ensures.shape
     ∙ ap (λ (a : App). with_subcommand a direct.top) (
     ap app_of_fields c.subcommand_required-program.ensures
-    ∙ ap needs_subcommand (ap app_of_fields c.after_help.ensures ∙ ap app_of_fields c.about.ensures ∙ c.new.ensures.app))))
+    ∙ ap needs_subcommand (ap app_of_fields c.after_help.ensures ∙ ap app_of_fields c.about.ensures
+    ∙ ap app_of_fields c.version.ensures ∙ ap tells_version c.new.ensures.app))))

@@ -30,11 +30,11 @@ told-requires-clause-known c =
     let basis = c.args.basis.now in
     let d = c.in_ok-depart.depart in
     let found = c.in_ok-found.ensures.found in
-    let from_known = stops_known basis.names c.args.question.now.from.now found.froms c.requires.names found.leaves in
-    let to_known = stops_known basis.names c.args.question.now.to.now found.tos c.requires.names found.reaches in
+    let from_known = stops_known basis.names c.args.question.now.from.now found.froms c.in_ok-depart.ensures.sound.names found.leaves in
+    let to_known = stops_known basis.names c.args.question.now.to.now found.tos c.in_ok-depart.ensures.sound.names found.reaches in
     subst (λ l. All (IsKnownJourney basis d) l) (sym c.points.ensures)
     (All-weaker (IsJourneyBetween basis.timetable found.froms found.tos d) (IsKnownJourney basis d)
-    (λ p h. journey_known basis c.in_ok-depart.ensures.valid c.requires p.from d p.legs p.to p.arrival
+    (λ p h. journey_known basis c.in_ok-depart.ensures.sound.valid c.in_ok-depart.ensures.sound p.from d p.legs p.to p.arrival
     (one_of_all (λ s. s < length basis.names.stops) found.froms p.from from_known h.starts)
     (one_of_all (λ s. s < length basis.names.stops) found.tos p.to to_known h.ends) h.journey)
     c.in_ok-found.found found.each)

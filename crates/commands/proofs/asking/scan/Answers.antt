@@ -1,5 +1,7 @@
 use Rattle.std.proofs.Common.{◌∷◌, [], subst}
 use Rattle.std.specs.List.{AllZip}
+use Rattle.timetable.specs.Table.{Table}
+use Rattle.timetable.specs.Front.{AreFront}
 use Rattle.commands.specs.Points.{ShowsNumbers}
 use Rattle.commands.proofs.AnswerFacts.{best_between, shown_numbers}
 use Rattle.commands.proofs.asking.scan.Goals as goal
@@ -16,7 +18,8 @@ returns-clause-answer c =
       c.in_ok-asked.ensures.asked,
       (
         c.in_ok-front.front.items,
-        best_between basis.timetable c.args.rides p q d c.in_ok-front.front.items c.in_ok-front.ensures,
+        best_between basis.timetable c.args.rides p q d c.in_ok-front.front.items
+            (subst (λ (t : Table). AreFront t c.args.rides p q d c.in_ok-front.front.items) c.timetable.ensures.value c.in_ok-front.ensures),
         shown_numbers basis (p ∷ []) (q ∷ []) d c.in_ok-front.front.items c.in_ok-points.points.items
             (subst (λ l. AllZip (ShowsNumbers basis) l c.in_ok-points.points.items) c.as_slice.ensures.value c.in_ok-points.ensures),
       ),

@@ -1,8 +1,9 @@
-use Rattle.std.proofs.Common.{subst, inr}
+use Rattle.std.proofs.Common.{subst, subst₂, sym, inr}
 use Rattle.std.proofs.lemmas.Result.{err_from_is_err_and}
 use Rattle.gtfs_tables.specs.Tables.{TableValues}
 use Rattle.timetable.specs.Answers.{IsFault, IsTimetable}
 use Rattle.timetable.specs.Names.{AreNamesOf}
+use Rattle.timetable.specs.Table.{Table, IsTable}
 use Rattle.commands.specs.Basis.{AreDays}
 use Rattle.commands.specs.Feeds.{HasDateTime}
 use Rattle.commands.proofs.FaultFacts.{of_cover, of_rows}
@@ -45,11 +46,16 @@ returns-clause-basis c = λ feed h.
       seconds = c.args.words.seconds;
       words = c.requires;
       days = record { zone = covered.1; faultless = h.0; rule = covered.2; covered = covered.3 };
-      timetable = subst (λ (t : TableValues). IsTimetable t cover job.settings.default_walk c.in_ok-timetable.timetable) h.1 c.in_ok-timetable.ensures.ok;
+      timetable = subst₂ (λ (t : TableValues) (table : Table). IsTimetable t cover job.settings.default_walk table) h.1 (sym c.in-Ok.ensures.ok) c.in_ok-timetable.ensures.ok;
       named = subst (λ (t : TableValues). AreNamesOf t c.in_ok-names.names) h.1 c.in_ok-names.ensures;
       leaves = c.moment-moment.ensures;
     }
 
-pub returns-clause-sound : goal.returns-clause-sound
-returns-clause-sound c =
-    is_sound c.args.tables.now c.in_ok-cover.cover c.args.job.now.settings.default_walk _ c.in_ok-timetable.ensures.ok c.in_ok-names.ensures
+pub invariant_of-result : goal.invariant_of-result
+invariant_of-result c =
+    let cover = c.in_ok-cover.cover in
+    let walk = c.args.job.now.settings.default_walk in
+    let is = c.in-Ok.ensures.ok in
+    let valid : IsTable c.in_ok-timetable.timetable = subst IsTable c.timetable.view_is c.timetable.invariant in
+    is_sound c.args.tables.now cover walk _ (subst IsTable (sym is) valid)
+    (subst (λ (table : Table). IsTimetable c.args.tables.now cover walk table) (sym is) c.in_ok-timetable.ensures.ok) c.in_ok-names.ensures

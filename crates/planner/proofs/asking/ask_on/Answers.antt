@@ -1,6 +1,7 @@
-use Rattle.std.proofs.Common.{◌≡◌, ℕ, ◌<◌, List, length, take, Some, All, true≢false, refl, sym, ◌∙◌, ap, subst, inl, inr}
+use Rattle.std.proofs.Common.{◌≡◌, ℕ, ◌<◌, ◌≤◌, List, length, take, Some, All, true≢false, refl, sym, ◌∙◌, ap, subst, inl, inr}
 use Rattle.std.proofs.lemmas.Bool.{cases_lt}
 use Rattle.std.proofs.lemmas.List.{take_all}
+use Rattle.timetable.specs.Table.{Table}
 use Rattle.pattern_tree.specs.Content.{Content}
 use Rattle.planner.specs.Places.{stops_in}
 use Rattle.planner.specs.Questions.{Held, IsStored, IsAsked}
@@ -20,9 +21,9 @@ pub returns-then-not-covers : goal.returns-then-not-covers
 returns-then-not-covers g c = (
   (stops_in c.in-Some.start, place_is c.args.names.now c.args.from.now c.in-Some.start c.in-Some.ensures),
   (stops_in c.in-Some-place.end, place_is c.args.names.now c.args.to.now c.in-Some-place.end c.in-Some-place.ensures),
-  elim (cases_lt c.args.table.now.horizon c.args.depart) [
+  elim (cases_lt c.args.network.now.horizon c.args.depart) [
     | inl lt ↦ lt
-    | inr le ↦ absurd (true≢false (sym (c.covers.ensures.1 le) ∙ c.if-not-covers.true))
+    | inr le ↦ absurd (true≢false (sym (c.covers.ensures.1 (subst (λ (t : Table). c.args.depart ≤ t.horizon) (sym c.timetable.ensures.value) le)) ∙ c.if-not-covers.true))
   ],
 )
 
@@ -40,7 +41,7 @@ returns-in_default-patterns g c =
     let items = c.stops_of-source-items.result.now in
     let froms = place_is c.args.names.now c.args.from.now c.in-Some.start c.in-Some.ensures ∙ ap (λ (l : List ℕ). Some l) (sym c.stops_of-source-items.ensures) in (
       (stops_in c.in-Some-place.end, place_is c.args.names.now c.args.to.now c.in-Some-place.end c.in-Some-place.ensures),
-      c.covers.ensures.0 c.if-not-covers.false,
+      subst (λ (t : Table). c.args.depart ≤ t.horizon) c.timetable.ensures.value (c.covers.ensures.0 c.if-not-covers.false),
       items,
       c.source-item.result,
       froms,
@@ -64,17 +65,17 @@ loop-source-preserved g c =
     let tree : Content = c.in-Some-patterns.patterns.now in
     let holds : held s ≡ Some tree = sym c.in-Some-patterns.ensures.value in
     let source : tree.source ≡ s = c.in-Some-patterns.ensures.source in
-    let second : AddsAsked c.args.table.now (IsTo tree tos) c.args.depart c.loop-source.best c.search_to.new.best =
-    subst (λ l. AddsAsked c.args.table.now (IsTo tree l) c.args.depart c.loop-source.best c.search_to.new.best) c.stops_of.ensures c.search_to.ensures in
+    let second : AddsAsked c.args.network.now (IsTo tree tos) c.args.depart c.loop-source.best c.search_to.new.best =
+    subst (λ l. AddsAsked c.args.network.now (IsTo tree l) c.args.depart c.loop-source.best c.search_to.new.best) c.stops_of.ensures c.search_to.ensures in
     record {
       stored = stored_more held items i s tree c.loop-source-test.true c.source-item.is holds source c.loop-source.invariant.stored;
-      added = source_more c.args.table.now c.args.depart held items tos i s tree c.new-best.result c.loop-source.best c.search_to.new.best
+      added = source_more c.args.network.now c.args.depart held items tos i s tree c.new-best.result c.loop-source.best c.search_to.new.best
           c.loop-source-test.true c.source-item.is holds source c.loop-source.invariant.added second;
     }
 
 pub returns : goal.returns
 returns g c =
-    let table = c.args.table.now in
+    let table = c.args.network.now in
     let held : Held = g.T.Trees.held c.args.trees.now in
     let items = c.stops_of-source-items.result.now in
     let tos = stops_in c.in-Some-place.end in
@@ -88,7 +89,7 @@ returns g c =
       tos = tos;
       leaves = place_is c.args.names.now c.args.from.now c.in-Some.start c.in-Some.ensures ∙ ap (λ (l : List ℕ). Some l) (sym c.stops_of-source-items.ensures);
       arrives = place_is c.args.names.now c.args.to.now c.in-Some-place.end c.in-Some-place.ensures;
-      covered = c.covers.ensures.0 c.if-not-covers.false;
+      covered = subst (λ (t : Table). c.args.depart ≤ t.horizon) c.timetable.ensures.value (c.covers.ensures.0 c.if-not-covers.false);
       stored = stored;
       points_are = points_are table held items tos c.args.depart c.new-best.result c.loop-source.best c.answer.result c.new-best.ensures added c.answer.ensures;
       best = best;

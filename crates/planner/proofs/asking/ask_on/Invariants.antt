@@ -8,5 +8,5 @@ use Rattle.planner.proofs.asking.ask_on.Given as goal
 abbrev pub invariant-loop-source : goal.invariant-loop-source
 invariant-loop-source g l = record {
   stored : All (IsStored (g.T.Trees.held l.trees)) (take l.source-index l.source-items);
-  added : AddsAsked l.table (IsAsked (g.T.Trees.held l.trees) (take l.source-index l.source-items) (stops_in l.end)) l.depart l.initial.best l.best;
+  added : AddsAsked l.network (IsAsked (g.T.Trees.held l.trees) (take l.source-index l.source-items) (stops_in l.end)) l.depart l.initial.best l.best;
 }

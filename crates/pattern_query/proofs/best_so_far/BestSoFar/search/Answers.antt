@@ -7,13 +7,13 @@ use Rattle.pattern_query.proofs.best_so_far.BestSoFar.search.Goals as goal
 
 pub invariant_of-self : goal.invariant_of-self
 invariant_of-self g c =
-    counted_still c.args.table.now c.source.result c.args.to c.args.depart (EmptyOrIn (map path_of c.ending_at.result.now)) c.self.inside.points c.run.new.points
+    counted_still c.args.network.now c.source.result c.args.to c.args.depart (EmptyOrIn (map path_of c.ending_at.result.now)) c.self.inside.points c.run.new.points
     c.run.ensures c.run.auto.points c.self.invariant
 
 pub returns : goal.returns
 returns g c =
     let paths = map path_of c.ending_at.result.now in
-    let searched : Searched c.args.table.now c.args.patterns.now.source c.args.to c.args.depart (EmptyOrIn paths) c.self.inside.points c.run.new.points =
-    subst (λ s. Searched c.args.table.now s c.args.to c.args.depart (EmptyOrIn paths) c.self.inside.points c.run.new.points) c.source.ensures c.run.ensures in
-    rw (← c.self.view_is) (tree_added c.args.table.now c.args.patterns.now c.args.to c.args.depart paths c.ending_at.ensures c.self.inside.points c.run.new.points
+    let searched : Searched c.args.network.now c.args.patterns.now.source c.args.to c.args.depart (EmptyOrIn paths) c.self.inside.points c.run.new.points =
+    subst (λ s. Searched c.args.network.now s c.args.to c.args.depart (EmptyOrIn paths) c.self.inside.points c.run.new.points) c.source.ensures c.run.ensures in
+    rw (← c.self.view_is) (tree_added c.args.network.now c.args.patterns.now c.args.to c.args.depart paths c.ending_at.ensures c.self.inside.points c.run.new.points
     (c.run.auto.points ∙ c.self.invariant.nine) searched)

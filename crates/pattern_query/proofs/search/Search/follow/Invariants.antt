@@ -5,7 +5,7 @@ use Rattle.pattern_query.proofs.search.Search.follow.Given as goal
 
 abbrev pub invariant-loop-step : goal.invariant-loop-step
 invariant-loop-step l = record {
-  way : Earliest l.self.table.now l.self.source l.self.depart l.legs.items l.at l.since;
-  so_far : pattern l.self.table.now l.legs.items ≡ take l.step-index l.path;
+  way : Earliest l.self.network.now l.self.source l.self.depart l.legs.items l.at l.since;
+  so_far : pattern l.self.network.now l.legs.items ≡ take l.step-index l.path;
   early : l.since ≤ 4_000_000_000;
 }

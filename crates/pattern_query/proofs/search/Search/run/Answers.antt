@@ -8,11 +8,11 @@ use Rattle.pattern_query.proofs.FollowSteps.{searched_start, searched_more}
 use Rattle.pattern_query.proofs.search.Search.run.Goals as goal
 
 pub loop-pattern-init : goal.loop-pattern-init
-loop-pattern-init c = searched_start c.args.self.now.table.now c.args.self.now.source c.args.self.now.to c.args.self.now.depart c.args.points.now c.follow.new.points c.follow.ensures
+loop-pattern-init c = searched_start c.args.self.now.network.now c.args.self.now.source c.args.self.now.to c.args.self.now.depart c.args.points.now c.follow.new.points c.follow.ensures
 
 pub loop-pattern-preserved : goal.loop-pattern-preserved
 loop-pattern-preserved c =
-    let table = c.args.self.now.table.now in
+    let table = c.args.self.now.network.now in
     let s = c.args.self.now.source in
     let t = c.args.self.now.to in
     let d = c.args.self.now.depart in

@@ -6,4 +6,4 @@ use Rattle.pattern_query.proofs.search.Search.run.Given as goal
 
 abbrev pub invariant-loop-pattern : goal.invariant-loop-pattern
 invariant-loop-pattern l =
-    Searched l.self.table.now l.self.source l.self.to l.self.depart (EmptyOrIn (take l.pattern-index (map path_of l.patterns))) l.fn.points l.points
+    Searched l.self.network.now l.self.source l.self.to l.self.depart (EmptyOrIn (take l.pattern-index (map path_of l.patterns))) l.fn.points l.points

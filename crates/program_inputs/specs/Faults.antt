@@ -1,0 +1,49 @@
+-- The faults that the programs tell, and the status that each ends them with.
+use Rattle.std.specs.Prelude.{ℕ}
+use Rattle.gtfs_rows.specs.declared.fault.FaultKind.{FaultKind}
+use Rattle.gtfs_rows.specs.declared.fault.FaultKind.TheVariants as kinds
+use Rattle.gtfs_rows.specs.declared.fault.FeedFault.{FeedFault}
+use Rattle.service_days.specs.declared.fault.DayFault.{DayFault}
+use Rattle.service_days.specs.declared.fault.DayFault.TheVariants as days
+use Rattle.pattern_tree.specs.declared.fault.TreeFault.{TreeFault}
+use Rattle.pattern_tree.specs.declared.fault.TreeFault.TheVariants as trees
+use Rattle.program_inputs.specs.declared.fault.Fault.{Fault}
+use Rattle.program_inputs.specs.declared.fault.Fault.TheVariants as fault
+
+abbrev pub status_of : Fault → ℕ
+status_of fault.BadDate = 2
+status_of fault.BadTime = 2
+status_of (fault.Feed f) = 1
+status_of (fault.Days f) = 1
+status_of (fault.UnknownStop id) = 6
+status_of fault.NotCovered = 6
+status_of fault.TooLarge = 3
+status_of fault.Memory = 7
+
+-- the fault of a feed, but for want of memory; and that of the days
+abbrev pub of_kind : FaultKind → FeedFault → Fault
+of_kind kinds.Memory f = fault.Memory
+of_kind kinds.MissingFile f = fault.Feed f
+of_kind kinds.MissingColumn f = fault.Feed f
+of_kind kinds.BadField f = fault.Feed f
+of_kind kinds.DuplicateKey f = fault.Feed f
+of_kind kinds.UnknownReference f = fault.Feed f
+of_kind kinds.TimesDecrease f = fault.Feed f
+of_kind kinds.TooMany f = fault.Feed f
+of_kind kinds.BadCsv f = fault.Feed f
+of_kind kinds.ReadFailed f = fault.Feed f
+of_kind kinds.EndTimeMissing f = fault.Feed f
+
+abbrev pub of_feed : FeedFault → Fault
+of_feed f = of_kind f.kind f
+
+abbrev pub of_days : DayFault → Fault
+of_days days.Memory = fault.Memory
+of_days days.BadRange = fault.Days days.BadRange
+of_days days.BadZone = fault.Days days.BadZone
+of_days days.ZoneJump = fault.Days days.ZoneJump
+
+-- the fault of a stop's tree
+abbrev pub of_tree : TreeFault → Fault
+of_tree trees.TooLarge = fault.TooLarge
+of_tree trees.Memory = fault.Memory
