@@ -15,6 +15,9 @@ use timetable::Rides;
 // The name and the version of a store.
 const NAME: [u8; 8] = [84, 80, 83, 84, 79, 82, 69, 1];
 
+// How many bytes a file has that isn't fresh, at least.
+const SHORTEST: usize = 15;
+
 // Whether these are the name and the version.
 fn is_name(bytes: &[u8]) -> bool
     ensures { IsTrue result ↔ bytes.now ≡ store_name }
@@ -56,11 +59,11 @@ pub(crate) fn first_gate<D: Disk>(
     ensures inside { IfOk result (λ start. IfSome start (λ start. start ≤ end)) }
     ensures counted { OnlyCounted result (D.failures disk.old) (D.failures disk.new) }
 {
-    match read_bytes(disk, 0, 15, piece) {
+    match read_bytes(disk, 0, SHORTEST as u64, piece) {
         Err(fault) => return Err(fault),
         Ok(()) => {}
     }
-    if piece.len() < 15 {
+    if piece.len() < SHORTEST {
         return Ok(None);
     }
     if piece[0] != OPEN {

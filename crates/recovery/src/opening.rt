@@ -102,6 +102,7 @@ pub fn recover<D: Disk>(
         (λ e. (D.state e.1 ≡ D.state disk) ⊎ (D.state e.1 ≡ after_sync (D.state disk))) }
     ensures honest { MatchResult result (λ r. D.honest disk ↔ D.honest r.store.disk) (λ e. D.honest disk ↔ D.honest e.1) }
     ensures ready { IfOk result (λ r. (r.store.next ≡ Step.WriteBody) × (r.store.form ≡ form_of (arc_value table.now) rides)) }
+    ensures stored { IfOk result (λ r. r.store.stored.items ≡ sources r.trees.items) }
 {
     stands_for_one();
     trusted_trees();

@@ -150,6 +150,7 @@ pub fn begin<D: Disk>(
     ensures cause { MatchResult result (λ store. D.failures store.disk ≡ D.failures disk)
         (λ e. ((e.0 ≡ PutFault.Memory) × (e.1 ≡ disk)) ⊎ ((e.0 ≡ PutFault.Device) × Grew (D.failures disk) (D.failures e.1))) }
     ensures ready { IfOk result (λ store. (store.next ≡ Step.WriteBody) × (store.form ≡ form_of (arc_value table.now) rides)) }
+    ensures stored { IfOk result (λ store. store.stored.items ≡ []) }
 {
     let Ok(kept) = Arc::try_clone(table) else {
         return Err((PutFault::Memory, disk));

@@ -1,11 +1,14 @@
-//! Times puts of a feed's trees to a file, beside the calls of the disk that they make.
+//! Times puts of a feed's trees to a file, beside the calls of the disk that they make, and the opening of such a file, beside a
+//! plain read of it.
 #![tactic(auto)]
 
 mod clock;
 mod measuring;
+mod recovering;
 
 use crate::measuring::measure;
-use programs::{given_words, out_of_memory, texts, unread};
+use crate::recovering::measure_recovery;
+use program_inputs::{given_words, out_of_memory, texts, unread};
 use std::io::Write;
 use std::process::ExitCode;
 
@@ -18,11 +21,20 @@ fn status(rt: &HostRuntime) -> u8 {
     let Ok(texts) = texts(alloc, words.as_slice()) else {
         return out_of_memory("store_bench", &mut rt.stderr());
     };
-    let [_, folder, date, file, sources] = texts.as_slice() else {
-        let _ = writeln!(rt.stderr(), "usage: store_bench FEED YYYYMMDD FILE SOURCES");
-        return 2;
+    let measured = match texts.as_slice() {
+        [_, folder, date, file] => measure_recovery(rt, folder, date, file),
+        [_, folder, date, file, sources] => {
+            measure(rt, folder, date, file, sources.parse().unwrap_or(1))
+        }
+        _ => {
+            let _ = writeln!(
+                rt.stderr(),
+                "usage: store_bench FEED YYYYMMDD FILE [SOURCES]"
+            );
+            return 2;
+        }
     };
-    match measure(rt, folder, date, file, sources.parse().unwrap_or(1)) {
+    match measured {
         Ok(()) => 0,
         Err(fault) => {
             let _ = writeln!(rt.stderr(), "store_bench: {fault}");

@@ -10,7 +10,7 @@ use gtfs_tables::{Tables, read_tables};
 use gtfs_text::date;
 use pattern_building::finish;
 use pattern_tree::{Arena, Finished};
-use programs::{Fault, NO_KEYS, open_feed};
+use program_inputs::{Fault, NO_KEYS, open_feed};
 use rounds::Scratch;
 use section_store::{SectionStore, begin};
 use service_days::Cover;
@@ -44,7 +44,8 @@ fn read(rt: &HostRuntime, folder: &str) -> Result<Tables, Fault<'static>> {
     Ok(read_tables(alloc, keys, files)?)
 }
 
-fn timetable_of(rt: &HostRuntime, folder: &str, first: &str) -> Result<Timetable, BenchFault> {
+/// The timetable of a feed on one day.
+pub fn timetable_of(rt: &HostRuntime, folder: &str, first: &str) -> Result<Timetable, BenchFault> {
     let Some(first) = date(first) else {
         return Err(BenchFault::Feed);
     };

@@ -1,6 +1,5 @@
-//! Files of the sample feed's trees, a reading of their layout of its own, single crashes, and all crashes.
+//! What files have, single crashes, and all crashes, by a reading of the layout of its own.
 
 mod crashes;
-mod files;
 mod layout;
 mod putting;

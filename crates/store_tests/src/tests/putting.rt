@@ -1,8 +1,8 @@
 //! What a file has after each put, and what a crash in one of them leaves.
 
-use super::files::{Town, bytes_of, new_store, town_of, tree_of};
-use super::layout::{file_of, list_in};
+use super::layout::list_in;
 use disk_model::MemDisk;
+use sample_store::{A, B, Sample, TEXTS, bytes_of, file_of, new_store, tree_of};
 use section_store::{PutFault, SectionStore, Step};
 use std::alloc::Global;
 use std::process::Abort;
@@ -19,9 +19,9 @@ fn file_in(alloc: Global, store: SectionStore<MemDisk>) -> Result<Vec<u8>, Fail>
 }
 
 // A store to which the first so many trees were put.
-fn store_of(alloc: Global, town: &Town, count: usize) -> Result<SectionStore<MemDisk>, Fail> {
-    let mut store = new_store(alloc, town)?;
-    for (number, tree) in town.trees.iter().take(count).enumerate() {
+fn store_of(alloc: Global, sample: &Sample, count: usize) -> Result<SectionStore<MemDisk>, Fail> {
+    let mut store = new_store(alloc, sample)?;
+    for (number, tree) in sample.trees.iter().take(count).enumerate() {
         let receipt = store.put(tree)?;
         if receipt.number != number || receipt.source.number() != number {
             return Err(Fail::new("another receipt"));
@@ -33,14 +33,15 @@ fn store_of(alloc: Global, town: &Town, count: usize) -> Result<SectionStore<Mem
 #[test]
 fn files_by_the_layout(rt: HostRuntime) -> Result<(), Fail> {
     let alloc = rt.alloc();
-    let town = town_of(&rt)?;
+    let sample = Sample::new(&rt)?;
     for (count, wanted) in LENGTHS.iter().enumerate() {
-        let store = store_of(alloc, &town, count)?;
+        let store = store_of(alloc, &sample, count)?;
         assert_eq!(rt; store.stored().len(), count);
         let file = file_in(alloc, store)?;
         assert_eq!(rt; file.len(), *wanted);
-        assert!(rt; file.as_slice() == file_of(alloc, &town.header, count)?.as_slice());
-        assert_eq!(rt; list_in(&file, &town.header), Some(count));
+        let texts = TEXTS.get(..count).ok_or("no such texts")?;
+        assert!(rt; file.as_slice() == file_of(alloc, &sample.header, texts)?.as_slice());
+        assert_eq!(rt; list_in(&file, &sample.header), Some(count));
     }
     Ok(())
 }
@@ -59,9 +60,9 @@ fn crashed(
 }
 
 // A store with the tree of A, whose put of B failed at its n-th call.
-fn stopped_at_b(alloc: Global, town: &Town, n: u64) -> Result<SectionStore<MemDisk>, Fail> {
-    let mut store = store_of(alloc, town, 1)?;
-    let Some(tree) = town.trees.get(1) else {
+fn stopped_at_b(alloc: Global, sample: &Sample, n: u64) -> Result<SectionStore<MemDisk>, Fail> {
+    let mut store = store_of(alloc, sample, 1)?;
+    let Some(tree) = sample.trees.get(1) else {
         return Err(Fail::new("no such tree"));
     };
     store.fail_at(n);
@@ -75,12 +76,12 @@ fn stopped_at_b(alloc: Global, town: &Town, n: u64) -> Result<SectionStore<MemDi
 #[test]
 fn stopped_within_a_section(rt: HostRuntime) -> Result<(), Fail> {
     let alloc = rt.alloc();
-    let town = town_of(&rt)?;
+    let sample = Sample::new(&rt)?;
     for len in 216..254 {
-        let store = stopped_at_b(alloc, &town, 1)?;
+        let store = stopped_at_b(alloc, &sample, 1)?;
         let file = crashed(alloc, store, len, &[0xA5; 38])?;
         assert_eq!(rt; file.len() as u64, len);
-        assert_eq!(rt; list_in(&file, &town.header), Some(1));
+        assert_eq!(rt; list_in(&file, &sample.header), Some(1));
     }
     Ok(())
 }
@@ -88,11 +89,11 @@ fn stopped_within_a_section(rt: HostRuntime) -> Result<(), Fail> {
 #[test]
 fn stopped_within_a_gate(rt: HostRuntime) -> Result<(), Fail> {
     let alloc = rt.alloc();
-    let town = town_of(&rt)?;
+    let sample = Sample::new(&rt)?;
     for (left, wanted) in [(0xA5, 2), (0x5A, 1)] {
-        let store = stopped_at_b(alloc, &town, 3)?;
+        let store = stopped_at_b(alloc, &sample, 3)?;
         let file = crashed(alloc, store, 253, &[left])?;
-        assert_eq!(rt; list_in(&file, &town.header), Some(wanted));
+        assert_eq!(rt; list_in(&file, &sample.header), Some(wanted));
     }
     Ok(())
 }
@@ -100,26 +101,26 @@ fn stopped_within_a_gate(rt: HostRuntime) -> Result<(), Fail> {
 #[test]
 fn refused_puts(rt: HostRuntime) -> Result<(), Fail> {
     let alloc = rt.alloc();
-    let town = town_of(&rt)?;
-    let mut store = store_of(alloc, &town, 2)?;
-    for tree in town.trees.iter().take(2) {
+    let sample = Sample::new(&rt)?;
+    let mut store = store_of(alloc, &sample, 2)?;
+    for tree in sample.trees.iter().take(2) {
         assert_eq!(rt; store.put(tree).err(), Some(PutFault::AlreadyStored));
     }
-    let other = tree_of(alloc, &town.table, 2, Rides::new(2))?;
+    let other = tree_of(alloc, &sample.table, 2, Rides::new(2))?;
     assert_eq!(rt; store.put(&other).err(), Some(PutFault::OtherTimetable));
     assert_eq!(rt; store.stored().len(), 2);
     let file = file_in(alloc, store)?;
-    assert!(rt; file.as_slice() == file_of(alloc, &town.header, 2)?.as_slice());
+    assert!(rt; file.as_slice() == file_of(alloc, &sample.header, &[A, B])?.as_slice());
     Ok(())
 }
 
 #[test]
 fn failed_puts(rt: HostRuntime) -> Result<(), Fail> {
     let alloc = rt.alloc();
-    let town = town_of(&rt)?;
-    let mut store = stopped_at_b(alloc, &town, 3)?;
+    let sample = Sample::new(&rt)?;
+    let mut store = stopped_at_b(alloc, &sample, 3)?;
     assert_eq!(rt; store.next_step(), Step::Failed);
-    for tree in &town.trees {
+    for tree in &sample.trees {
         assert_eq!(rt; store.put(tree).err(), Some(PutFault::Failed));
     }
     assert_eq!(rt; store.stored().len(), 1);

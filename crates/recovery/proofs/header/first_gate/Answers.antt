@@ -29,7 +29,7 @@ returns-in-Some-clause-refused g c = λ honest.
     let size : c.len.result ≡ length head = search rules in
     let at_open : get_or head 0 0 ≡ open_gate = search rules in
     let rides : c.k.result ≡ form.rides = search rules in
-    front_refused form read head is (omega (arith, size, c.if-len-lt15.false)) at_open c.in-Some.fault
+    front_refused form read head is (omega (arith, size, c.if-len-lt-SHORTEST.false)) at_open c.in-Some.fault
     (subst (λ (l : List ℕ). IsOtherFront form.rides l c.in-Some.fault) c.deref.ensures.value
     (subst (λ (n : ℕ). IsOtherFront n c.deref.result.now c.in-Some.fault) rides c.in-Some.ensures))
 
@@ -42,7 +42,7 @@ returns-then-end-count-clause-refused g c = λ honest.
     let size : c.len.result ≡ length head = search rules in
     let at_open : get_or head 0 0 ≡ open_gate = search rules in
     let rides : c.k.result ≡ form.rides = search rules in
-    let front = front_of form read head c.deref.result.now c.k.result is (omega (arith, size, c.if-len-lt15.false)) at_open c.deref.ensures.value rides c.in-None.ensures in
+    let front = front_of form read head c.deref.result.now c.k.result is (omega (arith, size, c.if-len-lt-SHORTEST.false)) at_open c.deref.ensures.value rides c.in-None.ensures in
     let table : c.deref-2.result.now ≡ form.table = search rules in
     let rides-2 : c.k-2.result ≡ form.rides = search rules in
     let tail = tail_of form c.deref-2.result.now c.k-2.result c.in-Ok-header_bytes.header.items table rides-2 c.in-Ok-header_bytes.ensures in
@@ -58,7 +58,7 @@ returns-then-there-clause-start g c = λ honest.
     let size : c.len.result ≡ length head = search rules in
     let at_open : get_or head 0 0 ≡ open_gate = search rules in
     let rides : c.k.result ≡ form.rides = search rules in
-    let front = front_of form read head c.deref.result.now c.k.result is (omega (arith, size, c.if-len-lt15.false)) at_open c.deref.ensures.value rides c.in-None.ensures in
+    let front = front_of form read head c.deref.result.now c.k.result is (omega (arith, size, c.if-len-lt-SHORTEST.false)) at_open c.deref.ensures.value rides c.in-None.ensures in
     let table : c.deref-2.result.now ≡ form.table = search rules in
     let rides-2 : c.k-2.result ≡ form.rides = search rules in
     let tail = tail_of form c.deref-2.result.now c.k-2.result c.in-Ok-header_bytes.header.items table rides-2 c.in-Ok-header_bytes.ensures in
@@ -80,7 +80,7 @@ returns-clause-refused g c = λ honest.
     let size : c.len.result ≡ length head = search rules in
     let at_open : get_or head 0 0 ≡ open_gate = search rules in
     let rides : c.k.result ≡ form.rides = search rules in
-    let front = front_of form read head c.deref.result.now c.k.result is (omega (arith, size, c.if-len-lt15.false)) at_open c.deref.ensures.value rides c.in-None.ensures in
+    let front = front_of form read head c.deref.result.now c.k.result is (omega (arith, size, c.if-len-lt-SHORTEST.false)) at_open c.deref.ensures.value rides c.in-None.ensures in
     let table : c.deref-2.result.now ≡ form.table = search rules in
     let rides-2 : c.k-2.result ≡ form.rides = search rules in
     let tail = tail_of form c.deref-2.result.now c.k-2.result c.in-Ok-header_bytes.header.items table rides-2 c.in-Ok-header_bytes.ensures in

@@ -6,8 +6,8 @@ ghost use Rattle.timetable.specs.Table.{stops_of};
 ghost use Rattle.disk_model.specs.MemDisk.{state_of};
 ghost use Rattle.section_store.specs.Store.{IsFreshRest};
 
-use super::layout::header_of;
-use disk_model::{Disk, MemDisk, read_up_to};
+use crate::layout::header_of;
+use disk_model::{MemDisk, read_up_to};
 use pattern_building::finish;
 use pattern_tree::{Arena, Finished};
 use rounds::Scratch;
@@ -18,9 +18,9 @@ use std::sync::Arc;
 use std::test::Fail;
 use timetable::{Rides, StopId, Timetable};
 
-/// The trees of the sample feed's five stops, and the header of their file.
+/// The sample feed's timetable, the trees of its five stops for journeys of at most three rides, and the header of their file.
 #[derive(Drop)]
-pub struct Town {
+pub struct Sample {
     pub table: Arc<Timetable>,
     pub trees: Vec<Finished>,
     pub header: Vec<u8>,
@@ -48,22 +48,24 @@ pub fn tree_of(
     )?)
 }
 
-/// The sample feed's town, for journeys of at most three rides.
-pub fn town_of(rt: &HostRuntime) -> Result<Town, Fail>
-    ensures { IfOk result (λ town. stops_of (arc_value town.table) ≡ 5) }
-{
-    let alloc = rt.alloc();
-    let table = Arc::new(alloc, demo(rt)?)?;
-    let mut trees = Vec::new(alloc);
-    for source in 0..5 {
-        trees.push(tree_of(alloc, &table, source, Rides::new(3))?)?;
+impl Sample {
+    /// For journeys of at most three rides.
+    pub fn new(rt: &HostRuntime) -> Result<Self, Fail>
+        ensures { IfOk result (λ sample. stops_of (arc_value sample.table) ≡ 5) }
+    {
+        let alloc = rt.alloc();
+        let table = Arc::new(alloc, demo(rt)?)?;
+        let mut trees = Vec::new(alloc);
+        for source in 0..5 {
+            trees.push(tree_of(alloc, &table, source, Rides::new(3))?)?;
+        }
+        let header = header_of(alloc, &table, 3)?;
+        Ok(Sample {
+            table,
+            trees,
+            header,
+        })
     }
-    let header = header_of(alloc, &table, 3)?;
-    Ok(Town {
-        table,
-        trees,
-        header,
-    })
 }
 
 /// An empty file.
@@ -73,20 +75,9 @@ pub fn new_file(alloc: Global) -> MemDisk
     MemDisk::new(alloc)
 }
 
-/// A file of 300 bytes whose first is a closed gate.
-pub fn old_file(alloc: Global) -> Result<MemDisk, Fail>
-    ensures { IfOk result (λ disk. IsFreshRest (state_of disk)) }
-{
-    let mut disk = MemDisk::new(alloc);
-    disk.write_at(0, &[0])?;
-    disk.write_at(1, &[7; 299])?;
-    disk.sync()?;
-    Ok(disk)
-}
-
 /// A store that was begun in an empty file.
-pub fn new_store(alloc: Global, town: &Town) -> Result<SectionStore<MemDisk>, Fail> {
-    match begin(alloc, new_file(alloc), &town.table, Rides::new(3)) {
+pub fn new_store(alloc: Global, sample: &Sample) -> Result<SectionStore<MemDisk>, Fail> {
+    match begin(alloc, new_file(alloc), &sample.table, Rides::new(3)) {
         Ok(store) => Ok(store),
         Err(_) => Err(Fail::new("the store wasn't begun")),
     }

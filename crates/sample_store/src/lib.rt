@@ -1,0 +1,8 @@
+//! For tests only: the trees of the sample feed, and files of them, by the layout alone and as a store writes them.
+#![tactic(auto)]
+
+mod layout;
+mod sample;
+
+pub use layout::{A, B, C, D, E, TEXTS, file_of, header_of, put_section};
+pub use sample::{Sample, bytes_of, new_file, new_store, tree_of};
