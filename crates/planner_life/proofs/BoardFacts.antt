@@ -1,0 +1,139 @@
+-- What stands on a board once one tree more is shown.
+use Rattle.std.proofs.Common.{◌≡◌, ◌≢◌, ◌≤◌, ◌||◌, Bool, true, false, is_some, nat_eq, Bor, ℕ, zero, suc, Option, Some, None, List, [], ◌∷◌, ◌++◌, length, slice_set, arith, refl, sym, ◌∙◌, ap, subst, inl, inr, ◌⊎◌, All}
+use Rattle.std.specs.List.{Contains}
+use Rattle.std.specs.Option.{option_copied}
+use Rattle.std.specs.List.Sorted.{IsPermutation}
+use Rattle.std.proofs.lemmas.Bool.{cases_eq, false≢true}
+use Rattle.std.proofs.lemmas.Bool.Decides.{nat_tests}
+use Rattle.std.proofs.lemmas.List.{get_or-set_same, get_or-set_other}
+use Rattle.std.proofs.lemmas.List.Elements.{All-cons, All-nil, Contains-append_right}
+use Rattle.pattern_tree.specs.Completeness.{IsTreeOf}
+use Rattle.pattern_tree.specs.Content.{Content, longest}
+use Rattle.pattern_tree.proofs.OrderFacts.{tree_still}
+use Rattle.section_store.specs.Lasting.{IsExact}
+use Rattle.section_store.specs.Sections.{Form, IsNew, Stands, AreTexts}
+use Rattle.section_store.specs.Sources.{is_among}
+use Rattle.planner_life.specs.Board.{shown, IsPlaceOf, IsBoardOf, IsRight, AreRight}
+
+-- whether a stop is among some
+pub among_new : (s : ℕ) (list : List ℕ) → is_among s list ≡ false → IsNew s list
+among_new s [] none = tt
+among_new s (m ∷ list) none = elim (cases_eq m s) [
+  | inl same ↦ let met : is_among s (m ∷ list) ≡ true = grind (arith, nat_tests) in absurd (false≢true (sym none ∙ met))
+  | inr other ↦ (λ is. other (sym is), among_new s list (let rest : is_among s list ≡ false = grind (arith, nat_tests) in rest))
+]
+
+pub among_has : (s : ℕ) (list : List ℕ) → is_among s list ≡ true → Contains list s
+among_has s [] some = absurd (false≢true some)
+among_has s (m ∷ list) some = elim (cases_eq m s) [
+  | inl same ↦ (0, omega arith, same)
+  | inr other ↦
+      let later = among_has s list (let rest : is_among s list ≡ true = grind (arith, nat_tests) in rest) in
+      Contains-append_right (m ∷ []) list s later
+]
+
+among_last : (s : ℕ) (list : List ℕ) → is_among s (list ++ s ∷ []) ≡ true
+among_last s [] = grind (arith, nat_tests)
+among_last s (m ∷ list) = let later = among_last s list in grind (arith, nat_tests)
+
+among_other : (s m : ℕ) (list : List ℕ) → s ≢ m → is_among s (list ++ m ∷ []) ≡ is_among s list
+among_other s m [] other = grind (arith, nat_tests)
+among_other s m (n ∷ list) other = ap (λ (b : Bool). nat_eq n s || b) (among_other s m list other)
+
+some_is : (a b : Content) → Some a ≡ Some b → a ≡ b
+some_is a b is = cc
+
+none_some : (a : Content) → None ≡ Some a → ⊥
+none_some a is = cc
+
+-- a tree in its place
+pub board_more : (stops : ℕ) (list : List ℕ) (board : List (Option Content)) (tree : Content) → length board ≡ stops → IsBoardOf stops list board
+    → IsBoardOf stops (list ++ tree.source ∷ []) (slice_set board tree.source (Some tree))
+board_more stops list board tree long is = λ s below. elim (cases_eq s tree.source) [
+  | inl same ↦
+      let at : shown (slice_set board tree.source (Some tree)) tree.source ≡ Some tree = get_or-set_same board tree.source (Some tree) None (omega (arith, below, same, long)) in
+      let there : IsPlaceOf (list ++ tree.source ∷ []) tree.source (Some tree) = record {
+        there = sym (among_last tree.source list);
+        own = λ other is. ap (λ (t : Content). t.source) (sym (some_is tree other is));
+      } in
+      let here : IsPlaceOf (list ++ tree.source ∷ []) tree.source (shown (slice_set board tree.source (Some tree)) tree.source) =
+      subst (IsPlaceOf (list ++ tree.source ∷ []) tree.source) (sym at) there in
+      subst (λ (n : ℕ). IsPlaceOf (list ++ tree.source ∷ []) n (shown (slice_set board tree.source (Some tree)) n)) (sym same) here
+  | inr other ↦
+      let kept : IsPlaceOf (list ++ tree.source ∷ []) s (shown board s) = record {
+        there = (is s below).there ∙ sym (among_other s tree.source list other);
+        own = (is s below).own;
+      } in
+      subst (IsPlaceOf (list ++ tree.source ∷ []) s) (sym (get_or-set_other board tree.source s (Some tree) None other)) kept
+]
+
+pub board_none : (stops : ℕ) (board : List (Option Content)) → ((s : ℕ) → shown board s ≡ None) → IsBoardOf stops [] board
+board_none stops board bare = λ s below. record {
+  there = ap (λ (place : Option Content). is_some place) (bare s);
+  own = λ tree at. absurd (none_some tree (sym (bare s) ∙ at));
+}
+
+-- what a place tells
+pub place_none : (list : List ℕ) (s : ℕ) (place : Option Content) → IsPlaceOf list s place → None ≡ place → IsNew s list
+place_none list s place is at = among_new s list (sym is.there ∙ ap (λ (p : Option Content). is_some p) (sym at))
+
+pub place_some : (list : List ℕ) (s : ℕ) (place : Option Content) (tree : Content) → IsPlaceOf list s place → Some tree ≡ place → Contains list s × (tree.source ≡ s)
+place_some list s place tree is at = (among_has s list (sym is.there ∙ ap (λ (p : Option Content). is_some p) (sym at)), is.own tree (sym at))
+
+copied_some : (found : Option (Bor Content)) → is_some (option_copied found) ≡ is_some found
+copied_some None = refl
+copied_some (Some tree) = refl
+
+-- what a look at a place tells
+pub look_none : (list : List ℕ) (s : ℕ) (place : Option Content) (found : Option (Bor Content)) → IsPlaceOf list s place → option_copied found ≡ place → is_some found ≡ false → IsNew s list
+look_none list s place found is at none =
+    among_new s list (sym is.there ∙ ap (λ (p : Option Content). is_some p) (sym at) ∙ copied_some found ∙ none)
+
+pub look_some : (list : List ℕ) (s : ℕ) (place : Option Content) (found : Option (Bor Content)) → IsPlaceOf list s place → option_copied found ≡ place → is_some found ≡ true → Contains list s
+look_some list s place found is at some =
+    among_has s list (sym is.there ∙ ap (λ (p : Option Content). is_some p) (sym at) ∙ copied_some found ∙ some)
+
+set_at : (board : List (Option Content)) (i : ℕ) (place : Option Content) → (shown (slice_set board i place) i ≡ place) ⊎ (shown (slice_set board i place) i ≡ shown board i)
+set_at [] i place = inr refl
+set_at (x ∷ board) zero place = inl refl
+set_at (x ∷ board) (suc i) place = set_at board i place
+
+pub right_more : (form : Form) (board : List (Option Content)) (i : ℕ) (tree : Content) → AreRight form board → IsRight form tree → AreRight form (slice_set board i (Some tree))
+right_more form board i tree are is = λ s other at. elim (cases_eq s i) [
+  | inl same ↦
+      let here : shown (slice_set board i (Some tree)) i ≡ Some other = subst (λ (n : ℕ). shown (slice_set board i (Some tree)) n ≡ Some other) same at in
+      elim (set_at board i (Some tree)) [
+        | inl set ↦ subst (IsRight form) (some_is tree other (sym set ∙ here)) is
+        | inr kept ↦ are i other (sym kept ∙ here)
+      ]
+  | inr apart ↦ are s other (sym (get_or-set_other board i s (Some tree) None apart) ∙ at)
+]
+
+pub right_none : (form : Form) (board : List (Option Content)) → ((s : ℕ) → shown board s ≡ None) → AreRight form board
+right_none form board bare = λ s tree at. absurd (none_some tree (sym (bare s) ∙ at))
+
+-- the patterns of a tree, in another order
+pub right_still : (form : Form) (tree patterns : Content) → patterns.source ≡ tree.source → IsPermutation tree.pairs patterns.pairs → IsRight form tree → IsRight form patterns
+right_still form tree patterns source same is =
+    subst (λ (n : ℕ). IsTreeOf form.table form.rides n patterns) (sym source) (tree_still form.table form.rides tree.source tree patterns source same is)
+
+-- trees that a file has are no deeper than their form says
+texts_short : (form : Form) (texts : List (List ℕ)) (trees : List Content) → AreTexts form texts trees → All (λ (tree : Content). longest tree.pairs ≤ form.rides) trees
+texts_short form [] [] are = All-nil (λ (tree : Content). longest tree.pairs ≤ form.rides)
+texts_short form [] (tree ∷ trees) are = absurd are
+texts_short form (text ∷ texts) [] are = absurd are
+texts_short form (text ∷ texts) (tree ∷ trees) are =
+    All-cons (λ (t : Content). longest t.pairs ≤ form.rides) tree trees are.0.shallow (texts_short form texts trees are.1)
+
+stands_short : (form : Form) (bytes : List ℕ) (trees : List Content) → Stands form bytes trees → All (λ (tree : Content). longest tree.pairs ≤ form.rides) trees
+stands_short form bytes trees (inl fresh) =
+    subst (All (λ (tree : Content). longest tree.pairs ≤ form.rides)) (sym fresh.1) (All-nil (λ (tree : Content). longest tree.pairs ≤ form.rides))
+stands_short form bytes trees (inr are) = texts_short form are.texts trees are.of
+
+pub right_all : (form : Form) (bytes : List ℕ) (trees : List Content) → Stands form bytes trees → All (IsExact form) trees → All (IsRight form) trees
+right_all form bytes trees stands exact = λ k d below. record {
+  source = refl;
+  complete = (exact k d below).complete;
+  earned = (exact k d below).earned;
+  short = stands_short form bytes trees stands k d below;
+}

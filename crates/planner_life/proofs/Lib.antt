@@ -1,0 +1,3 @@
+mod BoardFacts
+mod Replying
+mod Going

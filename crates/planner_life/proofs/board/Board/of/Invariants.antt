@@ -1,0 +1,14 @@
+use Rattle.std.proofs.Common.{◌≡◌, ◌++◌, length, All}
+use Rattle.std.specs.Vec.Iter.{into_iter_items, into_iter_len}
+use Rattle.section_store.specs.Sections.{Form, sources}
+use Rattle.planner_life.specs.Board.{IsBoardOf, AreRight, IsRight}
+use Rattle.planner_life.proofs.board.Board.of.Given as goal
+
+abbrev pub invariant-loop-tree : goal.invariant-loop-tree
+invariant-loop-tree l = record {
+  rest : l.yielded ++ into_iter_items l.tree-iterator ≡ into_iter_items l.initial.tree-iterator;
+  count : into_iter_len l.tree-iterator ≡ length (into_iter_items l.tree-iterator);
+  long : length l.board ≡ l.stops;
+  shows : IsBoardOf l.stops (sources l.yielded) l.board;
+  right : (form : Form) → All (IsRight form) l.yielded → AreRight form l.board;
+}

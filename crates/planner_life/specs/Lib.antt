@@ -1,0 +1,4 @@
+pub mod Replies
+pub mod Moments
+pub mod Board
+pub mod Desk

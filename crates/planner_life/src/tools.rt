@@ -1,0 +1,106 @@
+//! What trees are built with, and questions are answered with.
+
+ghost use Rattle.std.specs.Prelude.{◌≡◌, ◌↔◌, ◌<◌, ◌≤◌, Err, IsTrue, IfOk, map};
+ghost use Rattle.std.specs.Arc.{arc_value};
+ghost use Rattle.std.specs.List.{All};
+ghost use Rattle.timetable.specs.Table.{stops_of};
+ghost use Rattle.pattern_tree.specs.Completeness.{TooManyAreEarned};
+ghost use Rattle.pattern_query.specs.Answer.{numbers, IsPoint, IsExact};
+ghost use Rattle.section_store.specs.Sections.{form_of};
+
+use direct_connections::Network;
+use pattern_building::finish;
+use pattern_query::{Answer, Patterns, ask};
+use pattern_tree::{Arena, Finished, TreeFault};
+use rounds::Scratch;
+use std::alloc::{AllocError, Global};
+use std::marker::Model;
+use std::sync::Arc;
+use timetable::{Rides, StopId, Timetable};
+
+/// A timetable and the most rides of a journey, with all that was made of them to build trees and to answer questions.
+#[derive(Drop)]
+pub struct Tools {
+    network: Network,
+    rides: Rides,
+    scratch: Scratch,
+    arena: Arena,
+}
+
+impl Model for Tools {
+    ghost use Rattle.std.specs.Prelude.{◌≡◌};
+    ghost use Rattle.rounds.specs.Scratch.{IsMadeFor, rides_of};
+    ghost use Rattle.section_store.specs.Sections.{Form, form_of};
+
+    ghost Value = { Form };
+
+    ghost view = { λ t. form_of t.network t.rides };
+
+    ghost invariant = { λ t. IsMadeFor t.scratch t.network × (rides_of t.scratch ≡ t.rides) };
+}
+
+impl Tools {
+    /// The tools for a timetable and journeys of at most so many rides. It fails only where memory runs out.
+    pub fn new(alloc: Global, table: &Arc<Timetable>, rides: Rides) -> Result<Tools, AllocError>
+        ensures { IfOk result (λ tools. tools ≡ form_of (arc_value table.now) rides) }
+    {
+        let network = Network::of(alloc, Arc::try_clone(table)?)?;
+        let scratch = Scratch::new(alloc, network.timetable(), rides)?;
+        let arena = Arena::new(alloc)?;
+        Ok(Tools {
+            network,
+            rides,
+            scratch,
+            arena,
+        })
+    }
+
+    /// How many stops the timetable has.
+    pub fn stops(&self) -> usize
+        ensures { result ≡ stops_of self.now.table }
+    {
+        self.network.timetable().stops()
+    }
+
+    /// Whether it is a stop of the timetable.
+    pub fn has(&self, stop: StopId) -> bool
+        ensures { IsTrue result ↔ (stop < stops_of self.now.table) }
+    {
+        stop.number() < self.network.timetable().stops()
+    }
+
+    /// Whether the moment is covered.
+    pub fn covers(&self, moment: u32) -> bool
+        ensures { IsTrue result ↔ (moment ≤ self.now.table.horizon) }
+    {
+        self.network.timetable().covers(moment)
+    }
+
+    /// The tree of a source.
+    pub fn build(&mut self, alloc: Global, source: StopId) -> Result<Finished, TreeFault>
+        requires { source < stops_of self.old.table }
+        ensures same { self.new ≡ self.old }
+        ensures source { IfOk result (λ finished. finished.tree.source ≡ source) }
+        ensures form { IfOk result (λ finished. form_of finished.table finished.rides ≡ self.old) }
+        ensures large { result ≡ Err TreeFault.TooLarge → TooManyAreEarned self.old.table self.old.rides source }
+    {
+        finish(
+            alloc,
+            self.network.shared(),
+            source,
+            self.rides,
+            &mut self.scratch,
+            &mut self.arena,
+        )
+    }
+
+    /// The best journeys of a tree's patterns to a stop at a covered moment. It takes no memory.
+    pub fn ask(&self, patterns: &Patterns, to: StopId, depart: u32) -> Answer
+        requires { depart ≤ self.now.table.horizon }
+        ensures points { All (IsPoint self.now.table patterns.now to depart) result }
+        ensures exact { IsExact self.now.table patterns.now to depart (map numbers result) }
+    {
+        let _timetable = self.network.timetable();
+        ask(&self.network, patterns, to, depart)
+    }
+}
