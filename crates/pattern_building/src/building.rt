@@ -12,7 +12,7 @@ ghost use Rattle.pattern_building.specs.RoundPairs.{Gives, InRound, IsGiven, Add
 ghost use Rattle.pattern_building.specs.Lowered.{Lowered, AreLater};
 
 use pattern_tree::{PatternTree, TreeFault};
-use rounds::{RoundView, Scratch, departures};
+use rounds::{RoundView, Scratch};
 use std::alloc::{Allocator, Global};
 use timetable::{StopId, Timetable};
 
@@ -101,7 +101,7 @@ pub fn build<A: Allocator + Clone>(
     ensures short { IfOk result (λ tree. longest tree.pairs ≤ rides_of scratch.old) }
     ensures large { result ≡ Err TreeFault.TooLarge → TooManyAreEarned table.now (rides_of scratch.old) source }
 {
-    let moments = departures(global, table, source)?;
+    let moments = scratch.departures(global, table, source)?;
     let mut tree = PatternTree::new_in(alloc, source);
     // From the last to the first: the rides of a later event can be taken by one who is there earlier.
     scratch.restart(source);
