@@ -15,6 +15,3 @@ pub use disk::Disk;
 pub use fault::{DiskFault, FileFault, ReadFault};
 pub use file::FileDisk;
 pub use memory::MemDisk;
-
-#[cfg(test)]
-mod tests;

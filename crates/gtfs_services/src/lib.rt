@@ -9,6 +9,3 @@ mod trips;
 pub use calendar::read_calendar;
 pub use calendar_dates::read_calendar_dates;
 pub use trips::{TripRows, read_trips};
-
-#[cfg(test)]
-mod tests;

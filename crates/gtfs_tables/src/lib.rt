@@ -11,6 +11,3 @@ pub use gtfs_rows::{
 };
 pub use reading::{Files, read_tables};
 pub use tables::Tables;
-
-#[cfg(test)]
-mod tests;

@@ -16,6 +16,3 @@ mod values;
 pub use fault::SheetFault;
 pub use sheet::Sheet;
 pub use values::{date, time, whole};
-
-#[cfg(test)]
-mod tests;

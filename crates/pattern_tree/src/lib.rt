@@ -22,6 +22,3 @@ pub use finished::Finished;
 pub use node::Node;
 pub use tree::{MOST_ENDS, MOST_NODES, PatternTree};
 pub use walking::Visitor;
-
-#[cfg(test)]
-mod tests;

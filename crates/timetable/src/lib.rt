@@ -24,6 +24,3 @@ pub use names::{Names, Place};
 pub use parts::{Call, Leg, MOST_STOPS, Numbers, StopId, Walk};
 pub use rides::Rides;
 pub use table::{Instance, Timetable};
-
-#[cfg(test)]
-mod tests;

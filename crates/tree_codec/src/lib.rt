@@ -11,6 +11,3 @@ mod width;
 pub use decoding::decode;
 pub use encoding::encode;
 pub use fault::CodecFault;
-
-#[cfg(test)]
-mod tests;

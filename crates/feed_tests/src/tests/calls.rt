@@ -1,4 +1,4 @@
-use crate::*;
+use gtfs_calls::{fill_times, read_stop_times};
 use gtfs_rows::{FaultKind, FeedFault, FeedFile, StopTime, Texts};
 use indexmap::IndexSet;
 use std::alloc::{AllocError, Global};

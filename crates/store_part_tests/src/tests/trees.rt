@@ -1,6 +1,6 @@
-use super::*;
 use arrayvec::ArrayVec;
 use linked_list_allocator::LocalHeap;
+use pattern_tree::{Arena, PatternTree, TreeFault, Visitor};
 use std::alloc::{Allocator, Global};
 use std::mem;
 use std::test::Fail;

@@ -1,6 +1,6 @@
 //! Timetables of the sample feed and of feeds like it, value by value.
 
-use super::{Feed, STOPS, Span, TRANSFERS, demo, of_calls, table_of, town};
+use sample_feed::{Feed, STOPS, Span, TRANSFERS, demo, of_calls, table_of, town};
 use std::alloc::{AllocError, Global};
 use std::fmt::Write;
 use std::test::Fail;

@@ -1,7 +1,6 @@
-use crate::runs::runs_on;
-use crate::{Cover, DayFault};
-use gtfs_tables::{CalendarDate, DateChange, FeedFault, Files, Id, Tables, read_tables};
+use gtfs_tables::{FeedFault, Files, Tables, read_tables};
 use jiff::civil::Date;
+use service_days::{Cover, DayFault};
 use std::alloc::Global;
 use std::hash::RandomState;
 use std::test::Fail;
@@ -90,25 +89,6 @@ fn faults_as_they_are_printed(rt: HostRuntime) -> Result<(), Fail> {
         let shown = format!(in rt.alloc(); "{fault}")?;
         assert_eq!(rt; shown.as_str(), text);
     }
-    Ok(())
-}
-
-fn exception(alloc: Global, date: Date, change: DateChange) -> Result<CalendarDate, Fail> {
-    let service = Id::new(alloc, "WK")?;
-    Ok(CalendarDate {
-        service,
-        date,
-        change,
-    })
-}
-
-// An exception wins over the calendar, and an addition over a removal.
-#[test]
-fn a_date_both_added_and_removed(rt: HostRuntime) -> Result<(), Fail> {
-    let tuesday = date_of((2024, 1, 2))?;
-    let added = exception(rt.alloc(), tuesday, DateChange::Added)?;
-    let removed = exception(rt.alloc(), tuesday, DateChange::Removed)?;
-    assert!(rt; runs_on(&[], &[added, removed], "WK", tuesday));
     Ok(())
 }
 

@@ -1,5 +1,5 @@
-use crate::*;
 use gtfs_rows::{CalendarDate, CalendarRow, DateChange, FaultKind, FeedFault, FeedFile};
+use gtfs_services::{read_calendar, read_calendar_dates, read_trips};
 use gtfs_text::Sheet;
 use jiff::civil::Date;
 use std::alloc::{AllocError, Global};

@@ -1,4 +1,4 @@
-use super::*;
+use gtfs_tables::{FaultKind, FeedFault, FeedFile, Files, Tables, read_tables};
 use std::hash::RandomState;
 use std::test::*;
 

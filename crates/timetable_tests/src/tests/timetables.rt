@@ -1,10 +1,10 @@
-use super::*;
 use gtfs_tables::{FaultKind, FeedFault, Files, Tables, read_tables};
 use jiff::civil::Date;
 use service_days::Cover;
 use std::alloc::Global;
 use std::hash::RandomState;
 use std::test::Fail;
+use timetable::{Call, Names, Place, StopId, Timetable, assemble};
 
 type Bytes = &'static [u8];
 

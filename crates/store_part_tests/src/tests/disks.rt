@@ -1,4 +1,4 @@
-use super::*;
+use disk_model::{Disk, FileDisk, FileFault, MemDisk};
 use std::alloc::Global;
 use std::fs;
 use std::process::Abort;

@@ -1,4 +1,4 @@
-use crate::*;
+use gtfs_text::{Sheet, SheetFault, date, time, whole};
 use std::alloc::Global;
 use std::test::Fail;
 
@@ -27,56 +27,80 @@ fn marks_are_no_text(rt: HostRuntime) -> Result<(), Fail> {
     Ok(())
 }
 
+// A cell: its row, the name of its column, and its text.
+type Cell = (usize, &'static str, &'static str);
+
+// The first of the cells that isn't as the sheet has it.
+fn first_wrong(sheet: &Sheet, cells: &[Cell]) -> Option<Cell> {
+    for cell in cells {
+        if text_at(sheet, cell.0, cell.1) != Some(cell.2) {
+            return Some(*cell);
+        }
+    }
+    None
+}
+
+const QUOTED: [Cell; 5] = [
+    (1, "name", "a \"b\", c"),
+    (2, "name", "two\r\nlines"),
+    (3, "name", "d"),
+    (4, "id", "4"),
+    (4, "name", ""),
+];
+
 #[test]
 fn quotes_and_line_ends(rt: HostRuntime) -> Result<(), Fail> {
     let file = b"id,name\r\n1,\"a \"\"b\"\", c\"\n2,\"two\r\nlines\"\r3,d\r\n\r\n\"4\",";
     let sheet = sheet_of(rt.alloc(), file)?;
     assert_eq!(rt; sheet.rows(), 4);
-    assert_eq!(rt; text_at(&sheet, 1, "name"), Some("a \"b\", c"));
-    assert_eq!(rt; text_at(&sheet, 2, "name"), Some("two\r\nlines"));
-    assert_eq!(rt; text_at(&sheet, 3, "name"), Some("d"));
-    assert_eq!(rt; text_at(&sheet, 4, "id"), Some("4"));
-    assert_eq!(rt; text_at(&sheet, 4, "name"), Some(""));
+    assert_eq!(rt; first_wrong(&sheet, &QUOTED), None);
+    Ok(())
+}
+
+const SHORT: &[u8] = b" id ,name , name\nA\nB,  north gate  ,x,y\n , ,\n,,,z\n\t,\n";
+
+// The cells of the columns that a name finds. The third column has the name of the second, and none finds it.
+const CELLS: [Cell; 3] = [(1, "id", "A"), (1, "name", ""), (2, "name", "north gate")];
+
+const COLUMNS: [(&str, Option<usize>); 4] = [
+    ("id", Some(0)),
+    ("name", Some(1)),
+    ("x", None),
+    (" name", None),
+];
+
+#[test]
+fn short_and_long_records(rt: HostRuntime) -> Result<(), Fail> {
+    let sheet = sheet_of(rt.alloc(), SHORT)?;
+    for (name, column) in COLUMNS {
+        assert_eq!(rt; sheet.column(name), column, "{name}");
+    }
+    assert_eq!(rt; first_wrong(&sheet, &CELLS), None);
+    assert!(rt; sheet.rows() == 5 && sheet.field(2, 2) == "x");
     Ok(())
 }
 
 #[test]
-fn short_long_and_blank_records(rt: HostRuntime) -> Result<(), Fail> {
-    let file = b" id ,name , name\nA\nB,  north gate  ,x,y\n , ,\n,,,z\n\t,\n";
-    let sheet = sheet_of(rt.alloc(), file)?;
-    assert_eq!(rt; sheet.rows(), 5);
-    assert_eq!(rt; sheet.column("id"), Some(0));
-    assert_eq!(rt; sheet.column("name"), Some(1));
-    assert_eq!(rt; sheet.column("x"), None);
-    assert_eq!(rt; sheet.column(" name"), None);
-    assert_eq!(rt; text_at(&sheet, 1, "id"), Some("A"));
-    assert_eq!(rt; text_at(&sheet, 1, "name"), Some(""));
-    assert_eq!(rt; text_at(&sheet, 2, "name"), Some("north gate"));
-    assert_eq!(rt; sheet.field(2, 2), "x");
-    let blank = [
-        sheet.blank(1),
-        sheet.blank(2),
-        sheet.blank(3),
-        sheet.blank(4),
-        sheet.blank(5),
-    ];
-    assert_eq!(rt; blank, [false, false, true, true, false]);
+fn blank_records(rt: HostRuntime) -> Result<(), Fail> {
+    let sheet = sheet_of(rt.alloc(), SHORT)?;
+    for (row, blank) in [(1, false), (2, false), (3, true), (4, true), (5, false)] {
+        assert!(rt; row <= sheet.rows() && sheet.blank(row) == blank, "{row}");
+    }
     Ok(())
 }
+
+// The fields of the header and of three rows.
+const FIELDS: [&[&str]; 4] = [&["id", "name"], &["1", "a, b", "x"], &["2"], &["", ""]];
 
 #[test]
 fn fields_of_rows(rt: HostRuntime) -> Result<(), Fail> {
     let sheet = sheet_of(rt.alloc(), b" id ,name\n1,\"a, b\" , x\n\n2\n ,\n")?;
-    assert!(rt; sheet.rows() == 3);
+    assert_eq!(rt; sheet.rows(), 3);
     let mut fields = Vec::new(rt.alloc());
-    sheet.fields(0, &mut fields)?;
-    assert!(rt; fields.as_slice() == ["id", "name"].as_slice());
-    sheet.fields(1, &mut fields)?;
-    assert!(rt; fields.as_slice() == ["1", "a, b", "x"].as_slice());
-    sheet.fields(2, &mut fields)?;
-    assert!(rt; fields.as_slice() == ["2"].as_slice());
-    sheet.fields(3, &mut fields)?;
-    assert!(rt; fields.as_slice() == ["", ""].as_slice());
+    for row in 0..=sheet.rows() {
+        sheet.fields(row, &mut fields)?;
+        assert_eq!(rt; FIELDS.get(row).copied(), Some(fields.as_slice()));
+    }
     Ok(())
 }
 

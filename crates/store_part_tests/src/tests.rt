@@ -1,0 +1,5 @@
+//! A module for each crate.
+
+mod disks;
+mod texts;
+mod trees;

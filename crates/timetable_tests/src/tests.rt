@@ -1,0 +1,5 @@
+//! A module for each crate.
+
+mod days;
+mod samples;
+mod timetables;
