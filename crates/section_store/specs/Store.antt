@@ -1,7 +1,7 @@
 -- The states of a store on an honest disk.
 use Rattle.std.specs.Prelude.{◌<◌, ◌≤◌, ◌≡◌, ◌≢◌, ℕ, ◌+◌, ◌^◌, List, [], ◌∷◌, ◌++◌, length}
 use Rattle.disk_model.specs.Image.{settled_image}
-use Rattle.disk_model.specs.Disk.{State}
+use Rattle.disk_model.specs.Disk.{State, after_write, WriteFailed}
 use Rattle.timetable.specs.Table.{stops_of}
 use Rattle.pattern_tree.specs.Content.{Content}
 use Rattle.pattern_tree.specs.Finished.{FinishedTree}
@@ -72,3 +72,16 @@ pub record AreBody (finished : FinishedTree) (bytes : List ℕ) : Type 0 where
   pub is_text : TreeText 2 (stops_of finished.table) text finished.tree
   pub small : length text < 2 ^ 32
   pub are : bytes ≡ sized text ++ 0 ∷ []
+
+-- such bytes were written behind the gate at a place
+pub record WroteBody (finished : FinishedTree) (place size : ℕ) (old new : State) : Type 0 where
+  pub bytes : List ℕ
+  pub body : AreBody finished bytes
+  pub size_is : size ≡ length bytes
+  pub written : new ≡ after_write (place + 1) bytes old
+
+-- a write of such bytes failed
+pub record BodyFailed (finished : FinishedTree) (place : ℕ) (old new : State) : Type 0 where
+  pub bytes : List ℕ
+  pub body : AreBody finished bytes
+  pub failed : WriteFailed (place + 1) (length bytes) old new

@@ -1,13 +1,14 @@
 //! The four calls of the disk by which a tree is put, in this order: its section is written, and synced; the gate before it
-//! is opened, and that is synced. After a fault of one of them none comes any more.
+//! is opened, and that is synced. After a fault of one of them none comes any more. Each function makes just its one call.
 
 ghost use Rattle.std.specs.Prelude.{◌≡◌, ◌↔◌, ◌+◌, ◌++◌, [], ◌∷◌, List, length, OnOk, IfOk, IfErr, MatchResult};
+ghost use Rattle.disk_model.specs.Disk.{Writes, Syncs, after_sync};
 ghost use Rattle.disk_model.specs.Moments.{LeavesOnly};
 ghost use Rattle.pattern_tree.specs.Content.{Content};
 ghost use Rattle.section_store.specs.Fault.{HasCause, OnlyDevice, IsTooLarge};
 ghost use Rattle.section_store.specs.Lasting.{IsExact, LosesNothing};
-ghost use Rattle.section_store.specs.Sections.{Form, IsSections, IsBeforeOrAfter, IsNew};
-ghost use Rattle.section_store.specs.Store.{IsRest, IsBody, IsDurable, IsOpened, Holds};
+ghost use Rattle.section_store.specs.Sections.{Form, IsSections, IsBeforeOrAfter, IsNew, open_gate};
+ghost use Rattle.section_store.specs.Store.{IsRest, IsBody, IsDurable, IsOpened, Holds, WroteBody, BodyFailed};
 
 use crate::body::fill_body;
 use crate::fault::PutFault;
@@ -30,6 +31,9 @@ impl<D: Disk> SectionStore<D> {
         ensures body { (trees : List Content) → D.honest self.old.disk
             → Holds self.old.form trees self.old.place self.old.stored.items (D.state self.old.disk)
             → OnOk result (IsBody self.old.form trees tree.now.tree self.new.place self.new.extent (D.state self.new.disk)) }
+        ensures written { D.honest self.old.disk → MatchResult result
+            (λ _. WroteBody tree.now self.old.place self.new.extent (D.state self.old.disk) (D.state self.new.disk))
+            (λ fault. fault ≡ PutFault.Device → BodyFailed tree.now self.old.place (D.state self.old.disk) (D.state self.new.disk)) }
         ensures moments { (trees : List Content) → D.honest self.old.disk
             → IsRest self.old.form trees self.old.place (D.state self.old.disk)
             → LeavesOnly (D.state self.old.disk) (D.state self.new.disk) (λ bytes. IsSections self.old.form bytes trees) }
@@ -93,6 +97,7 @@ impl<D: Disk> SectionStore<D> {
             → IsBody form trees tree self.old.place self.old.extent (D.state self.old.disk)
             → OnOk result (IsBody form trees tree self.new.place self.new.extent (D.state self.new.disk)
             × IsDurable (D.state self.new.disk)) }
+        ensures synced { D.honest self.old.disk → Syncs result (D.state self.old.disk) (D.state self.new.disk) }
         ensures moments { (form : Form) (trees : List Content) (tree : Content) → D.honest self.old.disk
             → IsBody form trees tree self.old.place self.old.extent (D.state self.old.disk)
             → LeavesOnly (D.state self.old.disk) (D.state self.new.disk) (λ bytes. IsSections form bytes trees) }
@@ -124,6 +129,8 @@ impl<D: Disk> SectionStore<D> {
         ensures opened { (form : Form) (trees : List Content) (tree : Content) → D.honest self.old.disk
             → IsBody form trees tree self.old.place self.old.extent (D.state self.old.disk)
             → OnOk result (IsOpened form (trees ++ tree ∷ []) (self.new.place + self.new.extent) (D.state self.new.disk)) }
+        ensures written { D.honest self.old.disk
+            → Writes self.old.place (open_gate ∷ []) result (D.state self.old.disk) (D.state self.new.disk) }
         ensures moments { (form : Form) (trees : List Content) (tree : Content) → D.honest self.old.disk
             → IsBody form trees tree self.old.place self.old.extent (D.state self.old.disk) → IsDurable (D.state self.old.disk)
             → LeavesOnly (D.state self.old.disk) (D.state self.new.disk) (IsBeforeOrAfter form trees tree) }
@@ -158,6 +165,8 @@ impl<D: Disk> SectionStore<D> {
         ensures rest { (form : Form) (trees : List Content) → D.honest self.old.disk
             → IsOpened form trees (self.old.place + self.old.extent) (D.state self.old.disk)
             → OnOk result (IsRest form trees self.new.place (D.state self.new.disk)) }
+        ensures synced { D.honest self.old.disk → MatchResult result
+            (λ _. D.state self.new.disk ≡ after_sync (D.state self.old.disk)) (λ _. D.state self.new.disk ≡ D.state self.old.disk) }
         ensures moments { (form : Form) (trees : List Content) → D.honest self.old.disk
             → IsOpened form trees (self.old.place + self.old.extent) (D.state self.old.disk)
             → LeavesOnly (D.state self.old.disk) (D.state self.new.disk) (λ bytes. IsSections form bytes trees) }
@@ -165,6 +174,8 @@ impl<D: Disk> SectionStore<D> {
         ensures honest { D.honest self.old.disk ↔ D.honest self.new.disk }
         ensures device { OnlyDevice result (D.failures self.old.disk) (D.failures self.new.disk) }
         ensures next { MatchResult result (λ _. self.new.next ≡ Step.WriteBody) (λ _. self.new.next ≡ Step.Failed) }
+        ensures place { MatchResult result
+            (λ _. self.new.place ≡ self.old.place + self.old.extent) (λ _. self.new.place ≡ self.old.place) }
         ensures form { self.new.form ≡ self.old.form }
         ensures stored { MatchResult result
             (λ _. self.new.stored.items ≡ self.old.stored.items ++ self.old.source ∷ [])
