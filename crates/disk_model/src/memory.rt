@@ -169,7 +169,8 @@ impl MemDisk {
         requires { pos ≤ length (state_of self.old).read }
         ensures plan { self.new.plan ≡ self.old.plan }
         ensures failures { failures_of self.new ≡ failures_of self.old }
-        ensures ok { OnOk result (state_of self.new ≡ next_state (state_of self.old).read (with_write pos (length bytes.now) (state_of self.old).now) (state_of self.old)) }
+        ensures ok { OnOk result (state_of self.new
+            ≡ next_state (state_of self.old).read (with_write pos (length bytes.now) (state_of self.old).now) (state_of self.old)) }
         ensures err { OnErr result (state_of self.new ≡ state_of self.old) }
     {
         let kept = bytes.to_vec(self.alloc)?;
@@ -195,7 +196,8 @@ impl MemDisk {
     fn tear_cut(&mut self, len: u64) -> Result<(), AllocError>
         ensures plan { self.new.plan ≡ self.old.plan }
         ensures failures { failures_of self.new ≡ failures_of self.old }
-        ensures ok { OnOk result (state_of self.new ≡ next_state (state_of self.old).read (with_cut len (state_of self.old).now) (state_of self.old)) }
+        ensures ok { OnOk result (state_of self.new
+            ≡ next_state (state_of self.old).read (with_cut len (state_of self.old).now) (state_of self.old)) }
         ensures err { OnErr result (state_of self.new ≡ state_of self.old) }
     {
         self.calls.push(Call::TornCut(len))?;

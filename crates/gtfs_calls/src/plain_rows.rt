@@ -45,8 +45,10 @@ pub(crate) fn call_of(
     requires trips { length trips.now.keys ≤ 999_999_999 }
     requires before { IfSome before (λ known. number_in (texts_in trips.now.keys) known.id.now ≡ Some known.number) }
     ensures call { (table : Table) → AreCallColumns table columns → texts_in fields.now ≡ get_or table row []
-        → result ≡ (if stands (texts_in stops.now.keys) (texts_in trips.now.keys) table row then Some (call_numbered (texts_in stops.now.keys) (texts_in trips.now.keys) table row (min row 999_999_999)) else None) }
-    ensures kept { (table : Table) → AreCallColumns table columns → texts_in fields.now ≡ get_or table row [] → IfSome result (IsKept (length stops.now.keys) (length trips.now.keys)) }
+        → result ≡ (if stands (texts_in stops.now.keys) (texts_in trips.now.keys) table row
+        then Some (call_numbered (texts_in stops.now.keys) (texts_in trips.now.keys) table row (min row 999_999_999)) else None) }
+    ensures kept { (table : Table) → AreCallColumns table columns → texts_in fields.now ≡ get_or table row []
+        → IfSome result (IsKept (length stops.now.keys) (length trips.now.keys)) }
 {
     let trip = trip_number(trips, field_under(fields, columns.trip), before)?;
     let stop = stops.get_index_of(field_under(fields, columns.stop))?;
@@ -76,8 +78,10 @@ pub(crate) fn plain_calls(
     requires columns { AreCallColumns sheet.now columns }
     requires stops { length stops.now.keys ≤ 65_534 }
     requires trips { length trips.now.keys ≤ 999_999_999 }
-    ensures tests { IfOk result (λ read. IfSome read (λ rows. AreApart rows.0.items → first_fault (flat_map (call_tests (texts_in stops.now.keys) (texts_in trips.now.keys) sheet.now) (rows_of sheet.now)) ≡ None)) }
-    ensures calls { IfOk result (λ read. IfSome read (λ rows. row_count sheet.now ≤ 999_999_999 → rows.0.items ≡ call_values (texts_in stops.now.keys) (texts_in trips.now.keys) sheet.now)) }
+    ensures tests { IfOk result (λ read. IfSome read (λ rows. AreApart rows.0.items
+        → first_fault (flat_map (call_tests (texts_in stops.now.keys) (texts_in trips.now.keys) sheet.now) (rows_of sheet.now)) ≡ None)) }
+    ensures calls { IfOk result (λ read. IfSome read (λ rows. row_count sheet.now ≤ 999_999_999
+        → rows.0.items ≡ call_values (texts_in stops.now.keys) (texts_in trips.now.keys) sheet.now)) }
     ensures skipped { IfOk result (λ read. IfSome read (λ rows. rows.1 ≡ skipped_calls sheet.now)) }
     ensures kept { IfOk result (λ read. IfSome read (λ rows. All (IsKept (length stops.now.keys) (length trips.now.keys)) rows.0.items)) }
 {

@@ -124,7 +124,8 @@ fn read_call(
     requires stops { length stops.now.keys ≤ 65_534 }
     requires trips { length trips.now.keys ≤ 999_999_999 }
     requires places { places.old.keys ≡ map (place_at (texts_in trips.now.keys) sheet.now) (kept_to sheet.now (row - 1)) }
-    ensures call { Answers (λ call. call) result (kept_tests (texts_in stops.now.keys) (texts_in trips.now.keys) sheet.now row) (call_numbered (texts_in stops.now.keys) (texts_in trips.now.keys) sheet.now row (min row 999_999_999)) }
+    ensures call { Answers (λ call. call) result (kept_tests (texts_in stops.now.keys) (texts_in trips.now.keys) sheet.now row)
+        (call_numbered (texts_in stops.now.keys) (texts_in trips.now.keys) sheet.now row (min row 999_999_999)) }
     ensures kept { IfOk result (IsKept (length stops.now.keys) (length trips.now.keys)) }
     ensures places { IfOk result (λ call. places.new.keys ≡ places.old.keys ++ place_of call ∷ []) }
     ensures apart { OnOk result (IsDistinct is_place places.new.keys) }
@@ -162,8 +163,10 @@ fn read_rows(
     requires columns { AreCallColumns sheet.now columns }
     requires stops { length stops.now.keys ≤ 65_534 }
     requires trips { length trips.now.keys ≤ 999_999_999 }
-    ensures tests { Passes result (flat_map (call_tests (texts_in stops.now.keys) (texts_in trips.now.keys) sheet.now) (rows_of sheet.now)) }
-    ensures calls { IfOk result (λ rows. row_count sheet.now ≤ 999_999_999 → rows.0.items ≡ call_values (texts_in stops.now.keys) (texts_in trips.now.keys) sheet.now) }
+    ensures tests { Passes result (flat_map (call_tests (texts_in stops.now.keys) (texts_in trips.now.keys) sheet.now)
+        (rows_of sheet.now)) }
+    ensures calls { IfOk result (λ rows. row_count sheet.now ≤ 999_999_999
+        → rows.0.items ≡ call_values (texts_in stops.now.keys) (texts_in trips.now.keys) sheet.now) }
     ensures skipped { IfOk result (λ rows. rows.1 ≡ skipped_calls sheet.now) }
     ensures kept { IfOk result (λ rows. All (IsKept (length stops.now.keys) (length trips.now.keys)) rows.0.items) }
     ensures apart { IfOk result (λ rows. AreApart rows.0.items) }
@@ -189,7 +192,8 @@ fn read_rows(
 fn sort_calls(calls: &mut Vec<StopTime>) -> Result<(), AllocError>
     ensures permutation { IsPermutation calls.old.items calls.new.items }
     ensures order { OnOk result (AreApart calls.old.items → AreInOrder calls.new.items) }
-    ensures placed { OnOk result (AreApart calls.old.items → (trip : ℕ) → calls_of_trip calls.new.items trip ≡ in_sequence (calls_of_trip calls.old.items trip)) }
+    ensures placed { OnOk result (AreApart calls.old.items → (trip : ℕ)
+        → calls_of_trip calls.new.items trip ≡ in_sequence (calls_of_trip calls.old.items trip)) }
 {
     calls.sort_by_key(|call| (call.trip, call.sequence))?;
     Ok(())
@@ -208,8 +212,11 @@ fn sorted_rows(
     requires columns { AreCallColumns sheet.now columns }
     requires stops { length stops.now.keys ≤ 65_534 }
     requires trips { length trips.now.keys ≤ 999_999_999 }
-    ensures tests { Passes result (flat_map (call_tests (texts_in stops.now.keys) (texts_in trips.now.keys) sheet.now) (rows_of sheet.now)) }
-    ensures placed { IfOk result (λ rows. row_count sheet.now ≤ 999_999_999 → (trip : ℕ) → calls_of_trip rows.0.items trip ≡ in_sequence (calls_of_trip (call_values (texts_in stops.now.keys) (texts_in trips.now.keys) sheet.now) trip)) }
+    ensures tests { Passes result (flat_map (call_tests (texts_in stops.now.keys) (texts_in trips.now.keys) sheet.now)
+        (rows_of sheet.now)) }
+    ensures placed { IfOk result (λ rows. row_count sheet.now ≤ 999_999_999 → (trip : ℕ)
+        → calls_of_trip rows.0.items trip
+        ≡ in_sequence (calls_of_trip (call_values (texts_in stops.now.keys) (texts_in trips.now.keys) sheet.now) trip)) }
     ensures order { IfOk result (λ rows. AreInOrder rows.0.items) }
     ensures skipped { IfOk result (λ rows. rows.1 ≡ skipped_calls sheet.now) }
     ensures kept { IfOk result (λ rows. All (IsKept (length stops.now.keys) (length trips.now.keys)) rows.0.items) }
@@ -235,7 +242,8 @@ fn read_sheet(
 ) -> Result<CallRows, FeedFault>
     requires stops { length stops.now.keys ≤ 65_534 }
     requires trips { length trips.now.keys ≤ 999_999_999 }
-    ensures calls { Answers (λ rows. rows.calls) result (stop_times_tests (texts_in stops.now.keys) (texts_in trips.now.keys) sheet.now) (call_lists (texts_in stops.now.keys) (texts_in trips.now.keys) sheet.now) }
+    ensures calls { Answers (λ rows. rows.calls) result (stop_times_tests (texts_in stops.now.keys) (texts_in trips.now.keys) sheet.now)
+        (call_lists (texts_in stops.now.keys) (texts_in trips.now.keys) sheet.now) }
     ensures skipped { IfOk result (λ rows. rows.skipped ≡ skipped_calls sheet.now) }
     ensures valid { IfOk result (λ rows. AreCallLists (length stops.now.keys) (length trips.now.keys) rows.calls) }
 {
@@ -267,8 +275,12 @@ pub fn read_stop_times<R: Read + Drop>(
 ) -> Result<CallRows, FeedFault>
     requires stops { length stops.now.keys ≤ 65_534 }
     requires trips { length trips.now.keys ≤ 999_999_999 }
-    ensures calls { (bytes : Option (List ℕ)) → IsContent R.remaining reader bytes → Answers (λ rows. rows.calls) result (opening_tests files.StopTimes bytes ++ stop_times_tests (texts_in stops.now.keys) (texts_in trips.now.keys) (table_in bytes)) (call_lists (texts_in stops.now.keys) (texts_in trips.now.keys) (table_in bytes)) }
-    ensures skipped { (bytes : Option (List ℕ)) → IsContent R.remaining reader bytes → IfOk result (λ rows. rows.skipped ≡ skipped_calls (table_in bytes)) }
+    ensures calls { (bytes : Option (List ℕ)) → IsContent R.remaining reader bytes
+        → Answers (λ rows. rows.calls) result
+        (opening_tests files.StopTimes bytes ++ stop_times_tests (texts_in stops.now.keys) (texts_in trips.now.keys) (table_in bytes))
+        (call_lists (texts_in stops.now.keys) (texts_in trips.now.keys) (table_in bytes)) }
+    ensures skipped { (bytes : Option (List ℕ)) → IsContent R.remaining reader bytes
+        → IfOk result (λ rows. rows.skipped ≡ skipped_calls (table_in bytes)) }
     ensures valid { IfOk result (λ rows. AreCallLists (length stops.now.keys) (length trips.now.keys) rows.calls) }
 {
     let sheet = open_sheet(alloc, FeedFile::StopTimes, reader)?;

@@ -118,7 +118,8 @@ fn read_rows(
     columns: CalendarColumns,
 ) -> Result<Vec<CalendarRow>, FeedFault>
     requires { AreCalendarColumns sheet.now columns }
-    ensures { Answers (λ rows. rows.items) result (flat_map (calendar_row_tests sheet.now) (rows_of sheet.now)) (calendar_values sheet.now) }
+    ensures { Answers (λ rows. rows.items) result (flat_map (calendar_row_tests sheet.now) (rows_of sheet.now))
+        (calendar_values sheet.now) }
 {
     let mut services: Texts<'_> = IndexSet::with_hasher(alloc, keys);
     let mut rows = Vec::new(alloc);
@@ -166,7 +167,8 @@ pub fn read_calendar<R: Read + Drop>(
     keys: RandomState,
     reader: Option<R>,
 ) -> Result<Vec<CalendarRow>, FeedFault>
-    ensures { (bytes : Option (List ℕ)) → IsContent R.remaining reader bytes → Answers (λ rows. rows.items) result (optional_tests files.Calendar calendar_tests bytes) (calendar_values (table_in bytes)) }
+    ensures { (bytes : Option (List ℕ)) → IsContent R.remaining reader bytes
+        → Answers (λ rows. rows.items) result (optional_tests files.Calendar calendar_tests bytes) (calendar_values (table_in bytes)) }
 {
     if reader.is_none() {
         return Ok(Vec::new(alloc));

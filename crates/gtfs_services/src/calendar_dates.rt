@@ -94,7 +94,8 @@ fn read_rows(
     columns: DateColumns,
 ) -> Result<Vec<CalendarDate>, FeedFault>
     requires { AreDateColumns sheet.now columns }
-    ensures { Answers (λ rows. rows.items) result (flat_map (calendar_date_tests sheet.now) (rows_of sheet.now)) (calendar_date_values sheet.now) }
+    ensures { Answers (λ rows. rows.items) result (flat_map (calendar_date_tests sheet.now) (rows_of sheet.now))
+        (calendar_date_values sheet.now) }
 {
     let mut dates: IndexSet<ServiceDate<'_>, RandomState> = IndexSet::with_hasher(alloc, keys);
     let mut rows = Vec::new(alloc);
@@ -146,7 +147,9 @@ pub fn read_calendar_dates<R: Read + Drop>(
     keys: RandomState,
     reader: Option<R>,
 ) -> Result<Vec<CalendarDate>, FeedFault>
-    ensures { (bytes : Option (List ℕ)) → IsContent R.remaining reader bytes → Answers (λ rows. rows.items) result (optional_tests files.CalendarDates calendar_dates_tests bytes) (calendar_date_values (table_in bytes)) }
+    ensures { (bytes : Option (List ℕ)) → IsContent R.remaining reader bytes
+        → Answers (λ rows. rows.items) result (optional_tests files.CalendarDates calendar_dates_tests bytes)
+        (calendar_date_values (table_in bytes)) }
 {
     if reader.is_none() {
         return Ok(Vec::new(alloc));

@@ -165,7 +165,8 @@ fn keep_stops(
 ) -> Result<Vec<Stop>, AllocError>
     requires columns { AreStopColumns sheet.now columns }
     requires few { length stations.now.keys ≤ 999_999_999 }
-    ensures { IfOk result (λ stops. stops.items ≡ map (stop_among (texts_in stations.now.keys) sheet.now) (rows_of_kind row_kinds.Stop sheet.now)) }
+    ensures { IfOk result (λ stops. stops.items ≡ map (stop_among (texts_in stations.now.keys) sheet.now)
+        (rows_of_kind row_kinds.Stop sheet.now)) }
 {
     let mut stops = Vec::new(alloc);
     for done in 0..sheet.rows() {

@@ -158,7 +158,8 @@ fn time_stands(joins_places: bool, text: &str) -> bool
 
 // What is wrong with the places or the time of a row, by what was found of them.
 fn first_wrong(knows_from: bool, knows_to: bool, time_stands: bool) -> Option<FaultKind>
-    ensures { (row : ℕ) → option_map (λ kind. fault_at kind files.Transfers row) result ≡ first_fault (found_tests row knows_from knows_to time_stands) }
+    ensures { (row : ℕ) → option_map (λ kind. fault_at kind files.Transfers row) result
+        ≡ first_fault (found_tests row knows_from knows_to time_stands) }
 {
     if !knows_from || !knows_to {
         Some(FaultKind::UnknownReference)
@@ -200,7 +201,8 @@ fn row_fault(
     requires columns { AreTransferColumns sheet.now columns }
     requires stops { length ids.now.stops.keys ≤ 65_534 }
     requires stations { length ids.now.stations.keys ≤ 999_999_999 }
-    ensures { option_map (λ kind. fault_at kind files.Transfers row) result ≡ first_fault (transfer_tests (lists_in ids.now) sheet.now row) }
+    ensures { option_map (λ kind. fault_at kind files.Transfers row) result
+        ≡ first_fault (transfer_tests (lists_in ids.now) sheet.now row) }
 {
     let text = text_under(sheet, columns.transfer_type, row);
     let stands = type_of(text).is_some() || is_in_seat(text);
@@ -221,7 +223,8 @@ fn transfer_between(
     min_transfer_time: Option<u32>,
 ) -> Option<Transfer>
     ensures value { result ≡ transfer_between from to (Some transfer_type) min_transfer_time }
-    ensures parts { IfSome result (λ transfer. (from ≡ Some transfer.from) × (to ≡ Some transfer.to) × (min_transfer_time ≡ transfer.min_transfer_time)) }
+    ensures parts { IfSome result (λ transfer. (from ≡ Some transfer.from) × (to ≡ Some transfer.to)
+        × (min_transfer_time ≡ transfer.min_transfer_time)) }
 {
     match (from, to) {
         (Some(from), Some(to)) => Some(Transfer {
@@ -267,7 +270,8 @@ fn read_rows(
     requires columns { AreTransferColumns sheet.now columns }
     requires stops { length ids.now.stops.keys ≤ 65_534 }
     requires stations { length ids.now.stations.keys ≤ 999_999_999 }
-    ensures transfers { Answers (λ rows. rows.transfers.items) result (flat_map (transfer_tests (lists_in ids.now) sheet.now) (rows_of sheet.now)) (transfer_values (lists_in ids.now) sheet.now) }
+    ensures transfers { Answers (λ rows. rows.transfers.items) result
+        (flat_map (transfer_tests (lists_in ids.now) sheet.now) (rows_of sheet.now)) (transfer_values (lists_in ids.now) sheet.now) }
     ensures skipped { IfOk result (λ rows. rows.skipped ≡ skipped_transfers (lists_in ids.now) sheet.now) }
     ensures valid { IfOk result (λ rows. All (IsTransfer (length ids.now.stops.keys) (length ids.now.stations.keys)) rows.transfers.items) }
 {
@@ -296,7 +300,8 @@ pub fn read_transfers(
 ) -> Result<TransferRows, FeedFault>
     requires stops { length ids.now.stops.keys ≤ 65_534 }
     requires stations { length ids.now.stations.keys ≤ 999_999_999 }
-    ensures transfers { Answers (λ rows. rows.transfers.items) result (transfers_tests (lists_in ids.now) sheet.now) (transfer_values (lists_in ids.now) sheet.now) }
+    ensures transfers { Answers (λ rows. rows.transfers.items) result (transfers_tests (lists_in ids.now) sheet.now)
+        (transfer_values (lists_in ids.now) sheet.now) }
     ensures skipped { IfOk result (λ rows. rows.skipped ≡ skipped_transfers (lists_in ids.now) sheet.now) }
     ensures valid { IfOk result (λ rows. All (IsTransfer (length ids.now.stops.keys) (length ids.now.stations.keys)) rows.transfers.items) }
     ensures few { IfOk result (λ rows. length rows.transfers.items ≤ 999_999_999) }

@@ -48,8 +48,11 @@ fn read_optional_transfers<R: Read + Drop>(
 ) -> Result<TransferRows, FeedFault>
     requires stops { length ids.now.stops.keys ≤ 65_534 }
     requires stations { length ids.now.stations.keys ≤ 999_999_999 }
-    ensures transfers { (bytes : Option (List ℕ)) → IsContent R.remaining reader bytes → Answers (λ rows. rows.transfers.items) result (optional_tests files.Transfers (transfers_tests (lists_in ids.now)) bytes) (transfer_values (lists_in ids.now) (table_in bytes)) }
-    ensures skipped { (bytes : Option (List ℕ)) → IsContent R.remaining reader bytes → IfOk result (λ rows. rows.skipped ≡ skipped_transfers (lists_in ids.now) (table_in bytes)) }
+    ensures transfers { (bytes : Option (List ℕ)) → IsContent R.remaining reader bytes
+        → Answers (λ rows. rows.transfers.items) result (optional_tests files.Transfers (transfers_tests (lists_in ids.now)) bytes)
+        (transfer_values (lists_in ids.now) (table_in bytes)) }
+    ensures skipped { (bytes : Option (List ℕ)) → IsContent R.remaining reader bytes
+        → IfOk result (λ rows. rows.skipped ≡ skipped_transfers (lists_in ids.now) (table_in bytes)) }
     ensures valid { IfOk result (λ rows. All (IsTransfer (length ids.now.stops.keys) (length ids.now.stations.keys)) rows.transfers.items) }
     ensures few { IfOk result (λ rows. length rows.transfers.items ≤ 999_999_999) }
 {

@@ -58,7 +58,8 @@ impl Chain {
 
 // The first of the chains whose last instance this one follows.
 fn first_fit(table: &Timetable, chains: &[Chain], number: u32) -> Option<usize>
-    ensures fits { IfSome result (λ k. (k < length chains.now) × ((d : List ℕ) → Follows table.now (last_of (slice_index_or chains.now k d)) number)) }
+    ensures fits { IfSome result (λ k. (k < length chains.now)
+        × ((d : List ℕ) → Follows table.now (last_of (slice_index_or chains.now k d)) number)) }
     ensures none { IfNone result (All (λ chain. ¬ Follows table.now (last_of chain) number) chains.now) }
 {
     for (k, chain) in chains.iter().enumerate() {

@@ -90,7 +90,8 @@ fn columns(
     members: &[u32],
     places: usize,
 ) -> Result<Vec<Times>, AllocError>
-    ensures { IfOk result (λ times. times.items ≡ flat_map (λ place. map (λ n. times_at table.now n place) members.now) (range_with_len 0 places)) }
+    ensures { IfOk result (λ times. times.items ≡ flat_map (λ place. map (λ n. times_at table.now n place) members.now)
+        (range_with_len 0 places)) }
 {
     let mut times = Vec::with_capacity(alloc, places.saturating_mul(members.len()))?;
     for place in 0..places {

@@ -58,7 +58,8 @@ fn note_line(rows: &mut [Places], number: usize, line: &Line) -> Result<(), Allo
     requires number { number < 1_000_000 }
     requires plain { IsPlain (length rows.old) line.now }
     ensures count { length rows.new ≡ length rows.old }
-    ensures noted { OnOk result ((lines : List LineData) → slice_get lines number ≡ Some line.now → AreNoted lines number 0 rows.old → AreNoted lines (number + 1) 0 rows.new) }
+    ensures noted { OnOk result ((lines : List LineData) → slice_get lines number ≡ Some line.now → AreNoted lines number 0 rows.old
+        → AreNoted lines (number + 1) 0 rows.new) }
 {
     for (place, halt) in line.halts().iter().enumerate() {
         let at = LinePlace {

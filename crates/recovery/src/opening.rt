@@ -30,8 +30,10 @@ use timetable::{Rides, Timetable};
 fn look<D: Disk>(alloc: Global, disk: &mut D, form: &Form) -> Result<Option<Found>, RecoverFault>
     ensures honest { D.honest disk.old ↔ D.honest disk.new }
     ensures synced { D.honest disk.old → OnOk result (D.state disk.new ≡ after_sync (D.state disk.old)) }
-    ensures stays { D.honest disk.old → OnErr result ((D.state disk.new ≡ D.state disk.old) ⊎ (D.state disk.new ≡ after_sync (D.state disk.old))) }
-    ensures found { D.honest disk.old → IfOk result (λ found. MatchOption found (IsFresh (D.state disk.old).read) (λ found. (¬ IsFresh (D.state disk.old).read)
+    ensures stays { D.honest disk.old → OnErr result
+        ((D.state disk.new ≡ D.state disk.old) ⊎ (D.state disk.new ≡ after_sync (D.state disk.old))) }
+    ensures found { D.honest disk.old → IfOk result (λ found. MatchOption found (IsFresh (D.state disk.old).read)
+        (λ found. (¬ IsFresh (D.state disk.old).read)
         × IsSoFar form.now (D.state disk.old).read found.trees.items found.place × IsShut (drop found.place (D.state disk.old).read))) }
     ensures refused { D.honest disk.old → IfErr result (IsRefusal form.now (D.state disk.old).read) }
     ensures stored { IfOk result (λ found. IfSome found (λ found. (found.stored.items ≡ sources found.trees.items)
@@ -82,7 +84,8 @@ pub fn recover<D: Disk>(
     ensures stands { D.honest disk → IfOk result (λ r. Stands (form_of (arc_value table.now) rides) (D.state disk).read r.trees.items) }
     ensures holds { D.honest disk → IfOk result (λ r.
         Holds (form_of (arc_value table.now) rides) r.trees.items r.store.place r.store.stored.items (D.state r.store.disk)) }
-    ensures refused { D.honest disk → IfErr result (λ e. IsOutside e.0 ⊎ StandsForNoList (form_of (arc_value table.now) rides) (D.state disk).read) }
+    ensures refused { D.honest disk → IfErr result
+        (λ e. IsOutside e.0 ⊎ StandsForNoList (form_of (arc_value table.now) rides) (D.state disk).read) }
     ensures cause { D.honest disk → IfErr result (λ e. CauseOf (form_of (arc_value table.now) rides) (D.state disk).read e.0) }
     ensures device { MatchResult result (λ r. D.failures r.store.disk ≡ D.failures disk)
         (λ e. e.0 ≡ RecoverFault.Device → Grew (D.failures disk) (D.failures e.1)) }

@@ -20,7 +20,9 @@ pub const CALENDAR: &str =
     "service_id,monday,tuesday,wednesday,thursday,friday,saturday,sunday,start_date,end_date\nWK,1,1,1,1,1,0,0,20240101,20241231\n";
 
 pub const STOP_TIMES: &str =
-    "trip_id,stop_id,stop_sequence,arrival_time,departure_time\nT1,A,1,08:00:00,08:00:00\nT1,B,2,08:10:00,08:12:00\nT1,C,3,08:30:00,08:30:00\nT2,B,1,08:15:00,08:15:00\nT2,D,2,08:40:00,08:40:00\nT3,A,1,08:05:00,08:05:00\nT3,D,2,09:00:00,09:00:00\n";
+    "trip_id,stop_id,stop_sequence,arrival_time,departure_time\nT1,A,1,08:00:00,08:00:00\nT1,B,2,08:10:00,08:12:00\n\
+    T1,C,3,08:30:00,08:30:00\nT2,B,1,08:15:00,08:15:00\nT2,D,2,08:40:00,08:40:00\nT3,A,1,08:05:00,08:05:00\n\
+    T3,D,2,09:00:00,09:00:00\n";
 
 /// A change at B and a walk from C to E.
 pub const TRANSFERS: &str =

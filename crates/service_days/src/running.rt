@@ -29,7 +29,8 @@ fn days_noted(noted: &Noted<'_>, service: &str) -> Days
 // Notes whether a service runs on a day.
 fn note<'a>(noted: &mut Noted<'a>, service: &'a str, day: u8, runs: bool) -> Result<(), AllocError>
     requires { day < 14 }
-    ensures { OnOk result ((q : List ℕ) (d : ℕ) → is_noted noted.new q d ≡ (if bytes_eq service.now q && d == day then runs else is_noted noted.old q d)) }
+    ensures { OnOk result ((q : List ℕ) (d : ℕ) → is_noted noted.new q d
+        ≡ (if bytes_eq service.now q && d == day then runs else is_noted noted.old q d)) }
 {
     let mut days = days_noted(noted, service);
     days[usize::from(day)] = runs;

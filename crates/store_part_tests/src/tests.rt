@@ -1,5 +1,6 @@
 //! A module for each crate.
 
 mod disks;
+mod files;
 mod texts;
 mod trees;

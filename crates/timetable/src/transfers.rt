@@ -98,7 +98,8 @@ fn outranks(row: Row, other: Row) -> bool
 
 // Notes that a row leads to a stop, where no row that wins over it does.
 fn offer(row: Row, to: usize, winners: &mut Winners) -> Result<(), AllocError>
-    ensures { OnOk result ((q : ℕ) → get nat_cmp winners.new q ≡ (if q == to then better (get nat_cmp winners.old q) row else get nat_cmp winners.old q)) }
+    ensures { OnOk result ((q : ℕ) → get nat_cmp winners.new q
+        ≡ (if q == to then better (get nat_cmp winners.old q) row else get nat_cmp winners.old q)) }
 {
     if let Some(other) = winners.get(&to).copied()
         && !outranks(row, other)
@@ -132,7 +133,8 @@ fn offer_rows(
     winners: &mut Winners,
 ) -> Result<(), AllocError>
     requires { All (λ n. n < length transfers.now) numbers.now }
-    ensures { OnOk result ((q : ℕ) → get nat_cmp winners.new q ≡ fold (best_at transfers.now children.now q) (get nat_cmp winners.old q) numbers.now) }
+    ensures { OnOk result ((q : ℕ) → get nat_cmp winners.new q
+        ≡ fold (best_at transfers.now children.now q) (get nat_cmp winners.old q) numbers.now) }
 {
     for number in numbers {
         let row = Row {

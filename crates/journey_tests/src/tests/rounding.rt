@@ -20,7 +20,8 @@ const WALKS: &str = "from_stop_id,to_stop_id,transfer_type,min_transfer_time\nE,
 
 // Early in the day a walk of 60 seconds can still reach the ride that leaves A after 60, one of 120 can't.
 const EARLY: &str =
-    "trip_id,stop_id,stop_sequence,arrival_time,departure_time\nT1,A,1,00:01:00,00:01:00\nT1,B,2,00:10:00,00:10:00\nT3,A,1,00:03:00,00:03:00\nT3,D,2,00:30:00,00:30:00\n";
+    "trip_id,stop_id,stop_sequence,arrival_time,departure_time\nT1,A,1,00:01:00,00:01:00\nT1,B,2,00:10:00,00:10:00\n\
+    T3,A,1,00:03:00,00:03:00\nT3,D,2,00:30:00,00:30:00\n";
 
 const EARLY_WALKS: &str =
     "from_stop_id,to_stop_id,transfer_type,min_transfer_time\nC,A,2,60\nE,A,2,120\n";

@@ -51,7 +51,8 @@ fn pairs_of_trips(rt: HostRuntime) -> Result<(), Fail> {
 
 // T1 and T2 are one line, which comes to A twice.
 const TWICE: &str =
-    "T1,A,1,08:00:00,08:00:00,,\nT1,B,2,08:10:00,08:12:00,,\nT1,A,3,08:20:00,08:20:00,,\nT2,A,1,08:05:00,08:05:00,,\nT2,B,2,08:15:00,08:15:00,,\nT2,A,3,08:25:00,08:25:00,,\n";
+    "T1,A,1,08:00:00,08:00:00,,\nT1,B,2,08:10:00,08:12:00,,\nT1,A,3,08:20:00,08:20:00,,\nT2,A,1,08:05:00,08:05:00,,\n\
+    T2,B,2,08:15:00,08:15:00,,\nT2,A,3,08:25:00,08:25:00,,\n";
 
 // From when on which instance is the first that departs at a place.
 const FIRST_TRIPS: [(usize, u32, Option<u32>); 6] = [

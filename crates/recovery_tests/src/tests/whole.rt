@@ -13,7 +13,9 @@ use timetable::{Rides, Timetable};
 
 // Trip T2 a second later at both stops.
 const LATER: &str =
-    "trip_id,stop_id,stop_sequence,arrival_time,departure_time\nT1,A,1,08:00:00,08:00:00\nT1,B,2,08:10:00,08:12:00\nT1,C,3,08:30:00,08:30:00\nT2,B,1,08:15:01,08:15:01\nT2,D,2,08:40:01,08:40:01\nT3,A,1,08:05:00,08:05:00\nT3,D,2,09:00:00,09:00:00\n";
+    "trip_id,stop_id,stop_sequence,arrival_time,departure_time\nT1,A,1,08:00:00,08:00:00\nT1,B,2,08:10:00,08:12:00\n\
+    T1,C,3,08:30:00,08:30:00\nT2,B,1,08:15:01,08:15:01\nT2,D,2,08:40:01,08:40:01\nT3,A,1,08:05:00,08:05:00\n\
+    T3,D,2,09:00:00,09:00:00\n";
 
 // What a store of the sample feed for three rides is opened as for this timetable and so many rides.
 fn opened_for(rt: &HostRuntime, table: Timetable, rides: Rides) -> Result<Answer, Fail> {
@@ -47,7 +49,8 @@ fn opened_for_something_else(rt: HostRuntime) -> Result<(), Fail> {
 
 // Of source 2: four rides in a row, (0, 1), (1, 2), (2, 3) and (3, 4), with the end 4.
 const FOUR_RIDES: &[u8] =
-    b"\x00\x02\x00\x00\x00\x01\x00\x00\x00\x01\x00\x00\x00\x00\x00\x01\x00\x01\x00\x02\x00\x00\x00\x00\x00\x01\x00\x02\x00\x03\x00\x00\x00\x00\x00\x01\x00\x03\x00\x04\x00\x01\x00\x04\x00\x00\x00\x00";
+    b"\x00\x02\x00\x00\x00\x01\x00\x00\x00\x01\x00\x00\x00\x00\x00\x01\x00\x01\x00\x02\x00\x00\x00\x00\x00\x01\x00\x02\x00\x03\
+    \x00\x00\x00\x00\x00\x01\x00\x03\x00\x04\x00\x01\x00\x04\x00\x00\x00\x00";
 
 // The text of C's tree with a byte behind it.
 const LONGER: &[u8] = b"\x00\x02\x00\x00\x00\x00\x00";

@@ -17,11 +17,13 @@ const CALENDAR: Bytes =
     b"service_id,monday,tuesday,wednesday,thursday,friday,saturday,sunday,start_date,end_date\nWK,1,1,1,1,1,0,0,20240101,20241231\n";
 
 const STOP_TIMES: Bytes =
-    b"trip_id,stop_id,stop_sequence,arrival_time,departure_time\nT1,A,1,08:00:00,08:00:00\nT1,B,2,08:10:00,08:10:00\nT2,A,1,08:30:00,08:30:00\nT2,B,2,08:40:00,08:40:00\n";
+    b"trip_id,stop_id,stop_sequence,arrival_time,departure_time\nT1,A,1,08:00:00,08:00:00\nT1,B,2,08:10:00,08:10:00\n\
+    T2,A,1,08:30:00,08:30:00\nT2,B,2,08:40:00,08:40:00\n";
 
 // T1 stops at four stops with times at both ends, and T2 at one.
 const TIMES_BETWEEN: Bytes =
-    b"trip_id,stop_id,stop_sequence,arrival_time,departure_time,pickup_type,drop_off_type\nT1,A,1,08:00:00,,,1\nT1,B,2,,,1,\nT1,C,3,,,,\nT1,D,4,08:10:00,,,\nT2,B,1,08:15:00,,,\n";
+    b"trip_id,stop_id,stop_sequence,arrival_time,departure_time,pickup_type,drop_off_type\nT1,A,1,08:00:00,,,1\n\
+    T1,B,2,,,1,\nT1,C,3,,,,\nT1,D,4,08:10:00,,,\nT2,B,1,08:15:00,,,\n";
 
 // The service runs on a Saturday besides, and not on a Tuesday.
 const ADDED: Bytes = b"service_id,date,exception_type\nWK,20240106,1\n";
