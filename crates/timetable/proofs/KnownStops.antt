@@ -1,11 +1,11 @@
 -- The stops of a journey of one ride or more are stops of the timetable.
-use Rattle.std.proofs.Common.{Option, ◌≡◌, ℕ, suc, ◌+◌, ◌<◌, ◌≤◌, ◌==◌, Bool, true, false, List, [], ◌∷◌, length, Some, None, IsSomeAnd, IsTrue, refl, sym, ◌∙◌, ap, subst, arith, option_map, unwrap_or, eqb-true, true≢false, All}
+use Rattle.std.proofs.Common.{Option, ◌≡◌, ℕ, ◌+◌, ◌<◌, ◌≤◌, ◌==◌, Bool, true, false, List, [], ◌∷◌, length, Some, None, IsSomeAnd, IsTrue, refl, sym, subst, arith, option_map, unwrap_or, eqb-true, All}
 use Rattle.std.specs.Prelude.{if◌then◌else◌}
 use Rattle.std.proofs.lemmas.List.Elements.{All-cons, All-nil}
 use Rattle.timetable.specs.declared.parts.Call.{Call}
 use Rattle.timetable.specs.declared.parts.Leg.{Leg}
-use Rattle.timetable.specs.Table.{Table, IsTable, stops_of, walk, walks_of}
-use Rattle.timetable.specs.Journeys.{Ride, Journey, Onward, call_at, from, to, arrives, foot, link, pattern}
+use Rattle.timetable.specs.Table.{Table, IsTable, stops_of, walk}
+use Rattle.timetable.specs.Journeys.{Ride, Journey, Onward, call_at, from, to, arrives, foot, pattern}
 use Rattle.timetable.proofs.Legs.{there, stop_known_at}
 use Rattle.timetable.proofs.Rows.{walk_found, walk_good, walk_from_known}
 
