@@ -1,7 +1,7 @@
 //! Several lives of one file.
 
 use super::town::{build, bytes_of, is_front, life_of, receipts_of, town_of};
-use disk_model::MemDisk;
+use disk_model::{Disk, MemDisk};
 use planner_life::{End, Life, Order, Reply};
 use section_store::PutFault;
 use std::alloc::Global;
@@ -78,5 +78,25 @@ fn three_lives(rt: HostRuntime) -> Result<(), Fail> {
     let last = life_of(alloc, &table, third.disk, &[]);
     assert!(rt; is_front(&last, 3));
     assert_eq!(rt; last.end, End::Done);
+    Ok(())
+}
+
+// A file of 300 bytes, none of them a store's, whose first is a closed gate.
+fn old_file(alloc: Global) -> Result<MemDisk, Fail> {
+    let mut disk = MemDisk::new(alloc);
+    disk.write_at(0, &[0])?;
+    disk.write_at(1, &[7; 299])?;
+    Ok(disk)
+}
+
+// A store is begun in its place. With A and B it has 253 bytes.
+#[test]
+fn a_life_of_an_old_file(rt: HostRuntime) -> Result<(), Fail> {
+    let alloc = rt.alloc();
+    let table = town_of(&rt)?;
+    let mut life = life_of(alloc, &table, old_file(alloc)?, &[build(0), build(1)]);
+    assert!(rt; is_front(&life, 0) && life.end == End::Done);
+    assert_eq!(rt; receipts_of(&life), 2);
+    assert_eq!(rt; bytes_of(alloc, &mut life.disk)?.len(), 253);
     Ok(())
 }
