@@ -108,7 +108,7 @@ impl Direct {
     /// arrives as early as any; none only where there is none. It was made for this timetable, of these lines. It takes no memory.
     ///
     /// The places of both stops are gone through once, side by side. Where a place of alighting lies behind one of boarding on
-    /// the same line, the first instance is found by halves. What can't be better isn't searched: later places of alighting, since
+    /// the same line, the first instance is found by binary search. What can't be better isn't searched: later places of alighting, since
     /// no instance arrives there earlier, and lines whose first instance doesn't arrive before the best ride so far does.
     pub fn earliest(
         &self,
