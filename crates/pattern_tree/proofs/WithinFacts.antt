@@ -1,10 +1,9 @@
 -- The stops of a finished tree are those of its timetable.
-use Rattle.std.proofs.Common.{◌≡◌, ℕ, suc, refl, ◌<◌, ◌≤◌, List, [], ◌∷◌, length, subst, sym, arith, All, Contains}
+use Rattle.std.proofs.Common.{ℕ, suc, refl, ◌<◌, ◌≤◌, List, [], ◌∷◌, length, subst, arith, All, Contains}
 use Rattle.std.proofs.lemmas.List.Elements.{All-head, All-tail}
 use Rattle.timetable.specs.Table.{Table, IsTable, stops_of}
 use Rattle.timetable.proofs.KnownStops.{journey_known}
 use Rattle.pattern_tree.specs.Forest.{Step, Pair}
-use Rattle.pattern_tree.specs.Content.{Content}
 use Rattle.pattern_tree.specs.Completeness.{Earned}
 use Rattle.pattern_tree.specs.Finished.{FinishedTree, IsFinished}
 use Rattle.pattern_tree.specs.Within.{PathBelow, PairsBelow, IsWithin}

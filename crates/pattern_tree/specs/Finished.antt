@@ -1,5 +1,5 @@
 -- A tree that is done, with what it is for.
-use Rattle.std.specs.Prelude.{ℕ, ◌<◌, ◌≤◌, List, [], ◌∷◌}
+use Rattle.std.specs.Prelude.{ℕ, ◌<◌, ◌≤◌}
 use Rattle.timetable.specs.Table.{Table, IsTable, stops_of}
 use Rattle.pattern_tree.specs.Content.{Content, longest}
 use Rattle.pattern_tree.specs.Completeness.{Complete, Earned}
