@@ -1,9 +1,9 @@
 -- What readers look at.
-use Rattle.std.specs.Prelude.{◌≡◌, ℕ, Option, List}
+use Rattle.std.specs.Prelude.{◌≡◌, Option, List}
 use Rattle.timetable.specs.Table.{stops_of}
 use Rattle.pattern_tree.specs.Content.{Content}
 use Rattle.board.specs.Front.{Front}
-use Rattle.board.specs.Trees.{with_tree, board_after, GoesOn}
+use Rattle.board.specs.Trees.{board_after, GoesOn}
 use Rattle.board.specs.declared.origin.Origin.{Origin}
 
 -- what the board was opened for, the list of the trees that were shown, and for each stop its tree, where it is shown

@@ -75,7 +75,12 @@ impl Model for Writer {
 
 impl Writer {
     // The writer of a board that is shown.
-    pub(crate) fn new(copies: Copies, history: History, told: Told, origin: Snapshot<Origin>) -> Writer
+    pub(crate) fn new(
+        copies: Copies,
+        history: History,
+        told: Told,
+        origin: Snapshot<Origin>,
+    ) -> Writer
         requires { IsWriting origin.value history.count.book told false copies.desk.shown.value (view copies.desk.place)
             (drop copies.behind copies.log.items) }
         ensures { result ≡ record { origin = origin.value; told = told; halted = false } }

@@ -18,7 +18,7 @@ show-copies-requires-clause-board g c board =
     let tree : Content = c.into_parts-form.result.1 in
     let writes : IsWriting mine.origin.value mine.history.count.book mine.told mine.halted copies.desk.shown.value (view copies.desk.place) (drop copies.behind copies.log.items) =
     at_some (λ k. IsWriting mine.origin.value mine.history.count.book mine.told mine.halted k.desk.shown.value (view k.desk.place) (drop k.behind k.log.items))
-        mine.copies copies (sym c.take.ensures.value ∙ c.in-Some.is) c.self.invariant in
+    mine.copies copies (sym c.take.ensures.value ∙ c.in-Some.is) c.self.invariant in
     let form : c.args.stored.form ≡ copies.desk.shown.value.origin.form =
     c.requires.form ∙ ap (λ w. w.origin.form) (sym c.self.view_is) ∙ ap (λ o. o.form) (sym writes.shows.origin) in
     let right : IsRight c.args.stored.form tree = subst (IsRight c.args.stored.form) (sym c.into_parts-form.ensures.tree) c.into_parts-form.ensures.right in
