@@ -27,9 +27,9 @@ pub record IsShowing (o : Origin) (b : BoardData) (v : Option Origin) : Type 0 w
   pub origin : b.origin ≡ o
   pub knows : v ≡ Some o
 
--- the writer's list is that of the board which it shows; unless it is halted, nothing waits to be shown
-pub record IsWriting {C : Type 0} (o : Origin) (book : Book) (told : Front) (halted : Bool) (b : BoardData) (v : Option Origin) (waiting : List C) : Type 0 where
+-- the writer's list is that of the board which it shows; unless the writer takes no more, nothing waits to be shown
+pub record IsWriting {C : Type 0} (o : Origin) (book : Book) (told : Front) (shut : Bool) (b : BoardData) (v : Option Origin) (rest : List C) : Type 0 where
   pub shows : IsShowing o b v
   pub told_is : b.told ≡ told
   pub book_is : book ≡ told.book
-  pub idle : halted ≡ false → waiting ≡ []
+  pub idle : shut ≡ false → rest ≡ []

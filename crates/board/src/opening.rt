@@ -104,7 +104,8 @@ fn shown_first<R: Wait>(
 // So many readers.
 fn seats(alloc: Global, writer: &mut Writer, readers: usize) -> Result<Vec<Reader>, AllocError>
     ensures count { IfOk result (λ seats. length seats.items ≡ readers) }
-    ensures each { IfOk result (λ seats. All (λ reader. reader ≡ record { origin = writer.old.origin; told = writer.old.told }) seats.items) }
+    ensures each { IfOk result (λ seats.
+        All (λ reader. reader ≡ record { origin = writer.old.origin; told = writer.old.told }) seats.items) }
     ensures same { writer.new ≡ writer.old }
 {
     let mut seats = Vec::new(alloc);

@@ -1,6 +1,7 @@
 //! The writer of a board.
 
-ghost use Rattle.std.specs.Prelude.{◌≡◌, ◌++◌, ◌∷◌, [], true, false, drop, Some, None, Err, IfOk, IfErr, IfSome, MatchBool, MatchResult};
+ghost use Rattle.std.specs.Prelude.{◌≡◌, ◌++◌, ◌∷◌, [], true, false, drop, Some, None, Err};
+ghost use Rattle.std.specs.Prelude.{IfOk, IfErr, IfSome, MatchBool, MatchResult};
 ghost use Rattle.left_right.specs.Sides.{view};
 ghost use Rattle.board.specs.Board.{IsBoard};
 ghost use Rattle.board.specs.Change.{changed};
@@ -97,8 +98,8 @@ impl Writer {
     /// Shows one tree more, which is for the board's timetable and the most rides. It may wait for readers that are still
     /// looking at what was shown before the last call.
     ///
-    /// At `Err` nothing is shown. The tree comes back where an earlier call kept one, and then at once; where it doesn't come back,
-    /// the board couldn't take it in, and each later call hands its tree back.
+    /// At `Err` nothing is shown. Where the tree doesn't come back, there was no memory to take it in, or too many hold it; from then
+    /// on the board takes no more, and each later call hands its tree back at once.
     pub fn publish<R: Wait>(&mut self, rt: &R, stored: Stored) -> Result<(), Option<Stored>>
         requires form { stored.form ≡ self.old.origin.form }
         ensures list { MatchResult result
