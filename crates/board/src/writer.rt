@@ -70,8 +70,9 @@ impl Model for Writer {
 
     ghost view = { λ w. record { origin = w.origin.value; told = w.told; halted = w.halted } };
 
-    ghost invariant = { λ w. IsSomeAnd w.copies (λ c. IsWriting w.origin.value w.history.count.book w.told w.halted c.desk.shown.value
-        (view_of c.desk.place) (drop c.behind c.log.items)) };
+    ghost invariant = { λ w. IsSomeAnd w.copies (λ c. IsWriting
+        (record { origin = w.origin.value; told = w.told; halted = w.halted }) w.history.count.book
+        c.desk.shown.value (view_of c.desk.place) (drop c.behind c.log.items)) };
 }
 
 impl Writer {
@@ -82,8 +83,8 @@ impl Writer {
         told: Told,
         origin: Snapshot<Origin>,
     ) -> Writer
-        requires { IsWriting origin.value history.count.book told false copies.desk.shown.value (view copies.desk.place)
-            (drop copies.behind copies.log.items) }
+        requires { IsWriting (record { origin = origin.value; told = told; halted = false }) history.count.book
+            copies.desk.shown.value (view copies.desk.place) (drop copies.behind copies.log.items) }
         ensures { result ≡ record { origin = origin.value; told = told; halted = false } }
     {
         Writer {

@@ -151,7 +151,10 @@ fn found_once_told(rt: HostRuntime) -> Result<(), Fail> {
     writer.close(&rt);
     let (_reader, closed) = finds(reader, source);
     assert!(rt; shown);
-    assert_eq!(rt; (before, after, closed), (Some((false, 0)), Some((true, 1)), None));
+    assert_eq!(rt;
+        (before, after, closed),
+        (Some((false, 0)), Some((true, 1)), None)
+    );
     Ok(())
 }
 
@@ -171,7 +174,14 @@ fn looks_never_go_back(rt: HostRuntime) -> Result<(), Fail> {
         || look_on(&rt, reader, PUBLISHED as u64),
     );
     writer.close(&rt);
-    println!(rt; "{} looks, the slowest of {} microseconds", met.looks, met.slowest.as_micros())?;
-    assert_eq!(rt; (shown, met.last, met.went_back), (PUBLISHED, PUBLISHED as u64, false));
+    println!(rt;
+        "{} looks, the slowest of {} microseconds",
+        met.looks,
+        met.slowest.as_micros()
+    )?;
+    assert_eq!(rt;
+        (shown, met.last, met.went_back),
+        (PUBLISHED, PUBLISHED as u64, false)
+    );
     Ok(())
 }

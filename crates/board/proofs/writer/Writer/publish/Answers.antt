@@ -3,7 +3,7 @@ use Rattle.left_right.specs.Sides.{view}
 use Rattle.pattern_tree.specs.Content.{Content}
 use Rattle.section_store.specs.Sections.{Form}
 use Rattle.board.specs.Front.{Front, followed_by}
-use Rattle.board.specs.Ties.{IsWriting}
+use Rattle.board.specs.Ties.{WriterData, IsWriting}
 use Rattle.board.specs.Trees.{IsRight}
 use Rattle.board.proofs.Growth.{board_more}
 use Rattle.board.proofs.writer.Writer.publish.Goals as goal
@@ -16,8 +16,9 @@ show-copies-requires-clause-board g c board =
     let copies = c.in-Some.copies in
     let mine = c.self.inside in
     let tree : Content = c.into_parts-form.result.1 in
-    let writes : IsWriting mine.origin.value mine.history.count.book mine.told mine.halted copies.desk.shown.value (view copies.desk.place) (drop copies.behind copies.log.items) =
-    at_some (λ k. IsWriting mine.origin.value mine.history.count.book mine.told mine.halted k.desk.shown.value (view k.desk.place) (drop k.behind k.log.items))
+    let now : WriterData = record { origin = mine.origin.value; told = mine.told; halted = mine.halted } in
+    let writes : IsWriting now mine.history.count.book copies.desk.shown.value (view copies.desk.place) (drop copies.behind copies.log.items) =
+    at_some (λ k. IsWriting now mine.history.count.book k.desk.shown.value (view k.desk.place) (drop k.behind k.log.items))
     mine.copies copies (sym c.take.ensures.value ∙ c.in-Some.is) c.self.invariant in
     let form : c.args.stored.form ≡ copies.desk.shown.value.origin.form =
     c.requires.form ∙ ap (λ w. w.origin.form) (sym c.self.view_is) ∙ ap (λ o. o.form) (sym writes.shows.origin) in
