@@ -1,0 +1,6 @@
+//! The tests of the board over the sample feed. They stand apart, since they start threads, and since a check of tests that read a
+//! feed reads all that reads one.
+#![tactic(auto)]
+
+#[cfg(test)]
+mod tests;

@@ -1,0 +1,212 @@
+//! Looks at a board of the sample feed: before and after a tree is shown, beside a writer in another thread, and once it is closed.
+
+ghost use Rattle.std.specs.Prelude.{◌≡◌, ◌<◌, IfOk};
+ghost use Rattle.std.specs.Arc.{arc_value};
+ghost use Rattle.timetable.specs.Table.{stops_of};
+ghost use Rattle.section_store.specs.Sections.{form_of};
+
+use board::{Reader, Stored, Writer, open};
+use pattern_building::finish;
+use pattern_tree::{Arena, Finished};
+use rounds::Scratch;
+use sample_feed::demo;
+use section_store::Receipt;
+use std::alloc::{AllocError, Global};
+use std::sync::{Arc, Wait};
+use std::test::Fail;
+use std::thread;
+use std::time::{Clock, Duration, Instant};
+use timetable::{Rides, StopId, Timetable};
+
+const PUBLISHED: usize = 5_000;
+
+// The finished tree of a stop.
+fn tree(alloc: Global, table: &Arc<Timetable>, source: u16) -> Result<Finished, Fail>
+    requires stops { stops_of (arc_value table.now) ≡ 5 }
+    requires source { source < 5 }
+    ensures { IfOk result (λ tree. form_of tree.table tree.rides ≡ form_of (arc_value table.now) 3) }
+{
+    let rides = Rides::new(3);
+    let mut scratch = Scratch::new(alloc, table, rides)?;
+    let mut arena = Arena::new(alloc)?;
+    let source = StopId::new(source);
+    Ok(finish(alloc, table, source, rides, &mut scratch, &mut arena)?)
+}
+
+// A tree with a receipt. Where memory is refused both come back, and it is made once more.
+fn stored(alloc: Global, tree: Finished) -> Result<Stored, AllocError>
+    ensures { IfOk result (λ stored. stored.form ≡ form_of tree.table tree.rides) }
+{
+    let receipt = Receipt {
+        source: tree.tree().source(),
+        number: 0,
+    };
+    match Stored::new(alloc, tree, receipt) {
+        Ok(stored) => Ok(stored),
+        Err((tree, receipt)) => match Stored::new(alloc, tree, receipt) {
+            Ok(stored) => Ok(stored),
+            Err(_) => Err(AllocError),
+        },
+    }
+}
+
+// Whether the reader finds the tree of a stop, and how many trees are shown; none where the look is refused.
+fn finds(reader: Reader, source: StopId) -> (Reader, Option<(bool, u64)>)
+    ensures { result.0.told.book ≡ reader.told.book }
+{
+    match reader.look() {
+        Err(reader) => (reader, None),
+        Ok(view) => {
+            let found = view
+                .patterns(source)
+                .is_some_and(|patterns| patterns.source() == source);
+            let count = view.told().count();
+            (view.leave(), Some((found, count)))
+        }
+    }
+}
+
+// A writer, and a finished tree for its board, of which it shows copies.
+struct Showing {
+    writer: Writer,
+    tree: Finished,
+    ghost form: { form_of tree.table tree.rides ≡ writer.origin.form },
+}
+
+impl Showing {
+    // Shows one copy more; whether it did.
+    fn show_one<R: Wait>(&mut self, rt: &R, alloc: Global) -> bool {
+        let Ok(copy) = self.tree.try_copy(alloc) else {
+            return false;
+        };
+        let Ok(stored) = stored(alloc, copy) else {
+            return false;
+        };
+        self.writer.publish(rt, stored).is_ok()
+    }
+
+    // Shows so many copies; how many were shown.
+    fn show<R: Wait>(&mut self, rt: &R, alloc: Global, count: usize) -> usize {
+        for shown in 0..count {
+            if !self.show_one(rt, alloc) {
+                return shown;
+            }
+        }
+        count
+    }
+
+    // Ends the board.
+    fn close<R: Wait>(self, rt: &R) {
+        let Showing {
+            writer,
+            tree: _tree,
+        } = self;
+        writer.close(rt);
+    }
+}
+
+// A board without trees, and its one reader.
+fn opened(
+    rt: &HostRuntime,
+    alloc: Global,
+    table: &Arc<Timetable>,
+) -> Result<(Writer, Reader), Fail>
+    ensures form { IfOk result (λ r. r.0.origin.form ≡ form_of (arc_value table.now) 3) }
+    ensures told { IfOk result (λ r. r.1.told ≡ r.0.told) }
+{
+    let (writer, mut readers) = open(alloc, rt, table, Rides::new(3), Vec::new(alloc), 1)?;
+    match readers.pop() {
+        Some(reader) => Ok((writer, reader)),
+        None => {
+            writer.close(rt);
+            Err(Fail::new("no reader"))
+        }
+    }
+}
+
+// What a reader met that looked on and on: how many trees it saw last, whether a look ever showed fewer than one before, how many
+// looks there were, and how long the slowest took.
+#[derive(Drop)]
+struct Looks {
+    last: u64,
+    went_back: bool,
+    looks: u64,
+    slowest: Duration,
+}
+
+// Looks until so many trees are shown. It has no leave to wait.
+fn look_on<C: Clock>(clock: &C, reader: Reader, until: u64) -> (Reader, Looks) {
+    let mut reader = reader;
+    let mut met = Looks {
+        last: 0,
+        went_back: false,
+        looks: 0,
+        slowest: Duration::ZERO,
+    };
+    for _ in 0..u64::MAX {
+        if met.last >= until {
+            break;
+        }
+        let start = Instant::now(clock);
+        let (back, found) = finds(reader, StopId::default());
+        reader = back;
+        if let Ok(start) = start {
+            if let Ok(time) = start.elapsed(clock) {
+                met.slowest = met.slowest.max(time);
+            }
+        }
+        met.looks = met.looks.wrapping_add(1);
+        if let Some((_, count)) = found {
+            met.went_back = met.went_back || count < met.last;
+            met.last = count;
+        }
+    }
+    (reader, met)
+}
+
+#[test]
+fn found_once_told(rt: HostRuntime) -> Result<(), Fail> {
+    let alloc = rt.alloc();
+    let table = Arc::new(alloc, demo(&rt)?)?;
+    let b = tree(alloc, &table, 1)?;
+    let source = b.tree().source();
+    let stored = stored(alloc, b)?;
+    let (mut writer, reader) = opened(&rt, alloc, &table)?;
+    let (mut reader, before) = finds(reader, source);
+    let shown = writer.publish(&rt, stored).is_ok();
+    reader.learn(&writer.tell());
+    let (reader, after) = finds(reader, source);
+    writer.close(&rt);
+    let (_reader, closed) = finds(reader, source);
+    assert!(rt; shown);
+    assert_eq!(rt;
+        (before, after, closed),
+        (Some((false, 0)), Some((true, 1)), None)
+    );
+    Ok(())
+}
+
+#[test]
+fn looks_never_go_back(rt: HostRuntime) -> Result<(), Fail> {
+    let alloc = rt.alloc();
+    let table = Arc::new(alloc, demo(&rt)?)?;
+    let a = tree(alloc, &table, 0)?;
+    let (writer, reader) = opened(&rt, alloc, &table)?;
+    let mut showing = Showing { writer, tree: a };
+    let (shown, (_reader, met)) = thread::join(
+        &rt,
+        || showing.show(&rt, alloc, PUBLISHED),
+        || look_on(&rt, reader, PUBLISHED as u64),
+    );
+    showing.close(&rt);
+    println!(rt;
+        "{} looks, the slowest of {} microseconds",
+        met.looks,
+        met.slowest.as_micros()
+    )?;
+    assert_eq!(rt;
+        (shown, met.last, met.went_back),
+        (PUBLISHED, PUBLISHED as u64, false)
+    );
+    Ok(())
+}
