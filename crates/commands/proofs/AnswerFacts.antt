@@ -14,9 +14,10 @@ use Rattle.pattern_query.specs.Answer.{PointData, numbers, AreBest}
 use Rattle.planner.specs.Forest.{AreAllTrees}
 use Rattle.planner.specs.Questions.{AreComplete, IsAskedPoint, IsFirstMissing, ReachesBetween}
 use Rattle.commands.specs.Answers.{IsRideBetween, Shows}
-use Rattle.commands.specs.Points.{IsJourneyBetween, ShowsNumbers, Tells}
-use Rattle.commands.specs.declared.answer.Point.{Point}
-use Rattle.commands.specs.Basis.{BasisData}
+use Rattle.commands.specs.Found.{IsJourneyBetween}
+use Rattle.told_journeys.specs.Points.{ShowsNumbers, Tells}
+use Rattle.answer_lines.specs.declared.answer.Point.{Point}
+use Rattle.feed_basis.specs.Basis.{BasisData}
 
 pub contains_one : (s : ℕ) → Contains (s ∷ []) s
 contains_one s = (0, omega arith, refl)

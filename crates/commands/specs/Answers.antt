@@ -5,18 +5,20 @@ use Rattle.std.specs.List.{AllZip, Contains}
 use Rattle.timetable.specs.declared.parts.Leg.{Leg}
 use Rattle.timetable.specs.declared.parts.Numbers.{Numbers}
 use Rattle.timetable.specs.Journeys.{Journey, Serves, arrives}
+use Rattle.timetable.specs.Table.{Table}
 use Rattle.pattern_query.specs.Answer.{AreBest}
 use Rattle.planner.specs.Questions.{ReachesBetween}
-use Rattle.commands.specs.declared.answer.Answer.{Answer}
-use Rattle.commands.specs.declared.answer.Answer.TheVariants as answers
-use Rattle.commands.specs.declared.answer.Point.{Point}
-use Rattle.commands.specs.Basis.{BasisData}
+use Rattle.answer_lines.specs.declared.answer.Answer.{Answer}
+use Rattle.answer_lines.specs.declared.answer.Answer.TheVariants as answers
+use Rattle.answer_lines.specs.declared.answer.Point.{Point}
+use Rattle.feed_basis.specs.Basis.{BasisData}
 use Rattle.command_line.specs.declared.job.Job.{Job}
 use Rattle.command_line.specs.declared.job.Question.{Question}
 use Rattle.command_line.specs.declared.job.Task.{Task}
 use Rattle.command_line.specs.declared.job.Task.TheVariants as tasks
-use Rattle.commands.specs.declared.stages.Stage.{Stage}
-use Rattle.commands.specs.Stages.{Says, ShowsPart, parts_of}
+use Rattle.answer_lines.specs.declared.stage.Stage.{Stage}
+use Rattle.answer_lines.specs.Moments.{Says}
+use Rattle.told_journeys.specs.Stages.{ShowsPart, parts_of}
 use Rattle.command_line.specs.Tasks.{question_of}
 use Rattle.commands.specs.Tasks.{stops_for}
 
@@ -65,18 +67,18 @@ IsAnswerTo (tasks.Scan question) k basis = ArePoints basis k false
 IsAnswerTo (tasks.Ask question on legs) k basis = ArePoints basis k legs
 
 -- the question's ids stand for these stops, and its moment is this one, which is covered
-pub record IsAsked (stops : List ℕ → Option (List ℕ)) (basis : BasisData) (question : Question) (froms tos : List ℕ) (depart : ℕ) : Type 0 where
+pub record IsAsked (stops : List ℕ → Option (List ℕ)) (table : Table) (moment : Option ℕ) (question : Question) (froms tos : List ℕ) (depart : ℕ) : Type 0 where
   pub leaves : stops question.from.now ≡ Some froms
   pub reaches : stops question.to.now ≡ Some tos
-  pub moment : basis.moment ≡ Some depart
-  pub covered : depart ≤ basis.timetable.horizon
+  pub leaves_at : moment ≡ Some depart
+  pub covered : depart ≤ table.horizon
 
 -- the answer is right between the question's stops at its moment
-abbrev pub IsAnswered : (List ℕ → Option (List ℕ)) → (List ℕ → List ℕ → ℕ → Answer → Type 0) → BasisData → Question → Answer → Type 0
-IsAnswered stops Right basis question answer =
-    (froms : List ℕ) × (tos : List ℕ) × (depart : ℕ) × IsAsked stops basis question froms tos depart × Right froms tos depart answer
+abbrev pub IsAnswered : (List ℕ → Option (List ℕ)) → (List ℕ → List ℕ → ℕ → Answer → Type 0) → Table → Option ℕ → Question → Answer → Type 0
+IsAnswered stops Right table moment question answer =
+    (froms : List ℕ) × (tos : List ℕ) × (depart : ℕ) × IsAsked stops table moment question froms tos depart × Right froms tos depart answer
 
 -- the answer to a job: between the stops of its ids, at a covered moment
-abbrev pub IsAnswer : BasisData → Job → Answer → Type 0
-IsAnswer basis job answer =
-    IsAnswered (stops_for job.task basis.names) (IsAnswerTo job.task job.settings.rides basis) basis (question_of job.task) answer
+abbrev pub IsAnswer : BasisData → Option ℕ → Job → Answer → Type 0
+IsAnswer basis moment job answer =
+    IsAnswered (stops_for job.task basis.names) (IsAnswerTo job.task job.settings.rides basis) basis.timetable moment (question_of job.task) answer

@@ -1,9 +1,7 @@
 pub mod Answers
-pub mod Basis
 pub mod Feeds
-pub mod Points
-pub mod Printed
+pub mod Found
 pub mod Refusals
 pub mod Runs
-pub mod Stages
 pub mod Tasks
+pub mod Words

@@ -5,10 +5,11 @@ ghost use Rattle.gtfs_tables.specs.Feed.{Feed, AreReaders};
 ghost use Rattle.commands.specs.Feeds.{IsFeedAnswer, IsFeedFault};
 ghost use Rattle.commands.specs.Runs.{IsRun};
 
-use crate::answer::Answer;
 use crate::asking::perform;
-use crate::basis::basis_of;
+use crate::leaving::date_time;
+use answer_lines::Answer;
 use command_line::Job;
+use feed_basis::basis_of;
 use gtfs_tables::Files;
 use program_inputs::{Fault, unwritten};
 use std::alloc::Global;
@@ -25,8 +26,10 @@ fn answer<'a, R: Read + Drop>(
     ensures answer { (feed : Feed) → AreReaders R.remaining files feed → IfOk result (IsFeedAnswer feed job.now) }
     ensures fault { (feed : Feed) → AreReaders R.remaining files feed → IfErr result (IsFeedFault feed job.now) }
 {
-    let basis = basis_of(alloc, keys, job, files)?;
-    perform(alloc, &basis, job)
+    let words = date_time(job)?;
+    let basis = basis_of(alloc, keys, &job.settings, words.first, files)?;
+    let moment = basis.moment(words.day, words.seconds);
+    perform(alloc, &basis, moment, job)
 }
 
 /// Does the job over the feed's files: the answer goes to `out`, a fault to `err` behind `tp: `. Gives the status to end

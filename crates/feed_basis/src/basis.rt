@@ -2,22 +2,20 @@
 
 ghost use Rattle.std.specs.Prelude.{◌≡◌, ◌∷◌, ◌<◌, ◌↔◌, [], IsTrue, IfOk, IfErr, IfSome, option_map};
 ghost use Rattle.std.specs.Arc.{arc_value};
-ghost use Rattle.timetable.specs.Table.{IsTable, stops_of};
-ghost use Rattle.planner.specs.Places.{stops_at};
-ghost use Rattle.gtfs_tables.specs.Feed.{Feed, AreReaders};
-ghost use Rattle.feed_basis.specs.Basis.{AreDateTime, AreTablesOf, IsBasis, IsSound};
-ghost use Rattle.feed_basis.specs.BasisFaults.{IsBasisFault, IsWordFault};
-ghost use Rattle.feed_basis.specs.Ids.{IsKnown};
 ghost use Rattle.answer_lines.specs.Moments.{Says};
-ghost use Rattle.feed_basis.specs.Ids.{stop_alone};
+ghost use Rattle.feed_basis.specs.Basis.{AreTablesOf, IsBasis, IsSound};
+ghost use Rattle.feed_basis.specs.BasisFaults.{IsBasisFault};
+ghost use Rattle.feed_basis.specs.Ids.{IsKnown, stop_alone};
+ghost use Rattle.gtfs_tables.specs.Feed.{Feed, AreReaders};
+ghost use Rattle.planner.specs.Places.{stops_at};
+ghost use Rattle.service_days.specs.Answers.{IsMoment};
+ghost use Rattle.timetable.specs.Table.{IsTable, stops_of};
 
 use answer_lines::{DayTime, day_time};
-use command_line::Job;
 use direct_connections::Network;
 use gtfs_tables::{Files, Tables, read_tables};
-use gtfs_text::{date, time};
 use jiff::civil::Date;
-use program_inputs::{Fault, NO_KEYS};
+use program_inputs::{Fault, NO_KEYS, Settings};
 use service_days::Cover;
 use std::alloc::{AllocError, Global};
 use std::hash::RandomState;
@@ -26,13 +24,12 @@ use std::marker::Model;
 use std::sync::Arc;
 use timetable::{Names, StopId, Timetable, assemble};
 
-/// A feed's timetable on the covered days, and when to leave.
+/// A feed's timetable on the covered days, with the ids of its stops, stations and trips.
 #[derive(Drop)]
 pub struct Basis {
     timetable: Arc<Timetable>,
     names: Names,
     cover: Cover,
-    moment: Option<u32>,
 }
 
 impl Model for Basis {
@@ -41,9 +38,9 @@ impl Model for Basis {
 
     ghost Value = { BasisData };
 
-    ghost view = { λ b. record { timetable = arc_value b.timetable; names = b.names; cover = b.cover; moment = b.moment } };
+    ghost view = { λ b. record { timetable = arc_value b.timetable; names = b.names; cover = b.cover } };
 
-    ghost invariant = { λ b. IsSound (record { timetable = arc_value b.timetable; names = b.names; cover = b.cover; moment = b.moment }) };
+    ghost invariant = { λ b. IsSound (record { timetable = arc_value b.timetable; names = b.names; cover = b.cover }) };
 }
 
 impl Basis {
@@ -52,6 +49,13 @@ impl Basis {
         ensures value { result.now ≡ self.now.timetable }
         ensures valid { IsTable result.now }
         ensures sound { IsSound self.now }
+    {
+        &self.timetable
+    }
+
+    /// The timetable, for one more that holds it.
+    pub fn shared(&self) -> &Arc<Timetable>
+        ensures { arc_value result.now ≡ self.now.timetable }
     {
         &self.timetable
     }
@@ -94,61 +98,29 @@ impl Basis {
         day_time(&self.cover, moment)
     }
 
-    /// The moment to leave at, in seconds from the start of the first covered day; none where the date isn't covered, or the time is
-    /// past 167:59:59.
-    pub fn moment(&self) -> Option<u32>
-        ensures { result ≡ self.now.moment }
+    /// The moment of a time of a day, in seconds from the start of the first covered day; none where the day isn't covered, or the
+    /// time is past 167:59:59.
+    pub fn moment(&self, day: Date, seconds: u32) -> Option<u32>
+        ensures { IsMoment self.now.cover day seconds result }
     {
-        self.moment
+        self.cover.moment(day, seconds)
     }
 }
 
-// What the job's words say of days and times.
-#[derive(Clone, Copy)]
-struct DateTime {
-    first: Date,
-    day: Date,
-    seconds: u32,
-}
-
-// The first covered date, the date to leave on, and the time of that day.
-fn date_time<'a>(job: &Job<'a>) -> Result<DateTime, Fault<'a>>
-    ensures ok { IfOk result (λ words. AreDateTime job.now words.first words.day words.seconds) }
-    ensures err { IfErr result (IsWordFault job.now) }
-{
-    let Some(first) = date(job.settings.date) else {
-        return Err(Fault::BadDate);
-    };
-    let Some(day) = date(job.day()) else {
-        return Err(Fault::BadDate);
-    };
-    let Some(seconds) = time(job.task.question().at) else {
-        return Err(Fault::BadTime);
-    };
-    Ok(DateTime {
-        first,
-        day,
-        seconds,
-    })
-}
-
-// What a job's question is asked of, over the feed's tables and what the words say of days and times.
+// The timetable of a feed's tables on the days from the first one on.
 fn basis_over<'a>(
     alloc: Global,
     keys: RandomState,
-    job: &Job<'a>,
-    words: DateTime,
+    settings: &Settings<'a>,
+    first: Date,
     tables: &Tables,
 ) -> Result<Basis, Fault<'a>>
-    requires { AreDateTime job.now words.first words.day words.seconds }
-    ensures basis { (feed : Feed) → AreTablesOf feed tables.now → IfOk result (IsBasis feed job.now) }
-    ensures fault { (feed : Feed) → AreTablesOf feed tables.now → IfErr result (IsBasisFault feed job.now) }
+    ensures basis { (feed : Feed) → AreTablesOf feed tables.now → IfOk result (IsBasis feed settings.now first) }
+    ensures fault { (feed : Feed) → AreTablesOf feed tables.now → IfErr result (IsBasisFault feed settings.now first) }
 {
-    let settings = &job.settings;
-    let cover = Cover::new(words.first, settings.days, settings.zone)?;
+    let cover = Cover::new(first, settings.days, settings.zone)?;
     let timetable = assemble(alloc, tables, &cover, settings.default_walk)?;
     let names = Names::of(alloc, keys, tables)?;
-    let moment = cover.moment(words.day, words.seconds);
     let Ok(timetable) = Arc::new(alloc, timetable) else {
         return Err(Fault::Memory);
     };
@@ -156,25 +128,24 @@ fn basis_over<'a>(
         timetable,
         names,
         cover,
-        moment,
     })
 }
 
-/// What a job's question is asked of, over the feed's files. It is given only where the job's dates, time and zone are ones, and every
-/// test of the feed holds. Where there are no `keys` for the look-up of ids, that is a feed whose reader failed.
+/// What questions are asked of, over the feed's files and the days from the first one on. It is given only where every test of the feed
+/// holds and the settings' zone is one. Where there are no `keys` for the look-up of ids, that is a feed whose reader failed.
 pub fn basis_of<'a, R: Read + Drop>(
     alloc: Global,
     keys: Option<RandomState>,
-    job: &Job<'a>,
+    settings: &Settings<'a>,
+    first: Date,
     files: Files<R>,
 ) -> Result<Basis, Fault<'a>>
-    ensures basis { (feed : Feed) → AreReaders R.remaining files feed → IfOk result (IsBasis feed job.now) }
-    ensures fault { (feed : Feed) → AreReaders R.remaining files feed → IfErr result (IsBasisFault feed job.now) }
+    ensures basis { (feed : Feed) → AreReaders R.remaining files feed → IfOk result (IsBasis feed settings.now first) }
+    ensures fault { (feed : Feed) → AreReaders R.remaining files feed → IfErr result (IsBasisFault feed settings.now first) }
 {
-    let words = date_time(job)?;
     let Some(keys) = keys else {
         return Err(Fault::Feed(NO_KEYS));
     };
     let tables = read_tables(alloc, keys, files)?;
-    basis_over(alloc, keys, job, words, &tables)
+    basis_over(alloc, keys, settings, first, &tables)
 }

@@ -1,5 +1,5 @@
-//! What the program's questions are asked of: a feed's timetable on the covered days, its ids, and the moment to leave at; or the
-//! fault of the words, the feed or its days.
+//! What the program's questions are asked of: a feed's timetable on the covered days, and the ids of its stops and trips; or the fault
+//! of the feed or its days.
 #![tactic(auto)]
 
 mod basis;

@@ -6,9 +6,9 @@ use Rattle.std.proofs.lemmas.Slice.Zip.{all_zipped_more}
 use Rattle.timetable.specs.declared.parts.Leg.{Leg}
 use Rattle.timetable.specs.Table.{Table}
 use Rattle.timetable.specs.Journeys.{from, to, arrives}
-use Rattle.commands.specs.Stages.{parts_of, walk_part}
-use Rattle.commands.specs.declared.parts.Part.{Part}
-use Rattle.commands.specs.declared.parts.Part.TheVariants as parts
+use Rattle.told_journeys.specs.Stages.{parts_of, walk_part}
+use Rattle.told_journeys.specs.declared.parts.Part.{Part}
+use Rattle.told_journeys.specs.declared.parts.Part.TheVariants as parts
 
 -- one item more
 pub zip_more : {A B : Type 0} (R : A → B → Type 0) (xs : List A) (ys : List B) (i : ℕ) (d : A) (y : B) → i < length xs

@@ -8,10 +8,10 @@ use Rattle.timetable.specs.Table.{Table, Run, IsTable, walk}
 use Rattle.timetable.specs.Journeys.{call_at, Ride, from, to, arrives, Journey, Onward}
 use Rattle.timetable.proofs.Legs.{calls_are, call_is, there, ride_within}
 use Rattle.timetable.proofs.Rows.{walk_short}
-use Rattle.commands.specs.Basis.{BasisData, IsSound}
-use Rattle.commands.specs.Points.{IsKnownPart}
-use Rattle.commands.specs.Stages.{parts_of, walk_part, trip_of}
-use Rattle.commands.specs.declared.parts.Part.TheVariants as parts
+use Rattle.feed_basis.specs.Basis.{BasisData, IsSound}
+use Rattle.told_journeys.specs.Points.{IsKnownPart}
+use Rattle.told_journeys.specs.Stages.{parts_of, walk_part, trip_of}
+use Rattle.told_journeys.specs.declared.parts.Part.TheVariants as parts
 
 -- no leg arrives later than the latest call
 pub arrives_by : (table : Table) (leg : Leg) → IsTable table → arrives table leg ≤ 3_455_998

@@ -1,34 +1,15 @@
--- A journey of an answer as it is told. Only private clauses cite these words.
-use Rattle.std.specs.Prelude.{◌≡◌, ℕ, ◌<◌, Bool, true, false, List, [], length, map, Some}
-use Rattle.std.specs.List.{All, AllZip, Contains}
+-- A journey as it is told.
+use Rattle.std.specs.Prelude.{◌≡◌, ℕ, ◌<◌, Bool, true, false, [], length}
+use Rattle.std.specs.List.{All, AllZip}
 use Rattle.timetable.specs.declared.parts.Numbers.{Numbers}
-use Rattle.timetable.specs.Table.{Table}
-use Rattle.timetable.specs.Journeys.{Journey, from, to}
-use Rattle.pattern_query.specs.Answer.{PointData, AreBest, numbers}
-use Rattle.planner.specs.Places.{stops_at}
-use Rattle.planner.specs.Questions.{ReachesBetween}
-use Rattle.command_line.specs.declared.job.Question.{Question}
-use Rattle.commands.specs.declared.answer.Point.{Point}
-use Rattle.commands.specs.Basis.{BasisData}
-use Rattle.commands.specs.declared.parts.Part.{Part}
-use Rattle.commands.specs.declared.parts.Part.TheVariants as parts
-use Rattle.commands.specs.Stages.{Says, ShowsPart, parts_of, trip_of}
-
--- the point is a journey from one of the first stops at d to one of the others, with its numbers
-pub record IsJourneyBetween (table : Table) (froms tos : List ℕ) (d : ℕ) (p : PointData) : Type 0 where
-  pub starts : Contains froms p.from
-  pub ends : Contains tos p.to
-  pub journey : Journey table p.from d p.legs p.to p.arrival
-  pub rides : length p.legs ≡ p.rides
-
--- journeys between the stops of the question's ids at d: the best of all of at most k rides, by rising rides
-pub record AreFound (basis : BasisData) (k : ℕ) (question : Question) (d : ℕ) (points : List PointData) : Type 0 where
-  pub froms : List ℕ
-  pub tos : List ℕ
-  pub leaves : stops_at basis.names question.from.now ≡ Some froms
-  pub reaches : stops_at basis.names question.to.now ≡ Some tos
-  pub best : AreBest (ReachesBetween basis.timetable k froms tos d) (map numbers points)
-  pub each : All (IsJourneyBetween basis.timetable froms tos d) points
+use Rattle.timetable.specs.Journeys.{from, to}
+use Rattle.pattern_query.specs.Answer.{PointData}
+use Rattle.answer_lines.specs.Moments.{Says}
+use Rattle.answer_lines.specs.declared.answer.Point.{Point}
+use Rattle.feed_basis.specs.Basis.{BasisData}
+use Rattle.told_journeys.specs.declared.parts.Part.{Part}
+use Rattle.told_journeys.specs.declared.parts.Part.TheVariants as parts
+use Rattle.told_journeys.specs.Stages.{ShowsPart, parts_of, trip_of}
 
 -- the timetable has the instance, and the names have the trip and the stops
 abbrev pub IsKnownPart : BasisData → Part → Type 0

@@ -2,22 +2,16 @@
 -- GTFS Schedule, stop_times.txt and transfers.txt: a ride is part of a trip, and a walk leads from one stop to another.
 use Rattle.std.specs.Prelude.{◌≡◌, ℕ, ◌+◌, ◌==◌, List, [], ◌∷◌, ◌++◌, slice_get, slice_index_or, if◌then◌else◌}
 use Rattle.std.specs.Option.{option_map, unwrap_or}
-use Rattle.service_days.specs.Answers.{IsSplit}
-use Rattle.service_days.specs.Cover.{CoverDays}
 use Rattle.timetable.specs.declared.parts.Leg.{Leg}
 use Rattle.timetable.specs.Table.{Table, walk}
 use Rattle.timetable.specs.Journeys.{from, to, departs, arrives}
 use Rattle.timetable.specs.NameLists.{NameLists}
-use Rattle.commands.specs.Basis.{BasisData}
-use Rattle.commands.specs.declared.moment.DayTime.{DayTime}
-use Rattle.commands.specs.declared.parts.Part.{Part}
-use Rattle.commands.specs.declared.parts.Part.TheVariants as parts
-use Rattle.commands.specs.declared.stages.Stage.{Stage}
-use Rattle.commands.specs.declared.stages.Stage.TheVariants as stages
-
--- the time of a service day is that of the moment, by the last covered day that has begun
-abbrev pub Says : CoverDays → ℕ → DayTime → Type 0
-Says c moment time = IsSplit c moment (time.date, time.seconds)
+use Rattle.feed_basis.specs.Basis.{BasisData}
+use Rattle.answer_lines.specs.Moments.{Says}
+use Rattle.told_journeys.specs.declared.parts.Part.{Part}
+use Rattle.told_journeys.specs.declared.parts.Part.TheVariants as parts
+use Rattle.answer_lines.specs.declared.stage.Stage.{Stage}
+use Rattle.answer_lines.specs.declared.stage.Stage.TheVariants as stages
 
 -- the walk from p, begun at the moment a, to q: none where the two are one stop
 abbrev pub walk_part : Table → ℕ → ℕ → ℕ → List Part

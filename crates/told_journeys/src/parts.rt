@@ -2,7 +2,7 @@
 
 ghost use Rattle.std.specs.Prelude.{◌≡◌, ◌≤◌, ◌++◌, IfOk, OnOk};
 ghost use Rattle.timetable.specs.Table.{IsTable};
-ghost use Rattle.commands.specs.Stages.{parts_of, walk_part};
+ghost use Rattle.told_journeys.specs.Stages.{parts_of, walk_part};
 
 use std::alloc::{AllocError, Global};
 use timetable::{Leg, StopId, Timetable};

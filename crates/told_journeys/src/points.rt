@@ -2,10 +2,10 @@
 
 ghost use Rattle.std.specs.Prelude.{◌≤◌, IfOk};
 ghost use Rattle.std.specs.List.{All, AllZip};
-ghost use Rattle.commands.specs.Points.{IsKnownJourney, ShowsNumbers, Tells};
+ghost use Rattle.told_journeys.specs.Points.{IsKnownJourney, ShowsNumbers, Tells};
 
-use crate::answer::Point;
-use crate::basis::Basis;
+use answer_lines::Point;
+use feed_basis::Basis;
 use crate::parts::parts;
 use crate::stages::stages_of;
 use std::alloc::{AllocError, Global};

@@ -5,24 +5,26 @@ use Rattle.std.proofs.lemmas.Result.{err_from_is_err_and}
 use Rattle.pattern_query.specs.Answer.{numbers}
 use Rattle.planner.specs.Places.{stops_at}
 use Rattle.commands.specs.Refusals.{IsTooLarge}
-use Rattle.commands.specs.Points.{IsJourneyBetween, IsKnownJourney, Tells}
+use Rattle.commands.specs.Found.{IsJourneyBetween}
+use Rattle.told_journeys.specs.Points.{IsKnownJourney, Tells}
 use Rattle.commands.proofs.AnswerFacts.{one_of_all, shown_journeys}
-use Rattle.commands.proofs.PartFacts.{journey_known}
-use Rattle.commands.proofs.RefusalFacts.{refused_before, stops_known, tree_refused}
+use Rattle.told_journeys.proofs.PartFacts.{journey_known}
+use Rattle.commands.proofs.RefusalFacts.{refused_before, tree_refused}
+use Rattle.feed_basis.proofs.NameFacts.{stops_known}
 use Rattle.commands.proofs.asking.ask.Goals as goal
 
 pub returns-in_err-depart-clause-refusal : goal.returns-in_err-depart-clause-refusal
 returns-in_err-depart-clause-refusal c =
     let p = err_from_is_err_and c.from_residual.result c.from_residual.ensures.1 in
     let basis = c.args.basis.now in
-    rw (p.1, p.2) (refused_before (stops_at basis.names) (IsTooLarge basis.timetable c.args.rides) basis c.args.question.now c.in_err-depart.field-0.0 c.in_err-depart.ensures.refusal)
+    rw (p.1, p.2) (refused_before (stops_at basis.names) (IsTooLarge basis.timetable c.args.rides) basis.timetable c.args.moment c.args.question.now c.in_err-depart.field-0.0 c.in_err-depart.ensures.refusal)
 
 pub returns-in_err-found-clause-refusal : goal.returns-in_err-found-clause-refusal
 returns-in_err-found-clause-refusal c =
     let p = err_from_is_err_and c.from_residual-in_err-found.result c.from_residual-in_err-found.ensures.1 in
     let basis = c.args.basis.now in
     let moment = c.in_ok-depart.ensures.moment in
-    rw (p.1, p.2) (tree_refused (stops_at basis.names) (IsTooLarge basis.timetable c.args.rides) basis c.args.question.now c.in_err-found.field-0.0
+    rw (p.1, p.2) (tree_refused (stops_at basis.names) (IsTooLarge basis.timetable c.args.rides) basis.timetable c.args.moment c.args.question.now c.in_err-found.field-0.0
     c.in_ok-depart.ensures.known (c.in_ok-depart.depart, moment.0, moment.1) (λ e. c.in_err-found.ensures.large (ap Err e)))
 
 pub told-requires-clause-known : goal.told-requires-clause-known
@@ -46,7 +48,7 @@ returns-clause-answer c =
       found.froms,
       found.tos,
       c.in_ok-depart.depart,
-      record { leaves = found.leaves; reaches = found.reaches; moment = moment.0; covered = moment.1 },
+      record { leaves = found.leaves; reaches = found.reaches; leaves_at = moment.0; covered = moment.1 },
       (
         map numbers c.in_ok-found.found,
         found.best,

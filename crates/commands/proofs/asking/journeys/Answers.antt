@@ -7,7 +7,7 @@ use Rattle.pattern_tree.specs.Content.{Content}
 use Rattle.pattern_tree.specs.declared.fault.TreeFault.{TreeFault}
 use Rattle.planner.specs.Forest.{AreAllTrees}
 use Rattle.planner.specs.Questions as planner
-use Rattle.commands.specs.Points.{IsJourneyBetween}
+use Rattle.commands.specs.Found.{IsJourneyBetween}
 use Rattle.commands.specs.Refusals.{IsTooLarge}
 use Rattle.commands.proofs.AnswerFacts.{are_complete, journey_between}
 use Rattle.commands.proofs.RefusalFacts.{no_refusal}

@@ -2,7 +2,7 @@ use Rattle.std.proofs.Common.{◌∷◌, [], subst}
 use Rattle.std.specs.List.{AllZip}
 use Rattle.timetable.specs.Table.{Table}
 use Rattle.timetable.specs.Front.{AreFront}
-use Rattle.commands.specs.Points.{ShowsNumbers}
+use Rattle.told_journeys.specs.Points.{ShowsNumbers}
 use Rattle.commands.proofs.AnswerFacts.{best_between, shown_numbers}
 use Rattle.commands.proofs.asking.scan.Goals as goal
 

@@ -1,24 +1,15 @@
 use Rattle.std.proofs.Common.{inl}
 use Rattle.std.proofs.lemmas.Result.{err_from_is_err_and}
-use Rattle.feed_basis.specs.BasisFaults.{HasDateTime}
-use Rattle.feed_basis.proofs.FaultFacts.{of_rows, of_words}
+use Rattle.feed_basis.proofs.FaultFacts.{of_rows}
 use Rattle.feed_basis.proofs.basis.basis_of.Goals as goal
 
-pub returns-in_err-words-clause-fault : goal.returns-in_err-words-clause-fault
-returns-in_err-words-clause-fault g c = λ feed h.
-    let p = err_from_is_err_and c.from_residual.result c.from_residual.ensures.1 in
-    rw (p.1, p.2) (of_words feed c.args.job.now c.in_err-words.field-0.0 c.in_err-words.ensures.err)
-
 pub returns-in_default-clause-fault : goal.returns-in_default-clause-fault
-returns-in_default-clause-fault g c = λ feed h.
-    (c.in_ok-words.words.first, (c.in_ok-words.words.day, c.in_ok-words.words.seconds, c.in_ok-words.ensures.ok), inl tt)
+returns-in_default-clause-fault g c = λ feed h. inl tt
 
 pub returns-in_err-tables-clause-fault : goal.returns-in_err-tables-clause-fault
 returns-in_err-tables-clause-fault g c = λ feed h.
     let p = err_from_is_err_and c.from_residual-in_err-tables.result c.from_residual-in_err-tables.ensures.1 in
-    let words = c.in_ok-words.words in
-    let dated : HasDateTime c.args.job.now words.first = (words.day, words.seconds, c.in_ok-words.ensures.ok) in
-    rw (p.1, p.2) (of_rows feed c.args.job.now c.in_err-tables.field-0.0 words.first dated (inl (c.in_err-tables.ensures feed h)))
+    rw (p.1, p.2) (of_rows feed c.args.settings.now c.in_err-tables.field-0.0 c.args.first (inl (c.in_err-tables.ensures feed h)))
 
 pub returns-clause-basis : goal.returns-clause-basis
 returns-clause-basis g c = λ feed h. c.basis_over.ensures.basis feed (c.in_ok-tables.ensures feed h)

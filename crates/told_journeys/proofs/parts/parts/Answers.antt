@@ -2,10 +2,10 @@ use Rattle.std.proofs.Common.{◌≡◌, ◌≤◌, ◌+◌, ◌++◌, drop, get
 use Rattle.std.proofs.lemmas.List.{drop_more}
 use Rattle.timetable.specs.declared.parts.Leg.{Leg}
 use Rattle.timetable.specs.Journeys.{arrives}
-use Rattle.commands.specs.Stages.{parts_of, walk_part}
-use Rattle.commands.proofs.LoopFacts.{parts_more}
-use Rattle.commands.proofs.PartFacts.{arrives_by}
-use Rattle.commands.proofs.parts.parts.Goals as goal
+use Rattle.told_journeys.specs.Stages.{parts_of, walk_part}
+use Rattle.told_journeys.proofs.LoopFacts.{parts_more}
+use Rattle.told_journeys.proofs.PartFacts.{arrives_by}
+use Rattle.told_journeys.proofs.parts.parts.Goals as goal
 
 pub loop-leg-preserved : goal.loop-leg-preserved
 loop-leg-preserved c =

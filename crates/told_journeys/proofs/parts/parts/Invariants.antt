@@ -1,6 +1,6 @@
 use Rattle.std.proofs.Common.{◌≡◌, ◌≤◌, ◌++◌, drop}
-use Rattle.commands.specs.Stages.{parts_of}
-use Rattle.commands.proofs.parts.parts.Given as goal
+use Rattle.told_journeys.specs.Stages.{parts_of}
+use Rattle.told_journeys.proofs.parts.parts.Given as goal
 
 -- the parts so far, and those of the legs that are left, are all of them
 abbrev pub invariant-loop-leg : goal.invariant-loop-leg

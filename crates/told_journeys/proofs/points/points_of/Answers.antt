@@ -1,7 +1,7 @@
 use Rattle.std.proofs.Common.{refl, rules}
-use Rattle.commands.specs.Points.{ShowsNumbers}
-use Rattle.commands.proofs.LoopFacts.{zip_more}
-use Rattle.commands.proofs.points.points_of.Goals as goal
+use Rattle.told_journeys.specs.Points.{ShowsNumbers}
+use Rattle.told_journeys.proofs.LoopFacts.{zip_more}
+use Rattle.told_journeys.proofs.points.points_of.Goals as goal
 
 pub loop-numbers-preserved : goal.loop-numbers-preserved
 loop-numbers-preserved c =

@@ -1,7 +1,7 @@
 use Rattle.std.proofs.Common.{take}
 use Rattle.std.specs.List.{AllZip}
-use Rattle.commands.specs.Points.{ShowsNumbers}
-use Rattle.commands.proofs.points.points_of.Given as goal
+use Rattle.told_journeys.specs.Points.{ShowsNumbers}
+use Rattle.told_journeys.proofs.points.points_of.Given as goal
 
 -- each of the numbers so far is shown
 abbrev pub invariant-loop-numbers : goal.invariant-loop-numbers

@@ -1,7 +1,7 @@
 use Rattle.std.proofs.Common.{subst}
-use Rattle.commands.specs.Stages.{ShowsPart}
-use Rattle.commands.proofs.LoopFacts.{zip_more}
-use Rattle.commands.proofs.stages.stages_of.Goals as goal
+use Rattle.told_journeys.specs.Stages.{ShowsPart}
+use Rattle.told_journeys.proofs.LoopFacts.{zip_more}
+use Rattle.told_journeys.proofs.stages.stages_of.Goals as goal
 
 pub loop-part-preserved : goal.loop-part-preserved
 loop-part-preserved c =

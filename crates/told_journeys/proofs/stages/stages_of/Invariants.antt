@@ -1,7 +1,7 @@
 use Rattle.std.proofs.Common.{take}
 use Rattle.std.specs.List.{AllZip}
-use Rattle.commands.specs.Stages.{ShowsPart}
-use Rattle.commands.proofs.stages.stages_of.Given as goal
+use Rattle.told_journeys.specs.Stages.{ShowsPart}
+use Rattle.told_journeys.proofs.stages.stages_of.Given as goal
 
 -- each of the parts so far is shown
 abbrev pub invariant-loop-part : goal.invariant-loop-part

@@ -1,4 +1,4 @@
-use Rattle.feed_basis.proofs.RefusalFacts.{place_known}
+use Rattle.feed_basis.proofs.NameFacts.{place_known}
 use Rattle.feed_basis.proofs.basis.Basis.is_place.Goals as goal
 
 pub returns : goal.returns
