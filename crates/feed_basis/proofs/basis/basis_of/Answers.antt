@@ -8,7 +8,7 @@ returns-in_default-clause-fault g c = λ feed h. inl tt
 
 pub returns-in_err-tables-clause-fault : goal.returns-in_err-tables-clause-fault
 returns-in_err-tables-clause-fault g c = λ feed h.
-    let p = err_from_is_err_and c.from_residual-in_err-tables.result c.from_residual-in_err-tables.ensures.1 in
+    let p = err_from_is_err_and c.from_residual.result c.from_residual.ensures.1 in
     rw (p.1, p.2) (of_rows feed c.args.settings.now c.in_err-tables.field-0.0 c.args.first (inl (c.in_err-tables.ensures feed h)))
 
 pub returns-clause-basis : goal.returns-clause-basis
