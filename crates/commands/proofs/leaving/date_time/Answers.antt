@@ -1,7 +1,7 @@
 use Rattle.std.proofs.Common.{◌∙◌, sym, ap, option_map}
 use Rattle.gtfs_text.specs.Values.{date_of, time_of, ymd}
 use Rattle.command_line.specs.declared.job.Question.{Question}
-use Rattle.feed_basis.proofs.basis.date_time.Goals as goal
+use Rattle.commands.proofs.leaving.date_time.Goals as goal
 
 pub returns-in_default-time-clause-err : goal.returns-in_default-time-clause-err
 returns-in_default-time-clause-err c = (
