@@ -8,8 +8,8 @@ use Rattle.program_inputs.specs.declared.fault.Fault.{Fault}
 use Rattle.answer_lines.specs.declared.answer.Answer.{Answer}
 use Rattle.feed_basis.specs.Basis.{BasisData, IsBasis}
 use Rattle.feed_basis.specs.BasisFaults.{IsBasisFault}
-use Rattle.commands.specs.Answers.{IsAnswer}
-use Rattle.commands.specs.Refusals.{IsRefusal}
+use Rattle.answering.specs.Answers.{IsAnswer}
+use Rattle.answering.specs.Refusals.{IsRefusal}
 use Rattle.commands.specs.Words.{AreDateTime, HasDateTime, IsWordFault}
 
 -- the timetable of the feed's rows on the covered days, the ids of its stops and trips, and the moment of the words, if it is one

@@ -1,7 +1,6 @@
 //! The commands of the journey planner's program: the lines and the status that answer what it is asked to do.
 #![tactic(auto)]
 
-mod asking;
 mod leaving;
 mod running;
 

@@ -1,17 +1,17 @@
 use Rattle.std.proofs.lemmas.List.Elements.{All-weaker}
 use Rattle.std.proofs.lemmas.Result.{err_from_is_err_and}
-use Rattle.std.proofs.Common.{◌≡◌, ℕ, List, Option, Result, Err, slice_get, ap, subst, subst₂, sym, ◌∙◌}
+use Rattle.std.proofs.Common.{◌≡◌, ℕ, Option, Result, Err, slice_get, ap, subst, subst₂, sym, ◌∙◌}
 use Rattle.timetable.specs.NameLists.{NameLists}
 use Rattle.timetable.specs.Table.{Table}
 use Rattle.pattern_tree.specs.Content.{Content}
 use Rattle.pattern_tree.specs.declared.fault.TreeFault.{TreeFault}
 use Rattle.planner.specs.Forest.{AreAllTrees}
 use Rattle.planner.specs.Questions as planner
-use Rattle.commands.specs.Found.{IsJourneyBetween}
-use Rattle.commands.specs.Refusals.{IsTooLarge}
-use Rattle.commands.proofs.AnswerFacts.{are_complete, journey_between}
-use Rattle.commands.proofs.RefusalFacts.{no_refusal}
-use Rattle.commands.proofs.asking.journeys.Goals as goal
+use Rattle.answering.specs.Found.{IsJourneyBetween}
+use Rattle.answering.specs.Refusals.{IsTooLarge}
+use Rattle.answering.proofs.AnswerFacts.{are_complete, journey_between}
+use Rattle.answering.proofs.RefusalFacts.{no_refusal}
+use Rattle.answering.proofs.asking.journeys.Goals as goal
 
 pub unreachable-requires : goal.unreachable-requires
 unreachable-requires c =

@@ -3,8 +3,8 @@ use Rattle.std.specs.List.{AllZip}
 use Rattle.timetable.specs.Table.{Table}
 use Rattle.timetable.specs.Front.{AreFront}
 use Rattle.told_journeys.specs.Points.{ShowsNumbers}
-use Rattle.commands.proofs.AnswerFacts.{best_between, shown_numbers}
-use Rattle.commands.proofs.asking.scan.Goals as goal
+use Rattle.answering.proofs.AnswerFacts.{best_between, shown_numbers}
+use Rattle.answering.proofs.asking.scan.Goals as goal
 
 pub returns-clause-answer : goal.returns-clause-answer
 returns-clause-answer c =

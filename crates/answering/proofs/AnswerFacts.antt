@@ -13,8 +13,8 @@ use Rattle.pattern_tree.specs.Completeness.{Complete}
 use Rattle.pattern_query.specs.Answer.{PointData, numbers, AreBest}
 use Rattle.planner.specs.Forest.{AreAllTrees}
 use Rattle.planner.specs.Questions.{AreComplete, IsAskedPoint, IsFirstMissing, ReachesBetween}
-use Rattle.commands.specs.Answers.{IsRideBetween, Shows}
-use Rattle.commands.specs.Found.{IsJourneyBetween}
+use Rattle.answering.specs.Answers.{IsRideBetween, Shows}
+use Rattle.answering.specs.Found.{IsJourneyBetween}
 use Rattle.told_journeys.specs.Points.{ShowsNumbers, Tells}
 use Rattle.answer_lines.specs.declared.answer.Point.{Point}
 use Rattle.feed_basis.specs.Basis.{BasisData}

@@ -3,12 +3,12 @@
 ghost use Rattle.std.specs.Prelude.{◌≡◌, ◌≤◌, ◌<◌, [], ◌∷◌, Some, Err, IfOk, IfErr, IfSome, IfNone, false, length};
 ghost use Rattle.planner.specs.Places.{stops_at};
 ghost use Rattle.timetable.specs.Table.{stops_of};
-ghost use Rattle.commands.specs.Answers.{ArePoints, IsAnswer, IsAnswered, IsAsked, IsDirect};
+ghost use Rattle.answering.specs.Answers.{ArePoints, IsAnswer, IsAnswered, IsAsked, IsDirect};
 ghost use Rattle.pattern_tree.specs.declared.fault.TreeFault.{TreeFault};
-ghost use Rattle.commands.specs.Found.{AreFound};
+ghost use Rattle.answering.specs.Found.{AreFound};
 ghost use Rattle.feed_basis.specs.Basis.{IsSound};
 ghost use Rattle.feed_basis.specs.Ids.{stop_alone};
-ghost use Rattle.commands.specs.Refusals.{AreKnown, IsCovered, IsRefusal, IsTooLarge, IsUnanswered};
+ghost use Rattle.answering.specs.Refusals.{AreKnown, IsCovered, IsRefusal, IsTooLarge, IsUnanswered};
 
 use answer_lines::Answer;
 use command_line::{Job, Question, Task};

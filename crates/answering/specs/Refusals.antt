@@ -11,7 +11,7 @@ use Rattle.command_line.specs.declared.job.Question.{Question}
 use Rattle.command_line.specs.declared.job.Task.{Task}
 use Rattle.command_line.specs.declared.job.Task.TheVariants as tasks
 use Rattle.command_line.specs.Tasks.{question_of}
-use Rattle.commands.specs.Tasks.{stops_for}
+use Rattle.answering.specs.Tasks.{stops_for}
 
 -- both ids of the question stand for stops
 abbrev pub AreKnown : (List ℕ → Option (List ℕ)) → Question → Type 0

@@ -2,9 +2,9 @@ use Rattle.std.proofs.Common.{◌≤◌, ◌∷◌, [], ap, subst, sym, ◌∙�
 use Rattle.timetable.specs.Journeys.{Serves, arrives}
 use Rattle.timetable.specs.Table.{Table}
 use Rattle.answer_lines.specs.Moments.{Says}
-use Rattle.commands.proofs.AnswerFacts.{ride_between, between_ride}
-use Rattle.commands.proofs.asking.direct.Goals.{in-None, in-Some}
-use Rattle.commands.proofs.asking.direct.Goals as goal
+use Rattle.answering.proofs.AnswerFacts.{ride_between, between_ride}
+use Rattle.answering.proofs.asking.direct.Goals.{in-None, in-Some}
+use Rattle.answering.proofs.asking.direct.Goals as goal
 
 pub returns-clause-answer : goal.returns-clause-answer
 returns-clause-answer c =

@@ -1,10 +1,10 @@
 use Rattle.std.proofs.Common.{ℕ, sym, subst, IfErr}
 use Rattle.planner.specs.Places.{stops_at}
-use Rattle.commands.specs.Refusals.{IsTooLarge, IsUnanswered, KeepsTooMuch}
+use Rattle.answering.specs.Refusals.{IsTooLarge, IsUnanswered, KeepsTooMuch}
 use Rattle.command_line.specs.Tasks.{question_of}
-use Rattle.commands.specs.Tasks.{stops_for}
+use Rattle.answering.specs.Tasks.{stops_for}
 use Rattle.command_line.specs.declared.job.Task.{Task}
-use Rattle.commands.proofs.asking.perform.Goals as goal
+use Rattle.answering.proofs.asking.perform.Goals as goal
 
 pub returns-in-Direct-clause-refusal : goal.returns-in-Direct-clause-refusal
 returns-in-Direct-clause-refusal c =

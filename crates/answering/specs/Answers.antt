@@ -20,7 +20,7 @@ use Rattle.answer_lines.specs.declared.stage.Stage.{Stage}
 use Rattle.answer_lines.specs.Moments.{Says}
 use Rattle.told_journeys.specs.Stages.{ShowsPart, parts_of}
 use Rattle.command_line.specs.Tasks.{question_of}
-use Rattle.commands.specs.Tasks.{stops_for}
+use Rattle.answering.specs.Tasks.{stops_for}
 
 -- the leg is a ride from one of the first stops to one of the others that departs at d or later
 abbrev pub IsRideBetween : BasisData → List ℕ → List ℕ → ℕ → Leg → Type 0

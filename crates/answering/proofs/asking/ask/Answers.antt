@@ -4,14 +4,14 @@ use Rattle.std.proofs.lemmas.List.Elements.{All-weaker}
 use Rattle.std.proofs.lemmas.Result.{err_from_is_err_and}
 use Rattle.pattern_query.specs.Answer.{numbers}
 use Rattle.planner.specs.Places.{stops_at}
-use Rattle.commands.specs.Refusals.{IsTooLarge}
-use Rattle.commands.specs.Found.{IsJourneyBetween}
+use Rattle.answering.specs.Refusals.{IsTooLarge}
+use Rattle.answering.specs.Found.{IsJourneyBetween}
 use Rattle.told_journeys.specs.Points.{IsKnownJourney, Tells}
-use Rattle.commands.proofs.AnswerFacts.{one_of_all, shown_journeys}
+use Rattle.answering.proofs.AnswerFacts.{one_of_all, shown_journeys}
 use Rattle.told_journeys.proofs.PartFacts.{journey_known}
-use Rattle.commands.proofs.RefusalFacts.{refused_before, tree_refused}
+use Rattle.answering.proofs.RefusalFacts.{refused_before, tree_refused}
 use Rattle.feed_basis.proofs.NameFacts.{stops_known}
-use Rattle.commands.proofs.asking.ask.Goals as goal
+use Rattle.answering.proofs.asking.ask.Goals as goal
 
 pub returns-in_err-depart-clause-refusal : goal.returns-in_err-depart-clause-refusal
 returns-in_err-depart-clause-refusal c =

@@ -7,10 +7,10 @@ use Rattle.planner.specs.Places.{stops_at}
 use Rattle.planner.specs.Questions as planner
 use Rattle.planner.specs.declared.fault.AskFault.{AskFault}
 use Rattle.planner.specs.declared.fault.AskFault.TheVariants as faults
-use Rattle.commands.proofs.AnswerFacts.{none_missing}
+use Rattle.answering.proofs.AnswerFacts.{none_missing}
 use Rattle.feed_basis.specs.Basis.{BasisData, IsSound}
 use Rattle.feed_basis.proofs.NameFacts.{stops_known, unknown}
-use Rattle.commands.specs.Refusals.{AreKnown, IsCovered, IsUnanswered}
+use Rattle.answering.specs.Refusals.{AreKnown, IsCovered, IsUnanswered}
 use Rattle.pattern_tree.specs.declared.fault.TreeFault.{TreeFault}
 use Rattle.pattern_tree.specs.declared.fault.TreeFault.TheVariants as trees
 use Rattle.program_inputs.specs.Faults.{of_tree}
