@@ -4,10 +4,10 @@ ghost use Rattle.std.specs.Prelude.{◌≤◌, IfOk};
 ghost use Rattle.std.specs.List.{All, AllZip};
 ghost use Rattle.told_journeys.specs.Points.{IsKnownJourney, ShowsNumbers, Tells};
 
-use answer_lines::Point;
-use feed_basis::Basis;
 use crate::parts::parts;
 use crate::stages::stages_of;
+use answer_lines::Point;
+use feed_basis::Basis;
 use std::alloc::{AllocError, Global};
 use timetable::Numbers;
 

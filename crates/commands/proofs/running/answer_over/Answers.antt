@@ -1,6 +1,4 @@
-use Rattle.std.proofs.Common.{ℕ, Option}
 use Rattle.std.proofs.lemmas.Result.{IfOk-weaker, IfErr-weaker}
-use Rattle.gtfs_tables.specs.Feed.{Feed}
 use Rattle.answering.specs.Answers.{IsAnswer}
 use Rattle.answering.specs.Refusals.{IsRefusal}
 use Rattle.commands.specs.Feeds.{AreAsked, IsFeedAnswer, IsFeedRefusal}
