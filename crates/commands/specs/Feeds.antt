@@ -1,67 +1,40 @@
 -- What the program answers to a job over a feed, from the bytes of its files on.
-use Rattle.std.specs.Prelude.{◌≡◌, ◌⊎◌, ℕ, Some, None, Err}
+use Rattle.std.specs.Prelude.{◌⊎◌, ℕ, Option}
 use Rattle.jiff.specs.Types.{Date}
-use Rattle.gtfs_text.specs.Values.{date_of, time_of, ymd}
-use Rattle.gtfs_rows.specs.Faults.{first_fault, Explains}
-use Rattle.gtfs_rows.specs.declared.fault.FeedFault.{FeedFault}
-use Rattle.gtfs_tables.specs.Feed.{Feed, feed_tests, values_of}
-use Rattle.service_days.specs.Answers.{IsCoverAnswer}
-use Rattle.service_days.specs.Cover.{CoverDays}
-use Rattle.timetable.specs.Answers.{IsFault}
-use Rattle.commands.specs.Answers.{IsAnswer}
-use Rattle.commands.specs.Basis.{AreDateTime, AreDays, BasisData, IsBasis}
-use Rattle.commands.specs.Refusals.{IsRefusal}
-use Rattle.command_line.specs.Tasks.{question_of, day_of}
-use Rattle.commands.specs.declared.answer.Answer.{Answer}
-use Rattle.program_inputs.specs.declared.fault.Fault.{Fault}
-use Rattle.program_inputs.specs.declared.fault.Fault.TheVariants as faults
+use Rattle.gtfs_tables.specs.Feed.{Feed}
+use Rattle.service_days.specs.Answers.{IsMoment}
 use Rattle.command_line.specs.declared.job.Job.{Job}
+use Rattle.program_inputs.specs.declared.fault.Fault.{Fault}
+use Rattle.answer_lines.specs.declared.answer.Answer.{Answer}
+use Rattle.feed_basis.specs.Basis.{BasisData, IsBasis}
+use Rattle.feed_basis.specs.BasisFaults.{IsBasisFault}
+use Rattle.answering.specs.Answers.{IsAnswer}
+use Rattle.answering.specs.Refusals.{IsRefusal}
+use Rattle.commands.specs.Words.{AreDateTime, HasDateTime, IsWordFault}
+
+-- the timetable of the feed's rows on the covered days, the ids of its stops and trips, and the moment of the words, if it is one
+pub record AreAsked (feed : Feed) (job : Job) (basis : BasisData) (moment : Option ℕ) : Type 0 where
+  pub first : Date
+  pub day : Date
+  pub seconds : ℕ
+  pub words : AreDateTime job first day seconds
+  pub over : IsBasis feed job.settings first basis
+  pub leaves : IsMoment basis.cover day seconds moment
 
 -- the answer is that over the timetable of the feed's rows on the covered days, between the stops that have the ids, leaving
 -- at the moment of the words
 abbrev pub IsFeedAnswer : Feed → Job → Answer → Type 0
-IsFeedAnswer feed job answer = (basis : BasisData) × IsBasis feed job basis × IsAnswer basis job answer
+IsFeedAnswer feed job answer = (basis : BasisData) × (moment : Option ℕ) × AreAsked feed job basis moment × IsAnswer basis moment job answer
+
+-- the words are dates and a time, and the feed or its days are at fault
+abbrev pub IsGroundFault : Feed → Job → Fault → Type 0
+IsGroundFault feed job fault = (first : Date) × HasDateTime job first × IsBasisFault feed job.settings first fault
 
 -- the question has no answer over that timetable
 abbrev pub IsFeedRefusal : Feed → Job → Fault → Type 0
-IsFeedRefusal feed job fault = (basis : BasisData) × IsBasis feed job basis × IsRefusal basis job fault
+IsFeedRefusal feed job fault = (basis : BasisData) × (moment : Option ℕ) × AreAsked feed job basis moment × IsRefusal basis moment job fault
 
--- the fault is that of the feed's first test that doesn't hold, or else the timetable on the covered days is too large
-abbrev pub IsRowFault : Feed → Job → Date → FeedFault → Type 0
-IsRowFault feed job first f =
-    Explains (first_fault (feed_tests feed)) f.kind f
-    ⊎ ((cover : CoverDays) × AreDays feed job first cover × IsFault (values_of feed) cover job.settings.default_walk f)
-
--- the words are dates and a time
-abbrev pub HasDateTime : Job → Date → Type 0
-HasDateTime job first = (day : Date) × (seconds : ℕ) × AreDateTime job first day seconds
-
--- one of the two dates is none; or else the time is none
-abbrev pub IsWordFault : Job → Fault → Type 0
-IsWordFault job faults.BadDate = (date_of job.settings.date.now ≡ None) ⊎ (date_of (day_of job) ≡ None)
-IsWordFault job faults.BadTime =
-    (first : Date) × (day : Date) × (date_of job.settings.date.now ≡ Some (ymd first)) × (date_of (day_of job) ≡ Some (ymd day))
-    × (time_of (question_of job.task).at.now ≡ None)
-IsWordFault job (faults.Feed f) = ⊥
-IsWordFault job (faults.Days f) = ⊥
-IsWordFault job (faults.UnknownStop id) = ⊥
-IsWordFault job faults.NotCovered = ⊥
-IsWordFault job faults.TooLarge = ⊥
-IsWordFault job faults.Memory = ⊥
-
--- The faults before a question is asked, in the order in which they are looked for: the words are no dates and time; the feed is at
--- fault; its days are. Memory may run out at any time.
-abbrev pub IsBasisFault : Feed → Job → Fault → Type 0
-IsBasisFault feed job faults.BadDate = IsWordFault job faults.BadDate
-IsBasisFault feed job faults.BadTime = IsWordFault job faults.BadTime
-IsBasisFault feed job (faults.Feed f) = (first : Date) × HasDateTime job first × IsRowFault feed job first f
-IsBasisFault feed job (faults.Days f) = (first : Date) × HasDateTime job first × (first_fault (feed_tests feed) ≡ None)
-    × IsCoverAnswer first job.settings.days job.settings.zone.now (Err f)
-IsBasisFault feed job (faults.UnknownStop id) = ⊥
-IsBasisFault feed job faults.NotCovered = ⊥
-IsBasisFault feed job faults.TooLarge = ⊥
-IsBasisFault feed job faults.Memory = Unit {0}
-
--- all faults: those, and then why the question has no answer
+-- All faults, in the order in which they are looked for: the words are no dates and time; the feed or its days are at fault; the
+-- question has no answer.
 abbrev pub IsFeedFault : Feed → Job → Fault → Type 0
-IsFeedFault feed job fault = IsBasisFault feed job fault ⊎ IsFeedRefusal feed job fault
+IsFeedFault feed job fault = IsWordFault job fault ⊎ (IsGroundFault feed job fault ⊎ IsFeedRefusal feed job fault)

@@ -1,9 +1,3 @@
-pub mod Answers
-pub mod Basis
 pub mod Feeds
-pub mod Points
-pub mod Printed
-pub mod Refusals
 pub mod Runs
-pub mod Stages
-pub mod Tasks
+pub mod Words

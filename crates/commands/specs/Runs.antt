@@ -3,9 +3,9 @@ use Rattle.std.specs.Prelude.{◌≡◌, ◌⊎◌, ℕ, List, [], ◌∷◌, �
 use Rattle.std.specs.Io.KnownBytes.{Appends, Keeps}
 use Rattle.gtfs_tables.specs.Feed.{Feed}
 use Rattle.commands.specs.Feeds.{IsFeedAnswer, IsFeedFault}
-use Rattle.commands.specs.Printed.{answer_text}
+use Rattle.answer_lines.specs.Printed.{answer_text}
 use Rattle.program_inputs.specs.Faults.{status_of}
-use Rattle.commands.specs.declared.answer.Answer.{Answer}
+use Rattle.answer_lines.specs.declared.answer.Answer.{Answer}
 use Rattle.program_inputs.specs.declared.fault.Fault.{Fault}
 use Rattle.command_line.specs.declared.job.Job.{Job}
 

@@ -2,18 +2,36 @@
 
 ghost use Rattle.std.specs.Prelude.{◌≡◌, ◌⊎◌, IfOk, IfErr};
 ghost use Rattle.gtfs_tables.specs.Feed.{Feed, AreReaders};
-ghost use Rattle.commands.specs.Feeds.{IsFeedAnswer, IsFeedFault};
+ghost use Rattle.commands.specs.Feeds.{IsFeedAnswer, IsFeedFault, IsFeedRefusal};
 ghost use Rattle.commands.specs.Runs.{IsRun};
+ghost use Rattle.commands.specs.Words.{AreDateTime};
+ghost use Rattle.feed_basis.specs.Basis.{IsBasis};
 
-use crate::answer::Answer;
-use crate::asking::perform;
-use crate::basis::basis_of;
+use crate::leaving::{DateTime, date_time};
+use answer_lines::Answer;
+use answering::perform;
 use command_line::Job;
+use feed_basis::{Basis, basis_of};
 use gtfs_tables::Files;
 use program_inputs::{Fault, unwritten};
 use std::alloc::Global;
 use std::hash::RandomState;
 use std::io::{Read, Write};
+
+// Answers a job over the feed's timetable, for one who leaves when its words say.
+fn answer_over<'a>(
+    alloc: Global,
+    basis: Basis,
+    words: DateTime,
+    job: &Job<'a>,
+) -> Result<Answer, Fault<'a>>
+    requires { AreDateTime job.now words.first words.day words.seconds }
+    ensures answer { (feed : Feed) → IsBasis feed job.now.settings words.first basis → IfOk result (IsFeedAnswer feed job.now) }
+    ensures refusal { (feed : Feed) → IsBasis feed job.now.settings words.first basis → IfErr result (IsFeedRefusal feed job.now) }
+{
+    let moment = basis.moment(words.day, words.seconds);
+    perform(alloc, &basis, moment, job)
+}
 
 // Answers a job over the feed's files.
 fn answer<'a, R: Read + Drop>(
@@ -25,8 +43,9 @@ fn answer<'a, R: Read + Drop>(
     ensures answer { (feed : Feed) → AreReaders R.remaining files feed → IfOk result (IsFeedAnswer feed job.now) }
     ensures fault { (feed : Feed) → AreReaders R.remaining files feed → IfErr result (IsFeedFault feed job.now) }
 {
-    let basis = basis_of(alloc, keys, job, files)?;
-    perform(alloc, &basis, job)
+    let words = date_time(job)?;
+    let basis = basis_of(alloc, keys, &job.settings, words.first, files)?;
+    answer_over(alloc, basis, words, job)
 }
 
 /// Does the job over the feed's files: the answer goes to `out`, a fault to `err` behind `tp: `. Gives the status to end

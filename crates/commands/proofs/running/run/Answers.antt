@@ -1,7 +1,7 @@
 use Rattle.std.proofs.Common.{[], ◌∷◌, ◌++◌, inl, refl, rules}
 use Rattle.std.proofs.KnownBytes.{Appends-kept}
 use Rattle.std.specs.Io.KnownBytes.{Appends}
-use Rattle.commands.specs.Printed.{answer_text}
+use Rattle.answer_lines.specs.Printed.{answer_text}
 use Rattle.commands.proofs.running.run.Goals as goal
 
 pub returns-else-is_err-2-clause-run : goal.returns-else-is_err-2-clause-run

@@ -1,0 +1,41 @@
+//! Moments as the program prints them.
+ghost use Rattle.std.specs.Prelude.{Some};
+ghost use Rattle.answer_lines.specs.Printed.{day_time_text};
+ghost use Rattle.answer_lines.specs.Moments.{Says};
+
+use jiff::civil::Date;
+use service_days::Cover;
+use std::fmt;
+
+/// A time of a service day, shown as `YYYYMMDD HH:MM:SS`. Hours of 24 and more belong to the night after the date.
+#[derive(Clone, Copy, Debug, PartialEq, Eq)]
+pub struct DayTime {
+    pub date: Date,
+    /// Seconds from the start of the service day.
+    pub seconds: u32,
+}
+
+impl fmt::Display for DayTime {
+    ghost output = { λ t. Some (day_time_text t) };
+
+    fn fmt<W: fmt::Write>(&self, f: &mut fmt::Formatter<W>) -> fmt::Result {
+        let year = self.date.year().unsigned_abs();
+        let month = self.date.month().unsigned_abs();
+        let day = self.date.day().unsigned_abs();
+        let hours = self.seconds / 3600;
+        let minutes = self.seconds / 60 % 60;
+        let seconds = self.seconds % 60;
+        write!(
+            f,
+            "{year:04}{month:02}{day:02} {hours:02}:{minutes:02}:{seconds:02}"
+        )
+    }
+}
+
+/// A moment, as a time of a service day.
+pub fn day_time(cover: &Cover, moment: u32) -> DayTime
+    ensures { Says cover.now moment result }
+{
+    let (date, seconds) = cover.split(moment);
+    DayTime { date, seconds }
+}

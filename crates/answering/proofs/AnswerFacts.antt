@@ -1,0 +1,127 @@
+-- Answers between single stops and from the trees of all stops.
+use Rattle.std.proofs.Common.{Option, ◌≡◌, ℕ, zero, suc, ◌<◌, ◌≤◌, Bool, false, true≢false, List, [], ◌∷◌, length, map, slice_get, get_or, Some, None, Contains, All, arith, refl, sym, ◌∙◌, subst, subst₂}
+use Rattle.std.specs.List.{AllZip}
+use Rattle.std.proofs.lemmas.List.Elements.{All-tail, at_from_Contains}
+use Rattle.std.proofs.lemmas.Option.{slice_get_within, slice_get-get_or, get_or_from_slice_get}
+use Rattle.timetable.specs.declared.parts.Leg.{Leg}
+use Rattle.timetable.specs.declared.parts.Numbers.{Numbers}
+use Rattle.timetable.specs.Front.{AreFront}
+use Rattle.timetable.specs.Journeys.{Journey, Serves, Reaches}
+use Rattle.timetable.specs.Table.{Table, stops_of}
+use Rattle.pattern_tree.specs.Content.{Content, longest}
+use Rattle.pattern_tree.specs.Completeness.{Complete}
+use Rattle.pattern_query.specs.Answer.{PointData, numbers, AreBest}
+use Rattle.planner.specs.Forest.{AreAllTrees}
+use Rattle.planner.specs.Questions.{AreComplete, IsAskedPoint, IsFirstMissing, ReachesBetween}
+use Rattle.answering.specs.Answers.{IsRideBetween, Shows}
+use Rattle.answering.specs.Found.{IsJourneyBetween}
+use Rattle.told_journeys.specs.Points.{ShowsNumbers, Tells}
+use Rattle.answer_lines.specs.declared.answer.Point.{Point}
+use Rattle.feed_basis.specs.Basis.{BasisData}
+
+pub contains_one : (s : ℕ) → Contains (s ∷ []) s
+contains_one s = (0, omega arith, refl)
+
+pub is_one : (s p : ℕ) → Contains (s ∷ []) p → s ≡ p
+is_one s p c = go c.0 c.1 c.2 where
+  go : (k : ℕ) → k < 1 → get_or (s ∷ []) k p ≡ p → s ≡ p
+  go zero lt e = e
+  go (suc k) lt e = absurd (let b : ⊥ = omega (arith, lt) in b)
+
+-- rides and journeys between single stops
+pub ride_between : (basis : BasisData) (p q d : ℕ) (leg : Leg) → Serves basis.timetable p q d leg → IsRideBetween basis (p ∷ []) (q ∷ []) d leg
+ride_between basis p q d leg h = (p, q, contains_one p, contains_one q, h)
+
+pub between_ride : (basis : BasisData) (p q d : ℕ) (leg : Leg) → IsRideBetween basis (p ∷ []) (q ∷ []) d leg → Serves basis.timetable p q d leg
+between_ride basis p q d leg h = subst₂ (λ x y. Serves basis.timetable x y d leg) (sym (is_one p h.0 h.2)) (sym (is_one q h.1 h.3)) h.4
+
+module _ (table : Table) (k p q d : ℕ) where
+  reaches_between : (n : Numbers) → Reaches table 0 k p q d n → ReachesBetween table k (p ∷ []) (q ∷ []) d n
+  reaches_between n h = (p, q, contains_one p, contains_one q, h)
+
+  between_reaches : (n : Numbers) → ReachesBetween table k (p ∷ []) (q ∷ []) d n → Reaches table 0 k p q d n
+  between_reaches n h = subst₂ (λ x y. Reaches table 0 k x y d n) (sym (is_one p h.0 h.2)) (sym (is_one q h.1 h.3)) h.4
+
+  pub best_between : (front : List Numbers) → AreFront table k p q d front → AreBest (ReachesBetween table k (p ∷ []) (q ∷ []) d) front
+  best_between front are = record {
+    rising = are.rising;
+    each = λ n c. let best = are.each n c in (reaches_between n best.0, λ m of. best.1 m (between_reaches m of));
+    all = λ n best. are.all n (between_reaches n best.0, λ m of. best.1 m (reaches_between m of));
+  }
+
+-- the numbers alone are shown
+pub shown_numbers : (basis : BasisData) (froms tos : List ℕ) (d : ℕ) (front : List Numbers) (points : List Point)
+    → AllZip (ShowsNumbers basis) front points → AllZip (Shows basis froms tos d false) front points
+shown_numbers basis froms tos d [] [] h = tt
+shown_numbers basis froms tos d [] (point ∷ points) h = absurd h
+shown_numbers basis froms tos d (n ∷ front) [] h = absurd h
+shown_numbers basis froms tos d (n ∷ front) (point ∷ points) h = (
+  record {
+    rides = h.0.rides;
+    at = h.0.at;
+    told = λ e. absurd (true≢false (sym e));
+    untold = λ e. h.0.untold;
+  },
+  shown_numbers basis froms tos d front points h.1,
+)
+
+-- what holds of all holds of one that is among them
+pub one_of_all : {X : Type 0} (P : X → Type 0) (xs : List X) (x : X) → All P xs → Contains xs x → P x
+one_of_all P xs x all c = let i = at_from_Contains xs x c in subst P (i.2 x) (all i.0 x i.1)
+
+-- a point of these trees is a journey between the stops
+pub journey_between : (table : Table) (held : ℕ → Option Content) (froms tos : List ℕ) (d : ℕ) (p : PointData)
+    → IsAskedPoint table held froms tos d p → IsJourneyBetween table froms tos d p
+journey_between table held froms tos d p h = record {
+  starts = subst (λ s. Contains froms s) (sym h.2.starts) h.1.0;
+  ends = h.1.2;
+  journey = subst (λ s. Journey table s d p.legs p.to p.arrival) (sym h.2.starts) h.2.journey.0;
+  rides = h.2.counted;
+}
+
+-- journeys between the stops are told
+pub shown_journeys : (basis : BasisData) (froms tos : List ℕ) (d : ℕ) (wanted : Bool) (journeys : List PointData) (points : List Point)
+    → All (IsJourneyBetween basis.timetable froms tos d) journeys → AllZip (Tells basis d wanted) journeys points
+    → AllZip (Shows basis froms tos d wanted) (map numbers journeys) points
+shown_journeys basis froms tos d wanted [] [] are h = tt
+shown_journeys basis froms tos d wanted [] (point ∷ points) are h = absurd h
+shown_journeys basis froms tos d wanted (p ∷ journeys) [] are h = absurd h
+shown_journeys basis froms tos d wanted (p ∷ journeys) (point ∷ points) are h =
+    let is = are 0 p (omega arith) in (
+      record {
+        rides = h.0.rides;
+        at = h.0.at;
+        told = λ e. record {
+          from = p.from;
+          to = p.to;
+          legs = p.legs;
+          starts = is.starts;
+          ends = is.ends;
+          journey = is.journey;
+          rides = is.rides;
+          told = h.0.told e;
+        };
+        untold = h.0.untold;
+      },
+      shown_journeys basis froms tos d wanted journeys points (All-tail (IsJourneyBetween basis.timetable froms tos d) p journeys are) h.1,
+    )
+
+module _ (table : Table) (k : ℕ) (trees : List Content) (all : AreAllTrees table k trees) where
+  -- all trees are complete
+  pub are_complete : (froms : List ℕ) → AreComplete table (λ s. slice_get trees s) k froms
+  are_complete froms s tree c e =
+      let here = get_or_from_slice_get trees s tree tree e in
+      let is = all.each s tree (slice_get_within trees s tree e) in
+      (subst (λ (t : Content). Complete table k t.source t.pairs) here is.complete, subst (λ (t : Content). longest t.pairs ≤ k) here is.short)
+
+  none_some : (x : Content) → None ≡ Some x → ⊥
+  none_some x e = cc
+
+  -- no stop's tree is missing
+  pub none_missing : (froms : List ℕ) (s : ℕ) → All (λ p. p < stops_of table) froms → ¬ IsFirstMissing (λ p. slice_get trees p) froms s
+  none_missing froms s known first =
+      let below = known first.index s first.within in
+      let here = first.here in
+      let lt : s < length trees = (let count = all.count in omega (arith, below, here, count)) in
+      let no_tree : Content = get_or trees s (record { source = 0; pairs = [] }) in
+      none_some _ (sym first.missing ∙ slice_get-get_or trees s no_tree lt)

@@ -1,0 +1,4 @@
+pub mod Answers
+pub mod Found
+pub mod Refusals
+pub mod Tasks

@@ -1,8 +1,0 @@
-use Rattle.std.proofs.Common.{take}
-use Rattle.std.specs.List.{AllZip}
-use Rattle.commands.specs.Points.{ShowsNumbers}
-use Rattle.commands.proofs.points.points_of.Given as goal
-
--- each of the numbers so far is shown
-abbrev pub invariant-loop-numbers : goal.invariant-loop-numbers
-invariant-loop-numbers l = AllZip (ShowsNumbers l.basis) (take l.numbers-index l.front) l.points.items

@@ -1,8 +1,0 @@
-use Rattle.std.proofs.Common.{take}
-use Rattle.std.specs.List.{AllZip}
-use Rattle.commands.specs.Points.{Tells}
-use Rattle.commands.proofs.points.told.Given as goal
-
--- each of the journeys so far is told
-abbrev pub invariant-loop-journey : goal.invariant-loop-journey
-invariant-loop-journey l = AllZip (Tells l.basis l.depart l.wanted) (take l.journey-index l.journeys) l.points.items

@@ -1,0 +1,3 @@
+pub mod BasisFacts
+pub mod FaultFacts
+pub mod NameFacts

@@ -1,0 +1,51 @@
+use Rattle.std.proofs.Common.{subst, subst₂, sym, inr}
+use Rattle.std.proofs.lemmas.Result.{err_from_is_err_and}
+use Rattle.gtfs_tables.specs.Tables.{TableValues}
+use Rattle.timetable.specs.Answers.{IsFault, IsTimetable}
+use Rattle.timetable.specs.Names.{AreNamesOf}
+use Rattle.timetable.specs.Table.{Table, IsTable}
+use Rattle.feed_basis.specs.Basis.{AreDays}
+use Rattle.feed_basis.proofs.FaultFacts.{of_cover, of_rows}
+use Rattle.feed_basis.proofs.BasisFacts.{is_sound}
+use Rattle.feed_basis.proofs.basis.basis_over.Goals as goal
+
+pub returns-in_err-cover-clause-fault : goal.returns-in_err-cover-clause-fault
+returns-in_err-cover-clause-fault c = λ feed h.
+    let p = err_from_is_err_and c.from_residual.result c.from_residual.ensures.1 in
+    rw (p.1, p.2) (of_cover feed c.args.settings.now c.args.first c.in_err-cover.field-0.0 h.0 c.in_err-cover.ensures)
+
+pub returns-in_err-timetable-clause-fault : goal.returns-in_err-timetable-clause-fault
+returns-in_err-timetable-clause-fault c = λ feed h.
+    let p = err_from_is_err_and c.from_residual-in_err-timetable.result c.from_residual-in_err-timetable.ensures.1 in
+    let settings = c.args.settings.now in
+    let fault = c.in_err-timetable.field-0.0 in
+    let cover = c.in_ok-cover.cover in
+    let covered = c.in_ok-cover.ensures in
+    let days : AreDays feed settings c.args.first cover = record { zone = covered.1; faultless = h.0; rule = covered.2; covered = covered.3 } in
+    rw (p.1, p.2) (of_rows feed settings fault c.args.first
+    (inr (cover, days, subst (λ (t : TableValues). IsFault t cover settings.default_walk fault) h.1 c.in_err-timetable.ensures.fault)))
+
+pub returns-in_err-names-clause-fault : goal.returns-in_err-names-clause-fault
+returns-in_err-names-clause-fault c = λ feed h.
+    let p = err_from_is_err_and c.from_residual-in_err-names.result c.from_residual-in_err-names.ensures.1 in
+    rw (p.1, p.2) tt
+
+pub returns-clause-basis : goal.returns-clause-basis
+returns-clause-basis c = λ feed h.
+    let cover = c.in_ok-cover.cover in
+    let covered = c.in_ok-cover.ensures in
+    record {
+      days = record { zone = covered.1; faultless = h.0; rule = covered.2; covered = covered.3 };
+      timetable = subst₂ (λ (t : TableValues) (table : Table). IsTimetable t cover c.args.settings.now.default_walk table) h.1 (sym c.in-Ok.ensures.ok)
+          c.in_ok-timetable.ensures.ok;
+      named = subst (λ (t : TableValues). AreNamesOf t c.in_ok-names.names) h.1 c.in_ok-names.ensures;
+    }
+
+pub invariant_of-result : goal.invariant_of-result
+invariant_of-result c =
+    let cover = c.in_ok-cover.cover in
+    let walk = c.args.settings.now.default_walk in
+    let is = c.in-Ok.ensures.ok in
+    let valid : IsTable c.in_ok-timetable.timetable = subst IsTable c.timetable.view_is c.timetable.invariant in
+    is_sound c.args.tables.now cover walk _ (subst IsTable (sym is) valid)
+    (subst (λ (table : Table). IsTimetable c.args.tables.now cover walk table) (sym is) c.in_ok-timetable.ensures.ok) c.in_ok-names.ensures

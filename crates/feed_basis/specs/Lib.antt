@@ -1,0 +1,3 @@
+pub mod Basis
+pub mod BasisFaults
+pub mod Ids

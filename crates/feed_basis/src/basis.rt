@@ -1,0 +1,151 @@
+//! What questions are asked of.
+
+ghost use Rattle.std.specs.Prelude.{◌≡◌, ◌∷◌, ◌<◌, ◌↔◌, [], IsTrue, IfOk, IfErr, IfSome, option_map};
+ghost use Rattle.std.specs.Arc.{arc_value};
+ghost use Rattle.answer_lines.specs.Moments.{Says};
+ghost use Rattle.feed_basis.specs.Basis.{AreTablesOf, IsBasis, IsSound};
+ghost use Rattle.feed_basis.specs.BasisFaults.{IsBasisFault};
+ghost use Rattle.feed_basis.specs.Ids.{IsKnown, stop_alone};
+ghost use Rattle.gtfs_tables.specs.Feed.{Feed, AreReaders};
+ghost use Rattle.planner.specs.Places.{stops_at};
+ghost use Rattle.service_days.specs.Answers.{IsMoment};
+ghost use Rattle.timetable.specs.Table.{IsTable, stops_of};
+
+use answer_lines::{DayTime, day_time};
+use direct_connections::Network;
+use gtfs_tables::{Files, Tables, read_tables};
+use jiff::civil::Date;
+use program_inputs::{Fault, NO_KEYS, Settings};
+use service_days::Cover;
+use std::alloc::{AllocError, Global};
+use std::hash::RandomState;
+use std::io::Read;
+use std::marker::Model;
+use std::sync::Arc;
+use timetable::{Names, StopId, Timetable, assemble};
+
+/// A feed's timetable on the covered days, with the ids of its stops, stations and trips.
+#[derive(Drop)]
+pub struct Basis {
+    timetable: Arc<Timetable>,
+    names: Names,
+    cover: Cover,
+}
+
+impl Model for Basis {
+    ghost use Rattle.std.specs.Arc.{arc_value};
+    ghost use Rattle.feed_basis.specs.Basis.{BasisData, IsSound};
+
+    ghost Value = { BasisData };
+
+    ghost view = { λ b. record { timetable = arc_value b.timetable; names = b.names; cover = b.cover } };
+
+    ghost invariant = { λ b. IsSound (record { timetable = arc_value b.timetable; names = b.names; cover = b.cover }) };
+}
+
+impl Basis {
+    /// The timetable on the covered days.
+    pub fn timetable(&self) -> &Timetable
+        ensures value { result.now ≡ self.now.timetable }
+        ensures valid { IsTable result.now }
+        ensures sound { IsSound self.now }
+    {
+        &self.timetable
+    }
+
+    /// The timetable, for one more that holds it.
+    pub fn shared(&self) -> &Arc<Timetable>
+        ensures { arc_value result.now ≡ self.now.timetable }
+    {
+        &self.timetable
+    }
+
+    /// The timetable with its lines and direct connections. It fails only where memory runs out.
+    pub fn network(&self, alloc: Global) -> Result<Network, AllocError>
+        ensures { IfOk result (λ network. network ≡ self.now.timetable) }
+    {
+        let timetable = Arc::try_clone(&self.timetable)?;
+        Network::of(alloc, timetable)
+    }
+
+    /// The ids of the feed's stops, stations and trips.
+    pub fn names(&self) -> &Names
+        ensures value { result.now ≡ self.now.names }
+        ensures sound { IsSound self.now }
+    {
+        &self.names
+    }
+
+    /// The stop of an id: a station is no stop.
+    pub fn stop_named(&self, id: &str) -> Option<StopId>
+        ensures value { option_map (λ stop. stop ∷ []) result ≡ stop_alone self.now.names id.now }
+        ensures stop { IfSome result (λ stop. stop < stops_of self.now.timetable) }
+    {
+        self.names.stop_named(id)
+    }
+
+    /// Whether an id stands for a stop or a station.
+    pub fn is_place(&self, id: &str) -> bool
+        ensures { IsTrue result ↔ IsKnown (stops_at self.now.names) id.now }
+    {
+        self.names.place(id).is_some()
+    }
+
+    /// The service day and its time that a moment is.
+    pub fn day_time(&self, moment: u32) -> DayTime
+        ensures { Says self.now.cover moment result }
+    {
+        day_time(&self.cover, moment)
+    }
+
+    /// The moment of a time of a day, in seconds from the start of the first covered day; none where the day isn't covered, or the
+    /// time is past 167:59:59.
+    pub fn moment(&self, day: Date, seconds: u32) -> Option<u32>
+        ensures { IsMoment self.now.cover day seconds result }
+    {
+        self.cover.moment(day, seconds)
+    }
+}
+
+// The timetable of a feed's tables on the days from the first one on.
+fn basis_over<'a>(
+    alloc: Global,
+    keys: RandomState,
+    settings: &Settings<'a>,
+    first: Date,
+    tables: &Tables,
+) -> Result<Basis, Fault<'a>>
+    ensures basis { (feed : Feed) → AreTablesOf feed tables.now → IfOk result (IsBasis feed settings.now first) }
+    ensures fault { (feed : Feed) → AreTablesOf feed tables.now → IfErr result (IsBasisFault feed settings.now first) }
+{
+    let cover = Cover::new(first, settings.days, settings.zone)?;
+    let timetable = assemble(alloc, tables, &cover, settings.default_walk)?;
+    let names = Names::of(alloc, keys, tables)?;
+    let Ok(timetable) = Arc::new(alloc, timetable) else {
+        return Err(Fault::Memory);
+    };
+    Ok(Basis {
+        timetable,
+        names,
+        cover,
+    })
+}
+
+/// What questions are asked of, over the feed's files and the days from the first one on. It is given only where every test of the feed
+/// holds and the settings' zone is one. Where there are no `keys` for the look-up of ids, that is a feed whose reader failed.
+pub fn basis_of<'a, R: Read + Drop>(
+    alloc: Global,
+    keys: Option<RandomState>,
+    settings: &Settings<'a>,
+    first: Date,
+    files: Files<R>,
+) -> Result<Basis, Fault<'a>>
+    ensures basis { (feed : Feed) → AreReaders R.remaining files feed → IfOk result (IsBasis feed settings.now first) }
+    ensures fault { (feed : Feed) → AreReaders R.remaining files feed → IfErr result (IsBasisFault feed settings.now first) }
+{
+    let Some(keys) = keys else {
+        return Err(Fault::Feed(NO_KEYS));
+    };
+    let tables = read_tables(alloc, keys, files)?;
+    basis_over(alloc, keys, settings, first, &tables)
+}

@@ -1,0 +1,2 @@
+pub mod LoopFacts
+pub mod PartFacts

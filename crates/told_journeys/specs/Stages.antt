@@ -1,0 +1,45 @@
+-- How a journey is told: its rides, and the walks before, between and after them. One who stays at a stop isn't told of.
+-- GTFS Schedule, stop_times.txt and transfers.txt: a ride is part of a trip, and a walk leads from one stop to another.
+use Rattle.std.specs.Prelude.{◌≡◌, ℕ, ◌+◌, ◌==◌, List, [], ◌∷◌, ◌++◌, slice_get, slice_index_or, if◌then◌else◌}
+use Rattle.std.specs.Option.{option_map, unwrap_or}
+use Rattle.timetable.specs.declared.parts.Leg.{Leg}
+use Rattle.timetable.specs.Table.{Table, walk}
+use Rattle.timetable.specs.Journeys.{from, to, departs, arrives}
+use Rattle.timetable.specs.NameLists.{NameLists}
+use Rattle.feed_basis.specs.Basis.{BasisData}
+use Rattle.answer_lines.specs.Moments.{Says}
+use Rattle.told_journeys.specs.declared.parts.Part.{Part}
+use Rattle.told_journeys.specs.declared.parts.Part.TheVariants as parts
+use Rattle.answer_lines.specs.declared.stage.Stage.{Stage}
+use Rattle.answer_lines.specs.declared.stage.Stage.TheVariants as stages
+
+-- the walk from p, begun at the moment a, to q: none where the two are one stop
+abbrev pub walk_part : Table → ℕ → ℕ → ℕ → List Part
+walk_part table p a q = if p == q then [] else (parts.Walk p q (a + unwrap_or (walk table p q) 0) ∷ [])
+
+-- one who is at p at the moment a takes the legs, with the walks before, between and after them, to t
+abbrev pub parts_of : Table → ℕ → ℕ → List Leg → ℕ → List Part
+parts_of table p a [] t = walk_part table p a t
+parts_of table p a (leg ∷ legs) t =
+    walk_part table p a (from table leg) ++ (parts.Ride leg ∷ parts_of table (to table leg) (arrives table leg) legs t)
+
+-- the id of a stop, and that of an instance's trip
+abbrev pub stop_id : NameLists → ℕ → List ℕ
+stop_id names stop = slice_index_or names.stops stop []
+
+abbrev pub trip_of : Table → ℕ → ℕ
+trip_of table instance = unwrap_or (option_map (λ run. run.trip) (slice_get table.instances instance)) 0
+
+abbrev pub trip_id : Table → NameLists → ℕ → List ℕ
+trip_id table names instance = slice_index_or names.trips (trip_of table instance) []
+
+-- a ride is told by its trip, and the stop and the time at which it boards and alights; a walk by its stops, and when it arrives
+abbrev pub ShowsPart : BasisData → Part → Stage → Type 0
+ShowsPart basis (parts.Ride leg) (stages.Ride trip board leaves alight comes) =
+    (trip ≡ trip_id basis.timetable basis.names leg.instance)
+    × (board ≡ stop_id basis.names (from basis.timetable leg)) × Says basis.cover (departs basis.timetable leg) leaves
+    × (alight ≡ stop_id basis.names (to basis.timetable leg)) × Says basis.cover (arrives basis.timetable leg) comes
+ShowsPart basis (parts.Walk p q z) (stages.Walk leaves reaches comes) =
+    (leaves ≡ stop_id basis.names p) × (reaches ≡ stop_id basis.names q) × Says basis.cover z comes
+ShowsPart basis (parts.Ride leg) (stages.Walk leaves reaches comes) = ⊥
+ShowsPart basis (parts.Walk p q z) (stages.Ride trip board leaves alight comes) = ⊥

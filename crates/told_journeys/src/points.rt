@@ -1,0 +1,79 @@
+//! Best journeys as points of an answer.
+
+ghost use Rattle.std.specs.Prelude.{◌≤◌, IfOk};
+ghost use Rattle.std.specs.List.{All, AllZip};
+ghost use Rattle.told_journeys.specs.Points.{IsKnownJourney, ShowsNumbers, Tells};
+
+use crate::parts::parts;
+use crate::stages::stages_of;
+use answer_lines::Point;
+use feed_basis::Basis;
+use std::alloc::{AllocError, Global};
+use timetable::Numbers;
+
+/// Each of these numbers as a point, without rides and walks. It fails only where memory runs out.
+pub fn points_of(alloc: Global, basis: &Basis, front: &[Numbers]) -> Result<Vec<Point>, AllocError>
+    ensures { IfOk result (λ points. AllZip (ShowsNumbers basis.now) front.now points.items) }
+{
+    let mut points = Vec::with_capacity(alloc, front.len())?;
+    for numbers in front {
+        points.push(Point {
+            rides: numbers.rides,
+            at: basis.day_time(numbers.arrival),
+            stages: Vec::new(alloc),
+        })?;
+    }
+    Ok(points)
+}
+
+// A journey that begins at the moment as a point, with its rides and walks where they are wanted.
+fn tell(
+    alloc: Global,
+    basis: &Basis,
+    depart: u32,
+    wanted: bool,
+    journey: &pattern_query::Point,
+) -> Result<Point, AllocError>
+    requires early { depart ≤ 4_000_000_000 }
+    requires known { IsKnownJourney basis.now depart journey.now }
+    ensures { IfOk result (Tells basis.now depart wanted journey.now) }
+{
+    let stages = if wanted {
+        let parts = parts(
+            alloc,
+            basis.timetable(),
+            journey.from(),
+            depart,
+            journey.legs(),
+            journey.to(),
+        )?;
+        stages_of(alloc, basis, &parts)?
+    } else {
+        Vec::new(alloc)
+    };
+    Ok(Point {
+        rides: journey.rides(),
+        at: basis.day_time(journey.arrival()),
+        stages,
+    })
+}
+
+/// Each of these journeys, which begin at the moment, as a point, with its rides and walks where they are wanted. It fails only where
+/// memory runs out.
+pub fn told(
+    alloc: Global,
+    basis: &Basis,
+    depart: u32,
+    wanted: bool,
+    journeys: &[pattern_query::Point],
+) -> Result<Vec<Point>, AllocError>
+    requires early { depart ≤ 4_000_000_000 }
+    requires known { All (IsKnownJourney basis.now depart) journeys.now }
+    ensures { IfOk result (λ points. AllZip (Tells basis.now depart wanted) journeys.now points.items) }
+{
+    let mut points = Vec::with_capacity(alloc, journeys.len())?;
+    for journey in journeys {
+        points.push(tell(alloc, basis, depart, wanted, journey)?)?;
+    }
+    Ok(points)
+}
