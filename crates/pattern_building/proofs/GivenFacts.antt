@@ -1,8 +1,9 @@
 -- How a content comes to have the pairs that the rounds give.
-use Rattle.std.proofs.Common.{Option, ◌≡◌, ℕ, ◌+◌, ◌-◌, ◌<◌, ◌≤◌, ◌⊎◌, ◌↔◌, List, ◌∷◌, Some, None, IsSomeAnd, arith, sym, ◌∙◌, ap, subst, inl, inr}
+use Rattle.std.proofs.Common.{Option, ◌≡◌, ℕ, ◌+◌, ◌-◌, ◌<◌, ◌≤◌, ◌⊎◌, ◌↔◌, List, ◌∷◌, length, get_or, Some, None, IsSomeAnd, arith, sym, ◌∙◌, ap, subst, inl, inr}
 use Rattle.std.specs.List.{Contains}
 use Rattle.std.proofs.lemmas.Bool.{cases_eq}
 use Rattle.timetable.specs.Front.{IsSooner}
+use Rattle.rounds.proofs.LayerSteps.{SeenIn, seen_next}
 use Rattle.rounds.specs.Mark.{Mark, mark_in, arrival_in}
 use Rattle.pattern_tree.specs.Forest.{Step, Pair}
 use Rattle.pattern_tree.proofs.PairFacts.{contains_in, in_contains}
@@ -46,6 +47,9 @@ module _ (rounds : List (List (Option Mark))) where
     | inr here ↦ now p (given.0, here, given.2)
   ]
 
+  pub has_narrower : (S T : ℕ → ℕ → Type 0) (content : List Pair) → ((r t : ℕ) → T r t → S r t) → HasGiven rounds S content → HasGiven rounds T content
+  has_narrower S T content narrower has = λ p given. has p (given.0, narrower given.0 p.1 given.1, given.2)
+
   same_path : (o : Option Mark) (x y : List Step) → IsSomeAnd o (λ m. x ≡ m.path) → IsSomeAnd o (λ m. y ≡ m.path) → x ≡ y
   same_path None x y h k = absurd h
   same_path (Some m) x y h k = h ∙ sym k
@@ -70,11 +74,16 @@ module _ (rounds : List (List (Option Mark))) where
       absurd (not_sooner (subst (λ (r : ℕ). IsSooner (arrival_in rounds r n) (arrival_in rounds (r - 1) n)) given.1.0
       (subst (λ (t : ℕ). IsSooner (arrival_in rounds given.0 t) (arrival_in rounds (given.0 - 1) t)) given.1.1 given.2.0)))
 
+-- the first n of a list of stops, after so many rides
+abbrev pub SeenAt : ℕ → ℕ → List ℕ → ℕ → ℕ → ℕ → Type 0
+SeenAt rides stops listed n r t = (r ≡ rides) × (t < stops) × SeenIn listed n t
+
 -- one stop more, or one number of rides more
-pub next_stop : (rides n r t : ℕ) → InRound rides (n + 1) r t → InRound rides n r t ⊎ AtStop rides n r t
-next_stop rides n r t h = elim (cases_eq t n) [
-  | inl is ↦ inr (h.0, is)
-  | inr apart ↦ inl (h.0, (let a = h.1 in let k : t < n = omega (arith, a, apart) in k))
+pub next_stop : (rides stops : ℕ) (listed : List ℕ) (n x r t : ℕ) → n < length listed → x ≡ get_or listed n x
+    → SeenAt rides stops listed (n + 1) r t → SeenAt rides stops listed n r t ⊎ (AtStop rides x r t × (t < stops))
+next_stop rides stops listed n x r t in' is h = elim (seen_next listed n x t in' is h.2) [
+  | inl before ↦ inl (h.0, h.1, before)
+  | inr now ↦ inr ((h.0, now), h.1)
 ]
 
 pub next_round : (rides n r t : ℕ) → UpToRound (rides + 1) n r t → UpToRound rides n r t ⊎ InRound (rides + 1) n r t
@@ -83,17 +92,11 @@ next_round rides n r t h = elim (cases_eq r (rides + 1)) [
   | inr apart ↦ inl (h.0, (let a = h.1 in let k : r ≤ rides = omega (arith, a, apart) in k), h.2)
 ]
 
-pub more_stops : (rides n r t : ℕ) → InRound rides n r t → InRound rides (n + 1) r t
-more_stops rides n r t h = (h.0, (let a = h.1 in let k : t < n + 1 = omega (arith, a) in k))
-
 pub more_rounds : (rides most n r t : ℕ) → rides ≤ most → UpToRound rides n r t → UpToRound most n r t
 more_rounds rides most n r t le h = (h.0, (let a = h.1 in let k : r ≤ most = omega (arith, a, le) in k), h.2)
 
 pub own_round : (rides n r t : ℕ) → InRound (rides + 1) n r t → UpToRound (rides + 1) n r t
 own_round rides n r t h = (let a = h.0 in (let k : 1 ≤ r = omega (arith, a) in k, let k : r ≤ rides + 1 = omega (arith, a) in k, h.1))
-
-pub all_stops : (rides n stops r t : ℕ) → n ≤ stops → InRound rides n r t → InRound rides stops r t
-all_stops rides n stops r t le h = (h.0, (let a = h.1 in let k : t < stops = omega (arith, a, le) in k))
 
 -- what one pair in front adds
 pub adds_front : (rounds : List (List (Option Mark))) (S : ℕ → ℕ → Type 0) (content : List Pair) (p : Pair) → IsGiven rounds S p → AddsGiven rounds S content (p ∷ content)

@@ -7,14 +7,14 @@ use Rattle.timetable.specs.Table.{Table, stops_of}
 use Rattle.timetable.specs.Front.{IsSooner}
 use Rattle.timetable.specs.Journeys.{Reaches, Unbeaten, IsLeast}
 use Rattle.timetable.proofs.Taken.{journey_earlier}
-use Rattle.rounds.specs.Mark.{Mark, arrival_in, moment_in}
+use Rattle.rounds.specs.Mark.{Mark, arrival_in}
 use Rattle.rounds.specs.Answers.{AreRounds, ArrivesWithin}
 use Rattle.pattern_tree.specs.Forest.{Step, Pair}
 use Rattle.pattern_tree.specs.Completeness.{IsPathOf}
 use Rattle.std.specs.List.{Contains}
-use Rattle.pattern_building.specs.RoundPairs.{InRound, UpToRound, HasGiven, Keeps, CompleteAt}
+use Rattle.pattern_building.specs.RoundPairs.{InRound, UpToRound, Keeps, CompleteAt}
 use Rattle.pattern_building.specs.Lowered.{Lowered, AreLater}
-use Rattle.pattern_building.proofs.GivenFacts.{AtStop, next_round}
+use Rattle.pattern_building.proofs.GivenFacts.{next_round}
 use Rattle.pattern_building.proofs.CompleteFacts.{at_later, complete_kept}
 
 -- an arrival is sooner than another or not
@@ -43,16 +43,6 @@ module _ (rounds : List (List (Option Mark))) (before : List (List (Option ℕ))
   pub lowered_round : (i n r t : ℕ) → Lowered rounds before (UpToRound (i + 1) n) r t
       → Lowered rounds before (UpToRound i n) r t ⊎ Lowered rounds before (InRound (i + 1) n) r t
   lowered_round i n = lowered_split (UpToRound i n) (InRound (i + 1) n) (UpToRound (i + 1) n) (next_round i n)
-
-  pub has_lowered : (S : ℕ → ℕ → Type 0) (content : List Pair) → HasGiven rounds S content → HasGiven rounds (Lowered rounds before S) content
-  has_lowered S content has = λ p given. has p (given.0, given.1.0, given.2)
-
-  -- where the arrival is no sooner than before nothing is missed
-  pub has_no_sooner : (rides n : ℕ) (content : List Pair) → (IsSooner (arrival_in rounds rides n) (moment_in before rides n) → ⊥)
-      → HasGiven rounds (Lowered rounds before (AtStop rides n)) content
-  has_no_sooner rides n content no_sooner = λ p given.
-      absurd (no_sooner (subst (λ (r : ℕ). IsSooner (arrival_in rounds r n) (moment_in before r n)) given.1.0.0
-      (subst (λ (t : ℕ). IsSooner (arrival_in rounds given.0 t) (moment_in before given.0 t)) given.1.0.1 given.1.1)))
 
 module _ (table : Table) (s k : ℕ) where
   -- best numbers that are those of a journey at a later departure, for which the content is complete, have a path there

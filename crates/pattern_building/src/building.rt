@@ -16,7 +16,8 @@ use rounds::{RoundView, Scratch};
 use std::alloc::{Allocator, Global};
 use timetable::{StopId, Timetable};
 
-// Puts in the pairs of journeys of exactly so many rides that are sooner than with fewer, where the run lowered the arrival.
+// Puts in the pairs of journeys of exactly so many rides, to one of so many stops, that are sooner than with fewer, where the run
+// lowered the arrival.
 fn add_round<A: Allocator + Clone>(
     view: &RoundView<'_>,
     rides: u8,
@@ -25,7 +26,6 @@ fn add_round<A: Allocator + Clone>(
 ) -> Result<(), TreeFault>
     requires some { 1 ≤ rides }
     requires few { rides ≤ length (rounds_of view.now) }
-    requires known { stops ≤ 65_534 }
     requires ridden { (p : Pair) → p.1 < stops → Gives (rounds_of view.now) rides p → 0 < length p.0 }
     requires once { AllPairs (λ p q. p ≢ q) tree.old.pairs }
     ensures source { tree.new.source ≡ tree.old.source }
@@ -37,11 +37,10 @@ fn add_round<A: Allocator + Clone>(
     ensures large { result ≡ Err TreeFault.TooLarge
         → (p : Pair) × IsGiven (rounds_of view.now) (InRound rides stops) p × IsTooLarge tree.new.pairs p }
 {
-    for number in 0..stops {
-        let stop = StopId::new(number as u16);
-        if view.changed(rides, stop) {
-            if let Some(path) = view.pattern(rides, stop) {
-                tree.insert(path.as_slice(), stop)?;
+    for stop in view.lowered(rides) {
+        if stop.number() < stops {
+            if let Some(path) = view.pattern(rides, *stop) {
+                tree.insert(path.as_slice(), *stop)?;
             }
         }
     }

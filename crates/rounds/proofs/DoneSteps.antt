@@ -1,26 +1,36 @@
 -- A run that keeps labels goes from one layer to the next.
-use Rattle.std.proofs.Common.{Option, ◌≡◌, ℕ, suc, ◌+◌, ◌-◌, ◌<◌, ◌≤◌, List, [], ◌∷◌, length, arith, sym, subst, inl, inr, ◌≢◌, All, eq-or-lt_of_le}
+use Rattle.std.proofs.Common.{Option, ◌≡◌, ℕ, suc, ◌+◌, ◌<◌, ◌≤◌, List, [], ◌∷◌, length, map, arith, sym, ◌∙◌, ap, subst, inl, inr, ◌≢◌, eq-or-lt_of_le, zero, refl}
+use Rattle.std.specs.List.{All}
+use Rattle.std.proofs.lemmas.List.{length-map, get_or-map}
+use Rattle.std.proofs.lemmas.List.Elements.{All-map}
 use Rattle.timetable.specs.declared.parts.Leg.{Leg}
 use Rattle.timetable.specs.Table.{Table, IsTable, stops_of}
-use Rattle.timetable.specs.Journeys.{foot}
+use Rattle.timetable.specs.Journeys.{foot, from, to, departs, arrives}
 use Rattle.timetable.proofs.Taken.{the_some, rides_some}
 use Rattle.rounds.specs.Answers.{AreRounds}
 use Rattle.rounds.specs.Mark.{Mark, at, By}
-use Rattle.rounds.specs.Marks.{ReadySet}
-use Rattle.rounds.specs.Layers.{LayerData, IsSized, Stepped, IsLayer, IsRound, IsBegun, IsDone, IsDoneRound, Ridden, AreKept, DoneTo, layer_at, round_at}
-use Rattle.rounds.proofs.MarkSteps.{rounds_are}
-use Rattle.rounds.proofs.KeptSteps.{layer_done, layer_of_done, round_done, round_of_done}
+use Rattle.rounds.specs.Row.{RowData, SameRow, ByThen, arrivals_of, settled_of}
+use Rattle.rounds.specs.Marks.{RideSet, ReadySet, JourneySet, IsMark}
+use Rattle.rounds.specs.Serving.{Served}
+use Rattle.rounds.specs.Layers.{IsSettled, IsBelow, Attained, IsRound, IsNext, IsBegun, IsBegunRound, IsBegunNext, IsDone, IsDoneRound, Begins, Ridden, AreKept, DoneTo, no_row, layer_at, round_at}
+use Rattle.rounds.specs.declared.layer.Layer.{Layer}
+use Rattle.rounds.proofs.Steps.{by_some}
+use Rattle.rounds.proofs.LayerSteps.{then_by}
+use Rattle.rounds.proofs.MarkSteps.{rounds_are, known_of}
+use Rattle.rounds.proofs.KeptSteps.{layer_done, layer_of_done, round_done, round_of_done, next_done}
 
-pub round_moved : (table : Table) (s d r : ℕ) (x y : LayerData) (marks : List (Option Mark)) → y.walked ≡ x.walked → IsRound table s d r x marks → IsRound table s d r y marks
-round_moved table s d r x y marks e is = record {
-  size = is.size;
-  attained = is.attained;
-  walked = subst (λ (xs : List ℕ). Stepped (foot table) xs marks) (sym e) is.walked;
-}
+-- before any ride nobody alights
+nobody : (table : Table) (s d : ℕ) (marks : List (Option Mark)) → Attained table (RideSet table s d 0) marks → (p a : ℕ) → By (at marks p) a → ⊥
+nobody table s d marks is p a h =
+    let m = by_some (at marks p) a h in
+    let o = is p m.0 m.1 in
+    let some = rides_some table s d o.0 p m.0.arrival o.1.0 in
+    let few = o.1.1 in
+    omega (arith, some, few)
 
--- before any ride nobody alights, so the first layer is done as soon as a run has begun
-pub first_done : (table : Table) (s d : ℕ) (x : LayerData) → IsTable table → IsBegun table s d 0 x → IsDone table s d 0 x
-first_done table s d x valid is = record {
+-- so the first layer is done as soon as a run has begun
+pub first_done : (table : Table) (s d : ℕ) (x : Layer) → IsBegun table s d 0 x → IsDone table s d 0 x
+first_done table s d x is = record {
   sized = is.sized;
   rides = record {
     size = is.sized.rode;
@@ -36,68 +46,125 @@ first_done table s d x valid is = record {
       least = λ legs b h. on_foot_least q legs b h;
     };
   };
-  served = is.served;
-  linked = is.linked;
+  linked = λ p q w a h e. absurd (nobody table s d x.rode.marks is.rides p a (then_by (at x.rode.marks p) a h));
 } where
-  on_foot_least : (q : ℕ) (legs : List Leg) (b : ℕ) → ReadySet table s d 0 q legs b → By (at x.ready q) b
+  on_foot_least : (q : ℕ) (legs : List Leg) (b : ℕ) → ReadySet table s d 0 q legs b → By (at x.ready.marks q) b
   on_foot_least q [] b h =
       let w = the_some (foot table s q) (λ w. b ≡ d + w) h.0 in
-      subst (λ y. By (at x.ready q) y) (sym w.2) (is.on_foot q w.0 w.1)
+      subst (λ y. By (at x.ready.marks q) y) (sym w.2) (is.on_foot q w.0 w.1)
   on_foot_least q (y ∷ ys) b h = absurd (let few = h.1 in let e : ⊥ = omega (arith, few) in e)
 
+-- and nobody who alights before any ride could take one
+pub first_served : (table : Table) (s d : ℕ) (x : Layer) (rode : List (Option Mark)) → IsDone table s d 0 x → Served table (arrivals_of x.rode) rode
+first_served table s d x rode is leg ride h =
+    absurd (nobody table s d x.rode.marks (λ p m e. (is.rides.marks_are p (known_of table x.rode.marks is.rides.size p m e)).attained m e) (from table leg) (departs table leg) (then_by (at x.rode.marks (from table leg)) (departs table leg) h))
+
+-- what was done before a run is done, as its labels were settled
+module _ (table : Table) (s d r : ℕ) (x x' y y' : Layer) (round round' : RowData) (first : Begins table s d r x x') (second : Begins table s d (suc r) y y') where
+  pub round_begun : IsSettled round round' → IsRound table s d (suc r) y round → IsBegunRound table s d (suc r) y' round'
+  round_begun settled is = record {
+    size = ap (length {A = Option Mark}) settled.marks ∙ is.size;
+    attained = subst (λ (marks : List (Option Mark)). Attained table (JourneySet table s d (suc r)) marks) (sym settled.marks) is.attained;
+    walked = λ p q w a h e. subst (λ (marks : List (Option Mark)). By (at marks q) (a + w)) (sym settled.marks)
+        (is.walked p q w a (subst (λ (o : Option ℕ). ByThen o a) (second.rode.settled p) h) e);
+  }
+
+  pub next_begun : IsNext table x y → IsBegunNext table x' y'
+  next_begun is = record {
+    served = λ leg ride h. subst (λ (marks : List (Option Mark)). By (at marks (to table leg)) (arrives table leg)) (sym second.rode.marks)
+        (is.served leg ride (subst (λ (o : Option ℕ). ByThen o (departs table leg)) (first.ready (from table leg)) h));
+    below = λ p a h. subst (λ (marks : List (Option Mark)). By (at marks p) a) (sym second.rode.marks)
+        (is.below p a (subst (λ (o : Option ℕ). ByThen o a) (first.rode.settled p) h));
+  }
+
 -- a run has begun in all layers
-pub all_begun : (table : Table) (s d : ℕ) (old new : List LayerData) (rounds : List (List (Option Mark))) → IsTable table
-    → length new ≡ length old → length new ≡ suc (length rounds)
-    → ((r : ℕ) → r < length new → IsLayer table s d r (layer_at old r) → IsBegun table s d r (layer_at new r))
-    → ((r : ℕ) → r < length new → (layer_at new r).walked ≡ (layer_at old r).walked)
-    → AreKept table s d old rounds → DoneTo table s d 0 new rounds
-all_begun table s d old new rounds valid same sizes begins walked is = record {
-  sizes = sizes;
+pub all_begun : (table : Table) (s d : ℕ) (old new : List Layer) (rounds rounds' : List RowData) → length new ≡ length old → length rounds' ≡ length rounds
+    → length old ≡ suc (length rounds)
+    → ((r : ℕ) → r < length old → Begins table s d r (layer_at old r) (layer_at new r))
+    → ((r : ℕ) → r < length rounds → IsSettled (round_at rounds r) (round_at rounds' r))
+    → AreKept table s d old rounds → DoneTo table s d 0 new rounds'
+all_begun table s d old new rounds rounds' e1 e2 sizes begins settled is = record {
+  sizes = omega (arith, e1, e2, sizes);
   done = λ r le.
       let z : 0 ≡ r = omega (arith, le) in
       subst (λ k. IsDone table s d k (layer_at new k)) z
-      (first_done table s d (layer_at new 0) valid (begins 0 (let k : 0 < length new = omega (arith, sizes) in k) (is.each 0 (let k : 0 < length old = omega (arith, sizes, same) in k))));
+      (first_done table s d (layer_at new 0) ((begins 0 (let k : 0 < length old = omega (arith, sizes) in k)).begun (is.each 0 (let k : 0 < length old = omega (arith, sizes) in k))));
   found = λ r lt. absurd (let b : ⊥ = omega (arith, lt) in b);
-  begun = λ r _ lt. begins r lt (is.each r (let k : r < length old = omega (arith, lt, same) in k));
-  ends = λ r _ lt. round_moved table s d (suc r) (layer_at old (suc r)) (layer_at new (suc r)) (round_at rounds r)
-      (walked (suc r) (let k : suc r < length new = omega (arith, lt, sizes) in k)) (is.ends r lt);
+  nexts = λ r lt. absurd (let b : ⊥ = omega (arith, lt) in b);
+  begun = λ r _ lt. let in' : r < length old = omega (arith, lt, e1) in (begins r in').begun (is.each r in');
+  ends = λ r _ lt.
+      let in' : r < length rounds = omega (arith, lt, e2) in
+      round_begun table s d r (layer_at old r) (layer_at new r) (layer_at old (suc r)) (layer_at new (suc r)) (round_at rounds r) (round_at rounds' r)
+      (begins r (let k : r < length old = omega (arith, in', sizes) in k)) (begins (suc r) (let k : suc r < length old = omega (arith, in', sizes) in k)) (settled r in') (is.ends r in');
+  later = λ r _ lt.
+      let in' : r < length rounds = omega (arith, lt, e2) in
+      next_begun table s d r (layer_at old r) (layer_at new r) (layer_at old (suc r)) (layer_at new (suc r)) (round_at rounds r) (round_at rounds' r)
+      (begins r (let k : r < length old = omega (arith, in', sizes) in k)) (begins (suc r) (let k : suc r < length old = omega (arith, in', sizes) in k)) (is.nexts r in');
+}
+
+-- what a layer does to the next is settled in its rows alone
+next_moved : (table : Table) (x x' y : Layer) → SameRow x.rode x'.rode → SameRow x.ready x'.ready → IsBegunNext table x y → IsBegunNext table x' y
+next_moved table x x' y rode ready is = record {
+  served = subst (λ (xs : List (Option ℕ)). Served table (λ p. settled_of (record { marks = x'.ready.marks; settled = xs }) p) y.rode.marks) (sym ready.settled) is.served;
+  below = subst (λ (xs : List (Option ℕ)). IsBelow (λ p. settled_of (record { marks = x'.rode.marks; settled = xs }) p) y.rode.marks) (sym rode.settled) is.below;
 }
 
 -- one ride more
-pub done_next : (table : Table) (s d n : ℕ) (layers layers' : List LayerData) (rounds rounds' : List (List (Option Mark))) (x : LayerData) (marks : List (Option Mark)) → IsTable table
+pub done_next : (table : Table) (s d n : ℕ) (layers layers' : List Layer) (rounds rounds' : List RowData) (x : Layer) (round : RowData) → IsTable table
     → length layers' ≡ length layers → length rounds' ≡ length rounds → n < length rounds
     → ((r : ℕ) → r ≢ suc n → layer_at layers' r ≡ layer_at layers r) → layer_at layers' (suc n) ≡ x
-    → ((r : ℕ) → r ≢ n → round_at rounds' r ≡ round_at rounds r) → round_at rounds' n ≡ marks
-    → IsSized (stops_of table) x → length marks ≡ stops_of table
-    → Ridden table (layer_at layers n) (layer_at layers (suc n)) x (round_at rounds n) marks
+    → ((r : ℕ) → r ≢ n → round_at rounds' r ≡ round_at rounds r) → round_at rounds' n ≡ round
+    → Ridden table (layer_at layers n) (layer_at layers (suc n)) x (round_at rounds n) round
     → DoneTo table s d n layers rounds → DoneTo table s d (suc n) layers' rounds'
-done_next table s d n layers layers' rounds rounds' x marks valid e1 e2 within others here others' here' sized size ridden is =
-    let top = layer_done table s d n (layer_at layers n) (layer_at layers (suc n)) x (round_at rounds n) marks valid sized
+done_next table s d n layers layers' rounds rounds' x round valid e1 e2 within others here others' here' ridden is =
+    let ends = is.ends n (let k : n ≤ n = omega arith in k) within in
+    let top = layer_done table s d n (layer_at layers n) (layer_at layers (suc n)) x (round_at rounds n) round valid
     (is.done n (let k : n ≤ n = omega arith in k)) (is.begun (suc n) (let k : n < suc n = omega arith in k) (let z = is.sizes in let k : suc n < length layers = omega (arith, z, within) in k)) ridden in
-    let end = round_done table s d (suc n) (layer_at layers (suc n)) x (round_at rounds n) marks valid size top.rides
-    (is.ends n (let k : n ≤ n = omega arith in k) within).attained ridden.ends ridden.walked in
+    let end = round_done table s d (suc n) x (round_at rounds n) round valid top.rides ends.size ridden.ended ends.attained ridden.ends in
+    let next = next_done table (layer_at layers n) (layer_at layers (suc n)) x (round_at rounds n) round ridden in
     record {
       sizes = (let z = is.sizes in let k : length layers' ≡ suc (length rounds') = omega (arith, z, e1, e2) in k);
       done = λ r le. elim (eq-or-lt_of_le le) [
-        | inl same ↦ subst (λ k. IsDone table s d k (layer_at layers' k)) (sym same) (subst (λ (y : LayerData). IsDone table s d (suc n) y) (sym here) top)
-        | inr lt ↦ subst (λ (y : LayerData). IsDone table s d r y) (sym (others r (less_other r (suc n) lt))) (is.done r (let k : r ≤ n = omega (arith, lt) in k))
+        | inl same ↦ subst (λ k. IsDone table s d k (layer_at layers' k)) (sym same) (subst (λ (y : Layer). IsDone table s d (suc n) y) (sym here) top)
+        | inr lt ↦ subst (λ (y : Layer). IsDone table s d r y) (sym (others r (less_other r (suc n) lt))) (is.done r (let k : r ≤ n = omega (arith, lt) in k))
       ];
       found = λ r lt. elim (eq-or-lt_of_le (let k : r ≤ n = omega (arith, lt) in k)) [
         | inl same ↦
             subst (λ k. IsDoneRound table s d (suc k) (layer_at layers' (suc k)) (round_at rounds' k)) (sym same)
-            (subst (λ (y : LayerData). IsDoneRound table s d (suc n) y (round_at rounds' n)) (sym here)
-            (subst (λ (ms : List (Option Mark)). IsDoneRound table s d (suc n) x ms) (sym here') end))
+            (subst (λ (y : Layer). IsDoneRound table s d (suc n) y (round_at rounds' n)) (sym here)
+            (subst (λ (z : RowData). IsDoneRound table s d (suc n) x z) (sym here') end))
         | inr before ↦
-            subst (λ (y : LayerData). IsDoneRound table s d (suc r) y (round_at rounds' r)) (sym (others (suc r) (less_other (suc r) (suc n) (let k : suc r < suc n = omega (arith, before) in k))))
-            (subst (λ (ms : List (Option Mark)). IsDoneRound table s d (suc r) (layer_at layers (suc r)) ms) (sym (others' r (less_other r n before))) (is.found r before))
+            subst (λ (y : Layer). IsDoneRound table s d (suc r) y (round_at rounds' r)) (sym (others (suc r) (less_other (suc r) (suc n) (let k : suc r < suc n = omega (arith, before) in k))))
+            (subst (λ (z : RowData). IsDoneRound table s d (suc r) (layer_at layers (suc r)) z) (sym (others' r (less_other r n before))) (is.found r before))
+      ];
+      nexts = λ r lt. elim (eq-or-lt_of_le (let k : r ≤ n = omega (arith, lt) in k)) [
+        | inl same ↦
+            subst (λ k. IsNext table (layer_at layers' k) (layer_at layers' (suc k))) (sym same)
+            (subst (λ (y : Layer). IsNext table y (layer_at layers' (suc n))) (sym (others n (less_other n (suc n) (let k : n < suc n = omega arith in k))))
+            (subst (λ (y : Layer). IsNext table (layer_at layers n) y) (sym here) next))
+        | inr before ↦
+            subst (λ (y : Layer). IsNext table y (layer_at layers' (suc r))) (sym (others r (less_other r (suc n) (let k : r < suc n = omega (arith, before) in k))))
+            (subst (λ (y : Layer). IsNext table (layer_at layers r) y) (sym (others (suc r) (less_other (suc r) (suc n) (let k : suc r < suc n = omega (arith, before) in k)))) (is.nexts r before))
       ];
       begun = λ r lt in'.
-          subst (λ (y : LayerData). IsBegun table s d r y) (sym (others r (more_other r (suc n) lt)))
+          subst (λ (y : Layer). IsBegun table s d r y) (sym (others r (more_other r (suc n) lt)))
           (is.begun r (let k : n < r = omega (arith, lt) in k) (let k : r < length layers = omega (arith, in', e1) in k));
       ends = λ r le in'.
-          subst (λ (y : LayerData). IsRound table s d (suc r) y (round_at rounds' r)) (sym (others (suc r) (more_other (suc r) (suc n) (let k : suc n < suc r = omega (arith, le) in k))))
-          (subst (λ (ms : List (Option Mark)). IsRound table s d (suc r) (layer_at layers (suc r)) ms) (sym (others' r (more_other r n (let k : n < r = omega (arith, le) in k))))
+          subst (λ (y : Layer). IsBegunRound table s d (suc r) y (round_at rounds' r)) (sym (others (suc r) (more_other (suc r) (suc n) (let k : suc n < suc r = omega (arith, le) in k))))
+          (subst (λ (z : RowData). IsBegunRound table s d (suc r) (layer_at layers (suc r)) z) (sym (others' r (more_other r n (let k : n < r = omega (arith, le) in k))))
           (is.ends r (let k : n ≤ r = omega (arith, le) in k) (let k : r < length rounds = omega (arith, in', e2) in k)));
+      later = λ r le in'.
+          let in'' : r < length rounds = omega (arith, in', e2) in
+          let was = is.later r (let k : n ≤ r = omega (arith, le) in k) in'' in
+          subst (λ (y : Layer). IsBegunNext table (layer_at layers' r) y) (sym (others (suc r) (more_other (suc r) (suc n) (let k : suc n < suc r = omega (arith, le) in k))))
+          (elim (eq-or-lt_of_le le) [
+            | inl same ↦
+                subst (λ k. IsBegunNext table (layer_at layers' k) (layer_at layers (suc r))) same
+                (subst (λ (y : Layer). IsBegunNext table y (layer_at layers (suc r))) (sym here)
+                (next_moved table (layer_at layers (suc n)) x (layer_at layers (suc r)) ridden.rode ridden.ready
+                (subst (λ k. IsBegunNext table (layer_at layers k) (layer_at layers (suc r))) (sym same) was)))
+            | inr lt ↦ subst (λ (y : Layer). IsBegunNext table y (layer_at layers (suc r))) (sym (others r (more_other r (suc n) lt))) was
+          ]);
     } where
       less_other : (a b : ℕ) → a < b → a ≢ b
       less_other a b lt e = omega (arith, lt, e)
@@ -106,22 +173,44 @@ done_next table s d n layers layers' rounds rounds' x marks valid e1 e2 within o
       more_other a b lt e = omega (arith, lt, e)
 
 -- a run is done: what it leaves may be gone on from, at d and before
-pub done_kept : (table : Table) (s d n : ℕ) (layers : List LayerData) (rounds : List (List (Option Mark))) → n ≡ length rounds
+pub done_kept : (table : Table) (s d n : ℕ) (layers : List Layer) (rounds : List RowData) → n ≡ length rounds
     → DoneTo table s d n layers rounds → AreKept table s d layers rounds
 done_kept table s d n layers rounds all is = record {
   each = λ r lt. layer_of_done table s d r (layer_at layers r) (is.done r (let z = is.sizes in let k : r ≤ n = omega (arith, z, lt, all) in k));
   ends = λ r lt. round_of_done table s d (suc r) (layer_at layers (suc r)) (round_at rounds r) (is.found r (let k : r < n = omega (arith, lt, all) in k));
+  nexts = λ r lt. is.nexts r (let k : r < n = omega (arith, lt, all) in k);
 }
 
+abbrev pub marks_in : List RowData → List (List (Option Mark))
+marks_in rounds = map (λ (row : RowData). row.marks) rounds
+
 -- and its rounds are right
-pub done_rounds : (table : Table) (s d n : ℕ) (layers : List LayerData) (rounds : List (List (Option Mark))) → n ≡ length rounds
-    → All (λ marks. length marks ≡ stops_of table) rounds → DoneTo table s d n layers rounds → AreRounds table s d n rounds
+pub done_rounds : (table : Table) (s d n : ℕ) (layers : List Layer) (rounds : List RowData) → n ≡ length rounds
+    → All (λ row. length row.marks ≡ stops_of table) rounds → DoneTo table s d n layers rounds → AreRounds table s d n (marks_in rounds)
 done_rounds table s d n layers rounds all sizes is =
     let last = is.done n (let k : n ≤ n = omega arith in k) in
-    rounds_are table s d n (layer_at layers n).ready (layer_at layers n).rode rounds (record {
+    rounds_are table s d n (layer_at layers n).ready.marks (layer_at layers n).rode.marks (marks_in rounds) (record {
       readies = last.readies;
       rides = last.rides;
-      count = sym all;
-      sizes = sizes;
-      journeys = λ i t lt. (is.found i lt).journeys t;
+      count = length-map rounds (λ (row : RowData). row.marks) ∙ sym all;
+      sizes = All-map (λ (marks : List (Option Mark)). length marks ≡ stops_of table) (λ (row : RowData). row.marks) rounds sizes;
+      journeys = λ i t lt. subst (λ (marks : List (Option Mark)). IsMark table (JourneySet table s d (suc i) t) (at marks t))
+          (sym (get_or-map (λ (row : RowData). row.marks) rounds i no_row [] (let k : i < length rounds = omega (arith, lt, all) in k))) ((is.found i lt).journeys t);
     })
+
+-- the rides of those who were ready one ride before are done
+pub known_served : (table : Table) (s d n : ℕ) (layers : List Layer) (rounds : List RowData) (known : RowData) → DoneTo table s d n layers rounds
+    → (n ≡ 0 → known ≡ (layer_at layers 0).rode) → ((r : ℕ) → n ≡ suc r → known ≡ (layer_at layers r).ready)
+    → Served table (arrivals_of known) (layer_at layers n).rode.marks × (length known.marks ≡ stops_of table)
+known_served table s d zero layers rounds known is first later =
+    let done = is.done 0 (let k : 0 ≤ 0 = omega arith in k) in
+    let e = first refl in (
+      subst (λ (x : RowData). Served table (arrivals_of x) (layer_at layers 0).rode.marks) (sym e) (first_served table s d (layer_at layers 0) (layer_at layers 0).rode.marks done),
+      ap (λ (x : RowData). length x.marks) e ∙ done.sized.rode,
+    )
+known_served table s d (suc r) layers rounds known is first later =
+    let e = later r refl in
+    let done = is.done r (let k : r ≤ suc r = omega arith in k) in (
+      subst (λ (x : RowData). Served table (arrivals_of x) (layer_at layers (suc r)).rode.marks) (sym e) (is.nexts r (let k : r < suc r = omega arith in k)).served,
+      ap (λ (x : RowData). length x.marks) e ∙ done.sized.ready,
+    )

@@ -11,6 +11,7 @@ mod layer;
 mod parts;
 mod plain;
 mod riding;
+mod row;
 mod scratch;
 mod serving;
 mod view;

@@ -1,6 +1,6 @@
 //! Runs of the rounds, one after the other.
 
-ghost use Rattle.std.specs.Prelude.{◌≡◌, ℕ, suc, ◌+◌, ◌≤◌, ◌<◌, IfOk, length, map, replicate, slice_index_or, None, Option, List, [], ⊤};
+ghost use Rattle.std.specs.Prelude.{◌≡◌, ℕ, suc, ◌+◌, ◌≤◌, ◌<◌, IfOk, length, map, None, ⊤};
 ghost use Rattle.std.specs.List.{All};
 ghost use Rattle.std.specs.Borrow.{sem, follows_so};
 ghost use mathlib.Core.Option.{none};
@@ -10,14 +10,16 @@ ghost use Rattle.timetable.specs.Front.{AreFront};
 ghost use Rattle.rounds.specs.contracts.scratch.Scratch.{the_row};
 ghost use Rattle.rounds.specs.Answers.{AreRounds};
 ghost use Rattle.rounds.specs.Events.{AreEvents};
-ghost use Rattle.rounds.specs.Mark.{Mark, at, arrival_of, arrival_in, moment_in};
-ghost use Rattle.rounds.specs.Layers.{IsSized, IsLayer, AreKept, DoneTo, layer_at, round_at};
+ghost use Rattle.rounds.specs.Mark.{at, arrival_in, moment_in};
+ghost use Rattle.rounds.specs.Row.{RowData, arrivals_of, settled_of};
+ghost use Rattle.rounds.specs.Layers.{IsSized, IsSettled, Begins, AreKept, DoneTo, layer_at, round_at};
 ghost use Rattle.rounds.specs.Scratch.{IsMadeFor, IsAlike, MayGoOn, GoesOn, TellsOf, rides_of, rounds_of, source_of, kept_of, before_of};
 
 use crate::best::points;
 use crate::events::departures;
-use crate::layer::Layer;
-use crate::view::{Arrivals, Round, RoundView};
+use crate::layer::{Layer, ride_on};
+use crate::row::Row;
+use crate::view::RoundView;
 use arrayvec::ArrayVec;
 use lines::Lines;
 use std::alloc::{AllocError, Global};
@@ -28,23 +30,22 @@ use timetable::{Numbers, Rides, StopId, Timetable};
 pub struct Scratch {
     rides: Rides,
     lines: Lines,
-    // Room for what a run knows of each stop and each line meanwhile.
     layers: Vec<Layer>,
+    // Room for what a run notes of each line meanwhile.
     earliest: Vec<u16>,
     source: StopId,
-    rounds: Vec<Round>,
-    before: Vec<Arrivals>,
+    rounds: Vec<Row>,
 }
 
 // As many rounds as rides, with no labels.
-fn no_rounds(alloc: Global, stops: usize, rides: Rides) -> Result<Vec<Round>, AllocError>
+fn no_rounds(alloc: Global, stops: usize, rides: Rides) -> Result<Vec<Row>, AllocError>
     ensures count { IfOk result (λ rounds. length rounds.items ≡ rides) }
-    ensures sizes { IfOk result (λ rounds. All (λ marks. length marks ≡ stops) rounds.items) }
+    ensures sizes { IfOk result (λ rounds. All (λ row. length row.marks ≡ stops) rounds.items) }
 {
     let count = rides.number();
     let mut rounds = Vec::with_capacity(alloc, count as usize)?;
     for _ in 0..count {
-        rounds.push(Round::empty(alloc, stops)?)?;
+        rounds.push(Row::empty(alloc, stops)?)?;
     }
     Ok(rounds)
 }
@@ -62,26 +63,11 @@ fn no_layers(alloc: Global, stops: usize, rides: Rides) -> Result<Vec<Layer>, Al
     Ok(layers)
 }
 
-// As many arrivals as rides, none of which is there.
-fn no_arrivals(alloc: Global, stops: usize, rides: Rides) -> Result<Vec<Arrivals>, AllocError>
-    ensures count { IfOk result (λ before. length before.items ≡ rides) }
-    ensures sizes { IfOk result (λ before. All (λ moments. length moments ≡ stops) before.items) }
-{
-    let count = rides.number();
-    let mut before = Vec::with_capacity(alloc, count as usize)?;
-    for _ in 0..count {
-        before.push(Arrivals::none(alloc, stops)?)?;
-    }
-    Ok(before)
-}
-
 // Forgets all layers.
 fn forget_layers(layers: &mut [Layer])
     ensures sized { (stops : ℕ) → All (IsSized stops) layers.old → All (IsSized stops) layers.new }
-    ensures kept { (table : Table) (s d r : ℕ) → r < length layers.old → IsTable table → IsSized (stops_of table) (layer_at layers.old r)
-        → IsLayer table s d r (layer_at layers.new r) }
-    ensures never { (r : ℕ) → r < length layers.old
-        → (layer_at layers.new r).walked ≡ replicate (length (layer_at layers.old r).walked) 4_294_967_295 }
+    ensures rode { (r stop : ℕ) → r < length layers.old → at (layer_at layers.new r).rode.marks stop ≡ None }
+    ensures ready { (r stop : ℕ) → r < length layers.old → at (layer_at layers.new r).ready.marks stop ≡ None }
 {
     for layer in layers.iter_mut() {
         layer.forget();
@@ -89,23 +75,21 @@ fn forget_layers(layers: &mut [Layer])
 }
 
 // Forgets all rounds.
-fn forget_rounds(rounds: &mut [Round])
-    ensures sizes { (stops : ℕ) → All (λ marks. length marks ≡ stops) rounds.old → All (λ marks. length marks ≡ stops) rounds.new }
-    ensures empty { (r stop : ℕ) → r < length rounds.old → at (round_at rounds.new r) stop ≡ None }
+fn forget_rounds(rounds: &mut [Row])
+    ensures sizes { (stops : ℕ) → All (λ row. length row.marks ≡ stops) rounds.old → All (λ row. length row.marks ≡ stops) rounds.new }
+    ensures empty { (r stop : ℕ) → r < length rounds.old → at (round_at rounds.new r).marks stop ≡ None }
 {
     for round in rounds.iter_mut() {
         round.forget();
     }
 }
 
-// Keeps the arrivals of all rounds.
-fn keep_arrivals(rounds: &[Round], before: &mut [Arrivals])
-    requires count { length before.old ≡ length rounds.now }
-    requires sizes { (r : ℕ) → r < length rounds.now → length (slice_index_or before.old r []) ≡ length (round_at rounds.now r) }
-    ensures { (r : ℕ) → r < length rounds.now → slice_index_or before.new r [] ≡ map arrival_of (round_at rounds.now r) }
+// Settles all rounds.
+fn settle_rounds(rounds: &mut [Row])
+    ensures { (r : ℕ) → r < length rounds.old → IsSettled (round_at rounds.old r) (round_at rounds.new r) }
 {
-    for index in 0..before.len() {
-        before[index].keep(&rounds[index]);
+    for round in rounds.iter_mut() {
+        round.settle();
     }
 }
 
@@ -116,13 +100,56 @@ fn begin_layers(table: &Timetable, source: StopId, depart: u32, layers: &mut [La
     requires sized { All (IsSized (stops_of table.now)) layers.old }
     requires some { 0 < length layers.old }
     ensures valid { IsTable table.now }
-    ensures sized { All (IsSized (stops_of table.now)) layers.new }
-    ensures begun { (rounds : List (List (Option Mark))) → IsTable table.now → AreKept table.now source depart layers.old rounds
-        → length layers.new ≡ suc (length rounds) → DoneTo table.now source depart 0 layers.new rounds }
+    ensures begun { (r : ℕ) → r < length layers.old → Begins table.now source depart r (layer_at layers.old r) (layer_at layers.new r) }
 {
     for layer in layers.iter_mut() {
         layer.begin(table, source, depart);
     }
+}
+
+// The row of one who was ready one ride before that; before the first ride nobody alights.
+fn known(layers: &[Layer], index: usize) -> &Row
+    requires { index < length layers.now }
+    ensures first { index ≡ 0 → result.now ≡ (layer_at layers.now 0).rode }
+    ensures later { (r : ℕ) → index ≡ suc r → result.now ≡ (layer_at layers.now r).ready }
+{
+    if index == 0 {
+        return &layers[0].rode;
+    }
+    &layers[index - 1].ready
+}
+
+// What comes of one layer by one ride more, where all are done up to it.
+fn ride_from(
+    table: &Timetable,
+    lines: &Lines,
+    source: StopId,
+    depart: u32,
+    index: usize,
+    layers: &mut [Layer],
+    earliest: &mut [u16],
+    rounds: &mut [Row],
+)
+    requires lines { AreLines table.now lines.now }
+    requires valid { IsTable table.now }
+    requires earliest { length earliest.old ≡ length lines.now.lines }
+    requires few { index < 8 }
+    requires index { index < length rounds.old }
+    requires done { DoneTo table.now source depart index layers.old rounds.old }
+    ensures done { DoneTo table.now source depart (index + 1) layers.new rounds.new }
+    ensures settled { (r : ℕ) → (round_at rounds.new r).settled ≡ (round_at rounds.old r).settled }
+{
+    let (front, back) = layers.split_at_mut(index + 1);
+    let front: &[Layer] = front;
+    ride_on(
+        table,
+        lines,
+        known(front, index),
+        &front[index],
+        &mut back[0],
+        earliest,
+        &mut rounds[index],
+    );
 }
 
 // What comes of each layer by one ride more, one after the other.
@@ -133,22 +160,20 @@ fn ride_layers(
     depart: u32,
     layers: &mut [Layer],
     earliest: &mut [u16],
-    rounds: &mut [Round],
+    rounds: &mut [Row],
 )
     requires lines { AreLines table.now lines.now }
     requires valid { IsTable table.now }
     requires earliest { length earliest.old ≡ length lines.now.lines }
     requires few { length rounds.old ≤ 8 }
-    requires sizes { All (λ marks. length marks ≡ stops_of table.now) rounds.old }
-    requires sized { All (IsSized (stops_of table.now)) layers.old }
     requires begun { DoneTo table.now source depart 0 layers.old rounds.old }
-    ensures sizes { All (λ marks. length marks ≡ stops_of table.now) rounds.new }
-    ensures sized { All (IsSized (stops_of table.now)) layers.new }
     ensures done { DoneTo table.now source depart (length rounds.old) layers.new rounds.new }
+    ensures settled { (r : ℕ) → (round_at rounds.new r).settled ≡ (round_at rounds.old r).settled }
 {
     for index in 0..rounds.len() {
-        let (front, back) = layers.split_at_mut(index + 1);
-        back[0].ride_on(table, lines, &front[index], earliest, &mut rounds[index]);
+        ride_from(
+            table, lines, source, depart, index, layers, earliest, rounds,
+        );
     }
 }
 
@@ -160,8 +185,7 @@ fn run_layers(
     depart: u32,
     layers: &mut [Layer],
     earliest: &mut [u16],
-    rounds: &mut [Round],
-    before: &mut [Arrivals],
+    rounds: &mut [Row],
 )
     requires lines { AreLines table.now lines.now }
     requires source { source < stops_of table.now }
@@ -169,18 +193,12 @@ fn run_layers(
     requires earliest { length earliest.old ≡ length lines.now.lines }
     requires few { length rounds.old ≤ 8 }
     requires count { length layers.old ≡ suc (length rounds.old) }
-    requires befores { length before.old ≡ length rounds.old }
-    requires sizes { All (λ marks. length marks ≡ stops_of table.now) rounds.old }
-    requires before { All (λ moments. length moments ≡ stops_of table.now) before.old }
     requires sized { All (IsSized (stops_of table.now)) layers.old }
     requires kept { IsTable table.now → AreKept table.now source depart layers.old rounds.old }
-    ensures sizes { All (λ marks. length marks ≡ stops_of table.now) rounds.new }
-    ensures sized { All (IsSized (stops_of table.now)) layers.new }
-    ensures kept { AreKept table.now source depart layers.new rounds.new }
-    ensures right { AreRounds table.now source depart (length rounds.old) rounds.new }
-    ensures before { (r : ℕ) → r < length rounds.old → slice_index_or before.new r [] ≡ map arrival_of (round_at rounds.old r) }
+    ensures done { DoneTo table.now source depart (length rounds.old) layers.new rounds.new }
+    ensures settled { (r : ℕ) → r < length rounds.old → (stop : ℕ) → settled_of (round_at rounds.new r) stop ≡ arrivals_of (round_at rounds.old r) stop }
 {
-    keep_arrivals(rounds, before);
+    settle_rounds(rounds);
     begin_layers(table, source, depart, layers);
     ride_layers(table, lines, source, depart, layers, earliest, rounds);
 }
@@ -202,7 +220,6 @@ impl Scratch {
             earliest,
             source: StopId::new(0),
             rounds: no_rounds(alloc, stops, rides)?,
-            before: no_arrivals(alloc, stops, rides)?,
         })
     }
 
@@ -246,7 +263,7 @@ impl Scratch {
         requires early { depart ≤ 4_000_000_000 }
         requires kept { MayGoOn table.now depart self.old }
         ensures on { GoesOn table.now depart self.old self.new }
-        ensures before { (rides t : ℕ) → moment_in self.new.before.items rides t ≡ arrival_in (kept_of self.old) rides t }
+        ensures before { (rides t : ℕ) → moment_in (map (λ (row : RowData). row.settled) self.new.rounds.items) rides t ≡ arrival_in (kept_of self.old) rides t }
     {
         run_layers(
             table,
@@ -256,15 +273,14 @@ impl Scratch {
             &mut self.layers,
             &mut self.earliest,
             &mut self.rounds,
-            &mut self.before,
         );
     }
 
     fn view(&self) -> RoundView<'_>
         ensures rounds { rounds_of result ≡ kept_of self.now }
-        ensures before { before_of result ≡ self.now.before.items }
+        ensures before { before_of result ≡ map (λ (row : RowData). row.settled) self.now.rounds.items }
     {
-        RoundView::of(&self.rounds, &self.before)
+        RoundView::of(&self.rounds)
     }
 
     /// The rounds from the stop of the last restart at this moment, as `run` has them, by a run that keeps the labels of the

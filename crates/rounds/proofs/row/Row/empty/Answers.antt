@@ -1,0 +1,20 @@
+use Rattle.std.proofs.Common.{◌≡◌, ℕ, Option, List, None, length, arith, replicate, ap, sym, ◌∙◌}
+use Rattle.std.proofs.lemmas.List.{length-replicate}
+use Rattle.rounds.specs.Mark.{Mark, at, arrival_of}
+use Rattle.rounds.specs.Row.{when}
+use Rattle.rounds.proofs.MarkSteps.{empty_at}
+use Rattle.rounds.proofs.RowSteps.{settled_row, empty_when}
+use Rattle.rounds.proofs.row.Row.empty.Goals as goal
+
+pub invariant_of-result : goal.invariant_of-result
+invariant_of-result c =
+    let n = c.args.stops in
+    let marks = c.in_ok-no_labels.field-0.items in
+    let settled = c.in_ok-no_moments.field-0.items in
+    let e : marks ≡ replicate {A = Option Mark} n None = c.in_ok-no_labels.ensures in
+    let f : settled ≡ replicate {A = Option ℕ} n None = c.in_ok-no_moments.ensures in
+    let long : length marks ≡ n = ap (length {A = Option Mark}) e ∙ length-replicate {A = Option Mark} n None in
+    let long' : length settled ≡ n = ap (length {A = Option ℕ}) f ∙ length-replicate {A = Option ℕ} n None in
+    let room = c.in_ok-with_capacity.ensures.capacity in
+    settled_row marks settled _ _ c.in_ok-with_capacity.ensures.items (long' ∙ sym long) (omega (arith, room, long))
+    (λ p. ap (λ (ms : List (Option Mark)). arrival_of (at ms p)) e ∙ (ap arrival_of (empty_at n p) ∙ sym (ap (λ (ms : List (Option ℕ)). when ms p) f ∙ empty_when n p)))

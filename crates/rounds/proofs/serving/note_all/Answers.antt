@@ -1,0 +1,31 @@
+use Rattle.std.proofs.Common.{◌+◌, arith, sym}
+use Rattle.rounds.specs.Row.{settled_of}
+use Rattle.rounds.proofs.RowSteps.{sooner_within}
+use Rattle.rounds.proofs.LayerSteps.{SeenIn, seen_next}
+use Rattle.rounds.proofs.ServeSteps.{noted_none, noted_more, noted_all}
+use Rattle.rounds.proofs.serving.note_all.Goals as goal
+
+pub note-requires-clause-places : goal.note-requires-clause-places
+note-requires-clause-places c = c.requires.places c.stop-item.result
+
+pub note-requires-clause-known : goal.note-requires-clause-known
+note-requires-clause-known c =
+    let stop = c.stop-item.result in
+    let in' = sooner_within c.args.ready.now.marks stop (settled_of c.args.ready.now stop) (c.lowered-stop-items.ensures.sooner stop (c.loop-stop.stop-index, c.loop-stop-test.true, sym c.stop-item.is)) in
+    omega (arith, in', c.requires.readies)
+
+pub loop-stop-init : goal.loop-stop-init
+loop-stop-init c = noted_none c.args.lines.now.lines c.args.ready.now c.args.before.now.marks c.lowered-stop-items.result.now c.fill.new.self
+
+pub loop-stop-preserved : goal.loop-stop-preserved
+loop-stop-preserved c =
+    let listed = c.lowered-stop-items.result.now in
+    let n = c.loop-stop.stop-index in
+    let stop = c.stop-item.result in
+    noted_more c.args.lines.now.lines c.args.ready.now c.args.before.now.marks (SeenIn listed n) (SeenIn listed (n + 1)) c.loop-stop.earliest c.note.new.earliest stop
+    (λ p seen. seen_next listed n stop p c.loop-stop-test.true c.stop-item.is seen) c.note.ensures.lower c.note.ensures.noted c.loop-stop.invariant
+
+pub returns : goal.returns
+returns c =
+    noted_all c.args.lines.now.lines c.args.ready.now c.args.before.now.marks c.lowered-stop-items.result.now c.loop-stop.earliest c.loop-stop.stop-index
+    (omega arith) c.lowered-stop-items.ensures.others c.loop-stop.invariant

@@ -1,0 +1,6 @@
+use Rattle.rounds.proofs.LayerSteps.{SeenIn}
+use Rattle.rounds.proofs.ServeSteps.{NotedTo}
+use Rattle.rounds.proofs.serving.note_all.Given as goal
+
+abbrev pub invariant-loop-stop : goal.invariant-loop-stop
+invariant-loop-stop l = NotedTo l.lines.lines l.ready l.before.marks (SeenIn l.stop-items l.stop-index) l.earliest

@@ -1,0 +1,251 @@
+//! Labels of all stops, and which of them were lowered.
+
+ghost use Rattle.std.specs.Prelude.{◌≡◌, ℕ, ◌+◌, ◌<◌, ◌≤◌, ◌^◌, ◌↔◌, ◌⊎◌, ◌++◌, ◌∷◌, [], length, slice_set, replicate, Option, Some, None, IfOk, IfSome, IsNone, IsTrue, vec_len, vec_capacity};
+ghost use Rattle.std.specs.List.{Contains};
+ghost use Rattle.timetable.specs.Front.{IsSooner};
+ghost use Rattle.rounds.specs.Mark.{Mark, By, at, arrival_of, is_by};
+ghost use Rattle.rounds.specs.Moves.{ridden_to};
+ghost use Rattle.rounds.specs.Row.{SameRow, arrivals_of, settled_of, lowered_in, when};
+ghost use Rattle.rounds.specs.Layers.{Joined, IsBelow};
+
+use crate::label::{Label, is_by};
+use std::alloc::{AllocError, Global};
+use std::marker::Model;
+use timetable::StopId;
+
+/// The labels of all stops. It remembers when one was at each stop as it was last settled, and lists the stops whose labels
+/// were lowered since then. Once it is made it takes no memory.
+#[derive(Debug, Drop)]
+pub struct Row {
+    labels: Vec<Option<Label>>,
+    settled: Vec<Option<u32>>,
+    lowered: Vec<StopId>,
+}
+
+impl Model for Row {
+    ghost use Rattle.std.specs.Prelude.{vec_capacity};
+    ghost use Rattle.rounds.specs.Row.{RowData, IsRow};
+
+    ghost Value = { RowData };
+
+    ghost view = { λ a. record { marks = a.labels.items; settled = a.settled.items } };
+
+    ghost invariant = { λ a. IsRow a.labels.items a.settled.items a.lowered.items (vec_capacity a.lowered) };
+}
+
+// When one is there by the label.
+fn arrival(label: &Option<Label>) -> Option<u32>
+    ensures { result ≡ arrival_of label.now }
+{
+    match label {
+        Some(here) => Some(here.arrival()),
+        None => None,
+    }
+}
+
+// Whether the label is sooner than it was settled.
+fn is_lowered(label: &Option<Label>, settled: Option<u32>) -> bool
+    ensures { IsTrue result ↔ IsSooner (arrival_of label.now) settled }
+{
+    match (arrival(label), settled) {
+        (Some(now), Some(before)) => now < before,
+        (Some(_), None) => true,
+        (None, _) => false,
+    }
+}
+
+// Puts the stop at the end of the list, which has room.
+fn list(stop: StopId, listed: &mut Vec<StopId>)
+    requires { vec_len listed.old < vec_capacity listed.old }
+    ensures items { listed.new.items ≡ listed.old.items ++ stop ∷ [] }
+    ensures room { vec_capacity listed.old ≤ vec_capacity listed.new }
+{
+    let pushed = listed.push(stop);
+    pushed.unwrap();
+}
+
+// No labels, at so many stops.
+fn no_labels(alloc: Global, stops: usize) -> Result<Vec<Option<Label>>, AllocError>
+    ensures { IfOk result (λ labels. labels.items ≡ replicate {A = Option Mark} stops None) }
+{
+    let mut labels = Vec::with_capacity(alloc, stops)?;
+    for _ in 0..stops {
+        labels.push(None)?;
+    }
+    Ok(labels)
+}
+
+// No moments, at so many stops.
+fn no_moments(alloc: Global, stops: usize) -> Result<Vec<Option<u32>>, AllocError>
+    ensures { IfOk result (λ moments. moments.items ≡ replicate {A = Option ℕ} stops None) }
+{
+    let mut moments = Vec::with_capacity(alloc, stops)?;
+    for _ in 0..stops {
+        moments.push(None)?;
+    }
+    Ok(moments)
+}
+
+// Takes all moments away.
+fn clear_moments(moments: &mut [Option<u32>])
+    ensures { (stop : ℕ) → when moments.new stop ≡ None }
+{
+    for moment in moments.iter_mut() {
+        *moment = None;
+    }
+}
+
+// Takes all labels away.
+fn clear(labels: &mut [Option<Label>])
+    ensures { (stop : ℕ) → at labels.new stop ≡ None }
+{
+    for label in labels.iter_mut() {
+        *label = None;
+    }
+}
+
+// Settles the stops that are listed.
+fn settle(labels: &[Option<Label>], listed: &[StopId], settled: &mut [Option<u32>])
+    requires size { length settled.old ≡ length labels.now }
+    requires known { (p : ℕ) → Contains listed.now p → p < length labels.now }
+    ensures { (p : ℕ) → (when settled.new p ≡ arrival_of (at labels.now p)) ⊎ (¬ Contains listed.now p × (when settled.new p ≡ when settled.old p)) }
+{
+    for stop in listed {
+        settled[stop.number()] = arrival(&labels[stop.number()]);
+    }
+}
+
+impl Row {
+    /// No labels, at so many stops.
+    pub fn empty(alloc: Global, stops: usize) -> Result<Self, AllocError>
+        ensures size { IfOk result (λ row. length row.marks ≡ stops) }
+        ensures none { IfOk result (λ row. (stop : ℕ) → at row.marks stop ≡ None) }
+        ensures fresh { IfOk result (λ row. (stop : ℕ) → settled_of row stop ≡ None) }
+    {
+        Ok(Row {
+            labels: no_labels(alloc, stops)?,
+            settled: no_moments(alloc, stops)?,
+            lowered: Vec::with_capacity(alloc, stops)?,
+        })
+    }
+
+    /// Forgets all.
+    pub fn forget(&mut self)
+        ensures size { length self.new.marks ≡ length self.old.marks }
+        ensures none { (stop : ℕ) → at self.new.marks stop ≡ None }
+    {
+        clear(&mut self.labels);
+        clear_moments(&mut self.settled);
+        self.lowered.clear();
+    }
+
+    /// Settles the labels as they are: none is lowered from then on.
+    pub fn settle(&mut self)
+        ensures marks { self.new.marks ≡ self.old.marks }
+        ensures settled { (stop : ℕ) → settled_of self.new stop ≡ arrivals_of self.old stop }
+    {
+        settle(&self.labels, &self.lowered, &mut self.settled);
+        self.lowered.clear();
+    }
+
+    /// The label of the stop; none where there is no such stop.
+    pub fn label(&self, stop: StopId) -> Option<&Label>
+        ensures none { IsNone result ↔ (at self.now.marks stop ≡ None) }
+        ensures some { IfSome result (λ label. at self.now.marks stop ≡ Some label.now) }
+    {
+        if stop.number() < self.labels.len() {
+            self.labels[stop.number()].as_ref()
+        } else {
+            None
+        }
+    }
+
+    /// When one was at the stop as the row was last settled.
+    pub fn settled(&self, stop: StopId) -> Option<u32>
+        ensures { result ≡ settled_of self.now stop }
+    {
+        if stop.number() < self.settled.len() {
+            self.settled[stop.number()]
+        } else {
+            None
+        }
+    }
+
+    /// The stops whose labels were lowered since the row was last settled.
+    pub fn lowered(&self) -> &[StopId]
+        ensures others { (p : ℕ) → Contains result.now p ⊎ (arrivals_of self.now p ≡ settled_of self.now p) }
+        ensures sooner { (p : ℕ) → Contains result.now p → IsSooner (arrivals_of self.now p) (settled_of self.now p) }
+    {
+        &self.lowered
+    }
+
+    /// Whether there is a label of the moment or an earlier one at the stop.
+    pub fn is_by(&self, stop: StopId, moment: u32) -> bool
+        requires { stop < length self.now.marks }
+        ensures value { result ≡ is_by (at self.now.marks stop) moment }
+        ensures by { IsTrue result ↔ By (at self.now.marks stop) moment }
+    {
+        is_by(&self.labels[stop.number()], moment)
+    }
+
+    // Puts the label at the stop, where none is as early.
+    fn put(&mut self, stop: StopId, label: Label)
+        requires known { stop < length self.old.marks }
+        requires sooner { ¬ By (at self.old.marks stop) label.arrival }
+        ensures marks { self.new.marks ≡ slice_set self.old.marks stop (Some label) }
+        ensures settled { self.new.settled ≡ self.old.settled }
+    {
+        let number = stop.number();
+        if !is_lowered(&self.labels[number], self.settled[number]) {
+            list(stop, &mut self.lowered);
+        }
+        self.labels[number] = Some(label);
+    }
+
+    /// Puts the label at the stop, unless one there is as early. Nothing is copied where one is.
+    pub fn lower_to(&mut self, stop: StopId, label: &Label)
+        requires { stop < length self.old.marks }
+        ensures { self.new ≡ lowered_in self.old stop label.now }
+    {
+        if !self.is_by(stop, label.arrival()) {
+            self.put(stop, label.copy());
+        }
+    }
+
+    /// Puts the label at the stop, so many seconds later, unless one there is as early. Nothing is copied where one is.
+    pub fn lower_later(&mut self, stop: StopId, label: &Label, seconds: u32)
+        requires known { stop < length self.old.marks }
+        requires early { label.now.arrival + seconds < 2 ^ 32 }
+        ensures { self.new ≡ lowered_in self.old stop (record { arrival = label.now.arrival + seconds; path = label.now.path }) }
+    {
+        if !self.is_by(stop, label.arrival() + seconds) {
+            self.put(stop, label.later(seconds));
+        }
+    }
+
+    /// Puts the label at `to` of one who boards at `from` with the label there and is at `to` at the moment of arrival, unless
+    /// one there is as early. Nothing is copied where one is.
+    pub fn lower_ridden(&mut self, from: StopId, label: &Label, to: StopId, arrival: u32)
+        requires known { to < length self.old.marks }
+        requires short { length label.now.path ≤ 7 }
+        ensures { self.new ≡ lowered_in self.old to (ridden_to from label.now to arrival) }
+    {
+        if !self.is_by(to, arrival) {
+            self.put(to, label.ridden(from, to, arrival));
+        }
+    }
+}
+
+/// Lowers each label to that of the same stop in `below`, where those that weren't lowered there are no sooner than here.
+pub fn join(below: &Row, row: &mut Row)
+    requires size { length below.now.marks ≡ length row.old.marks }
+    requires rest { IsBelow (settled_of below.now) row.old.marks }
+    ensures joined { Joined below.now.marks row.old.marks row.new.marks }
+    ensures same { SameRow row.old row.new }
+{
+    for stop in below.lowered() {
+        if let Some(label) = below.label(*stop) {
+            row.lower_to(*stop, label);
+        }
+    }
+}
