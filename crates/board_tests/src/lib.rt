@@ -1,4 +1,4 @@
-//! The tests of the board over the sample feed. They stand apart, since they start threads, and since a check of tests that read a
+//! The tests of the board over the sample feed. They stand apart, since a check of tests that read a
 //! feed reads all that reads one.
 #![tactic(auto)]
 

@@ -1,4 +1,4 @@
-//! Looks at a board of the sample feed: before and after a tree is shown, beside a writer in another thread, and once it is closed.
+//! Looks at a board of the sample feed: before and after a tree is shown, between trees, and once it is closed.
 
 ghost use Rattle.std.specs.Prelude.{◌≡◌, ◌<◌, IfOk};
 ghost use Rattle.std.specs.Arc.{arc_value};
@@ -14,11 +14,10 @@ use section_store::Receipt;
 use std::alloc::{AllocError, Global};
 use std::sync::{Arc, Wait};
 use std::test::Fail;
-use std::thread;
-use std::time::{Clock, Duration, Instant};
 use timetable::{Rides, StopId, Timetable};
 
-const PUBLISHED: usize = 5_000;
+// How many trees are published one after the other.
+const PUBLISHED: u64 = 1_000;
 
 // The finished tree of a stop.
 fn tree(alloc: Global, table: &Arc<Timetable>, source: u16) -> Result<Finished, Fail>
@@ -85,16 +84,6 @@ impl Showing {
         self.writer.publish(rt, stored).is_ok()
     }
 
-    // Shows so many copies; how many were shown.
-    fn show<R: Wait>(&mut self, rt: &R, alloc: Global, count: usize) -> usize {
-        for shown in 0..count {
-            if !self.show_one(rt, alloc) {
-                return shown;
-            }
-        }
-        count
-    }
-
     // Ends the board.
     fn close<R: Wait>(self, rt: &R) {
         let Showing {
@@ -106,11 +95,7 @@ impl Showing {
 }
 
 // A board without trees, and its one reader.
-fn opened(
-    rt: &HostRuntime,
-    alloc: Global,
-    table: &Arc<Timetable>,
-) -> Result<(Writer, Reader), Fail>
+fn opened<R: Wait>(rt: &R, alloc: Global, table: &Arc<Timetable>) -> Result<(Writer, Reader), Fail>
     ensures form { IfOk result (λ r. r.0.origin.form ≡ form_of (arc_value table.now) 3) }
     ensures told { IfOk result (λ r. r.1.told ≡ r.0.told) }
 {
@@ -122,46 +107,6 @@ fn opened(
             Err(Fail::new("no reader"))
         }
     }
-}
-
-// What a reader met that looked on and on: how many trees it saw last, whether a look ever showed fewer than one before, how many
-// looks there were, and how long the slowest took.
-#[derive(Drop)]
-struct Looks {
-    last: u64,
-    went_back: bool,
-    looks: u64,
-    slowest: Duration,
-}
-
-// Looks until so many trees are shown. It has no leave to wait.
-fn look_on<C: Clock>(clock: &C, reader: Reader, until: u64) -> (Reader, Looks) {
-    let mut reader = reader;
-    let mut met = Looks {
-        last: 0,
-        went_back: false,
-        looks: 0,
-        slowest: Duration::ZERO,
-    };
-    for _ in 0..u64::MAX {
-        if met.last >= until {
-            break;
-        }
-        let start = Instant::now(clock);
-        let (back, found) = finds(reader, StopId::default());
-        reader = back;
-        if let Ok(start) = start {
-            if let Ok(time) = start.elapsed(clock) {
-                met.slowest = met.slowest.max(time);
-            }
-        }
-        met.looks = met.looks.wrapping_add(1);
-        if let Some((_, count)) = found {
-            met.went_back = met.went_back || count < met.last;
-            met.last = count;
-        }
-    }
-    (reader, met)
 }
 
 #[test]
@@ -186,27 +131,23 @@ fn found_once_told(rt: HostRuntime) -> Result<(), Fail> {
     Ok(())
 }
 
+// After each publish a look shows one tree more.
 #[test]
-fn looks_never_go_back(rt: HostRuntime) -> Result<(), Fail> {
+fn each_look_shows_what_was_published(rt: HostRuntime) -> Result<(), Fail> {
     let alloc = rt.alloc();
     let table = Arc::new(alloc, demo(&rt)?)?;
-    let a = tree(alloc, &table, 0)?;
+    let tree = tree(alloc, &table, 0)?;
     let (writer, reader) = opened(&rt, alloc, &table)?;
-    let mut showing = Showing { writer, tree: a };
-    let (shown, (_reader, met)) = thread::join(
-        &rt,
-        || showing.show(&rt, alloc, PUBLISHED),
-        || look_on(&rt, reader, PUBLISHED as u64),
-    );
+    let mut showing = Showing { writer, tree };
+    let mut reader = reader;
+    let mut right = true;
+    for number in 1..=PUBLISHED {
+        let shown = showing.show_one(&rt, alloc);
+        let (back, found) = finds(reader, StopId::default());
+        reader = back;
+        right = right && shown && found == Some((true, number));
+    }
     showing.close(&rt);
-    println!(rt;
-        "{} looks, the slowest of {} microseconds",
-        met.looks,
-        met.slowest.as_micros()
-    )?;
-    assert_eq!(rt;
-        (shown, met.last, met.went_back),
-        (PUBLISHED, PUBLISHED as u64, false)
-    );
+    assert!(rt; right);
     Ok(())
 }
