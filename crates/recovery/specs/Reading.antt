@@ -1,12 +1,13 @@
 -- What is known of a file as it is read. Only private clauses cite these words.
-use Rattle.std.specs.Prelude.{◌<◌, ◌≡◌, ◌≢◌, ◌⊎◌, ℕ, ◌+◌, ◌^◌, List, ◌∷◌, ◌++◌, length, drop, Result, MatchResult}
+use Rattle.std.specs.Prelude.{◌<◌, ◌≡◌, ◌≢◌, ◌⊎◌, ℕ, ◌+◌, ◌^◌, List, ◌∷◌, ◌++◌, length, take, drop, get_or, Result, MatchResult}
+use Rattle.std.specs.Int.{to_be_bytes, w32}
 use Rattle.disk_model.specs.Disk.{Grew}
 use Rattle.pattern_tree.specs.Content.{Content}
 use Rattle.section_store.specs.Sections.{Form, IsSection, IsSections, IsNew, sized, sources, open_gate}
 use Rattle.section_store.specs.Store.{Begins}
-use Rattle.recovery.specs.Recovery.{IsTail, IsOutside, CauseOf, StandsForNoList}
+use Rattle.recovery.specs.Recovery.{IsTail, IsOutside, CauseOf, StandsForNoList, store_name}
 use Rattle.recovery.specs.declared.fault.RecoverFault.{RecoverFault}
-use Rattle.recovery.specs.declared.fault.RecoverFault.TheVariants.{Device, Memory}
+use Rattle.recovery.specs.declared.fault.RecoverFault.TheVariants.{NotAStore, OtherTimetable, OtherRides, Damaged, Device, Memory}
 
 -- no call of the disk failed; or memory was refused, or a call of the disk failed
 abbrev pub OnlyOutside : {T : Type 0} → Result T RecoverFault → ℕ → ℕ → Type 0
@@ -16,6 +17,22 @@ OnlyOutside result before after =
 -- no call of the disk failed; or the fault is the device's only where one did
 abbrev pub OnlyCounted : {T : Type 0} → Result T RecoverFault → ℕ → ℕ → Type 0
 OnlyCounted result before after = MatchResult result (λ _. after ≡ before) (λ fault. fault ≡ Device → Grew before after)
+
+-- the first bytes are those of a store of so many rides, and of a timetable of so many bytes
+pub record IsOwnFront (most count : ℕ) (front : List ℕ) : Type 0 where
+  pub name : take 8 (drop 1 front) ≡ store_name
+  pub rides : get_or front 9 0 ≡ most
+  pub size : take 4 (drop 10 front) ≡ to_be_bytes w32 count
+
+-- they are those of none, by the name and the version; or else by the number of rides; or else by the number of bytes
+abbrev pub IsOtherFront : ℕ → ℕ → List ℕ → RecoverFault → Type 0
+IsOtherFront most count front NotAStore = take 8 (drop 1 front) ≢ store_name
+IsOtherFront most count front OtherRides = (take 8 (drop 1 front) ≡ store_name) × (get_or front 9 0 ≢ most)
+IsOtherFront most count front OtherTimetable =
+    (take 8 (drop 1 front) ≡ store_name) × (get_or front 9 0 ≡ most) × (take 4 (drop 10 front) ≢ to_be_bytes w32 count)
+IsOtherFront most count front (Damaged number) = ⊥
+IsOtherFront most count front Device = ⊥
+IsOtherFront most count front Memory = ⊥
 
 -- neither a closed gate nor an open one with a text behind it
 pub record IsCut (rest : List ℕ) : Type 0 where

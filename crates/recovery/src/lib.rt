@@ -1,6 +1,7 @@
 //! Opens the file of a store that a crash may have left: the list of trees that its bytes stand for, and the store itself.
 #![tactic(auto)]
 
+mod canonical;
 mod fault;
 mod header;
 mod opening;

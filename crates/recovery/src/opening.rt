@@ -38,6 +38,8 @@ fn look<D: Disk>(alloc: Global, disk: &mut D, form: &Form) -> Result<Option<Foun
     ensures refused { D.honest disk.old → IfErr result (IsRefusal form.now (D.state disk.old).read) }
     ensures stored { IfOk result (λ found. IfSome found (λ found. (found.stored.items ≡ sources found.trees.items)
         × IsSetOf (stops_of form.now.table) found.present found.stored.items)) }
+    ensures known { IfOk result (λ found. IfSome found (λ found. All (λ tree. tree.source < stops_of form.now.table)
+        found.trees.items)) }
     ensures counted { OnlyCounted result (D.failures disk.old) (D.failures disk.new) }
 {
     let mut piece = Vec::new(alloc);
@@ -106,6 +108,7 @@ pub fn recover<D: Disk>(
     ensures honest { MatchResult result (λ r. D.honest disk ↔ D.honest r.store.disk) (λ e. D.honest disk ↔ D.honest e.1) }
     ensures ready { IfOk result (λ r. (r.store.next ≡ Step.WriteBody) × (r.store.form ≡ form_of (arc_value table.now) rides)) }
     ensures stored { IfOk result (λ r. r.store.stored.items ≡ sources r.trees.items) }
+    ensures known { IfOk result (λ r. All (λ tree. tree.source < stops_of (arc_value table.now)) r.trees.items) }
 {
     stands_for_one();
     trusted_trees();

@@ -28,6 +28,7 @@ fn tree_in(
     ensures found { (stored : List ℕ) → IsSetOf (stops_of form.now.table) present.now stored → length text.now < 2 ^ 32
         → IfOk result (λ found. MatchOption found (IsBad form.now stored text.now)
         (λ tree. IsSection form.now text.now tree × IsNew tree.source stored)) }
+    ensures known { IfOk result (λ found. IfSome found (λ tree. tree.source < stops_of form.now.table)) }
     ensures memory { IfErr result (λ fault. fault ≡ RecoverFault.Memory) }
 {
     texts_apart();
@@ -83,6 +84,7 @@ pub(crate) fn next_section<D: Disk>(
     ensures ended { (stored : List ℕ) → IsSetOf (stops_of form.now.table) present.now stored → D.honest disk.old
         → IfErr result (λ fault. IsOutside fault
         ⊎ ((fault ≡ RecoverFault.Damaged number) × IsEnd form.now stored (drop place (D.state disk.old).read))) }
+    ensures known { IfOk result (λ found. IfSome found (λ section. section.tree.source < stops_of form.now.table)) }
     ensures inside { IfOk result (λ found. IfSome found (λ section. (place < section.end) × (section.end ≤ end))) }
     ensures counted { OnlyCounted result (D.failures disk.old) (D.failures disk.new) }
 {

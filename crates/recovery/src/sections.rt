@@ -1,6 +1,7 @@
 //! Reads the sections of a store, one after the other.
 
 ghost use Rattle.std.specs.Prelude.{◌≡◌, ◌↔◌, ◌⊎◌, ◌≤◌, ◌<◌, ◌+◌, [], ◌∷◌, ◌++◌, ℕ, List, length, drop, OnOk, IfOk, IfErr};
+ghost use Rattle.std.specs.List.{All};
 ghost use Rattle.timetable.specs.Table.{stops_of};
 ghost use Rattle.section_store.specs.Sections.{IsFresh, sources};
 ghost use Rattle.section_store.specs.Sources.{IsSetOf};
@@ -67,6 +68,7 @@ pub(crate) fn read_sections<D: Disk>(
         → IfErr result (IsRefusal form.now (D.state disk.old).read) }
     ensures stored { IfOk result (λ found. (found.stored.items ≡ sources found.trees.items)
         × IsSetOf (stops_of form.now.table) found.present found.stored.items) }
+    ensures known { IfOk result (λ found. All (λ tree. tree.source < stops_of form.now.table) found.trees.items) }
     ensures counted { OnlyCounted result (D.failures disk.old) (D.failures disk.new) }
 {
     texts_apart();

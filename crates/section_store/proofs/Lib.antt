@@ -1,5 +1,6 @@
 pub mod Apart
 pub mod Fresh
+pub mod Going
 pub mod Lasting
 pub mod Outcomes
 pub mod Sizes

@@ -10,8 +10,7 @@ use Rattle.pattern_tree.specs.Finished.{FinishedTree, IsFinished}
 use Rattle.pattern_tree.proofs.WithinFacts.{within as finished_within}
 use Rattle.tree_codec.proofs.Within.{within as stops_within}
 use Rattle.tree_codec.specs.Text.{TreeText, numbers_text, nodes_text, siblings}
-use Rattle.section_store.specs.Sections.{Form, header_tail, sized}
-use Rattle.timetable.specs.Canonical.{canonical}
+use Rattle.section_store.specs.Sections.{sized}
 use Rattle.timetable.specs.Table.{IsTable, stops_of}
 
 numbers_long : (xs : List ℕ) → length (numbers_text 2 xs) ≡ 2 * length xs
@@ -55,17 +54,6 @@ pub size_written : (front text all : List ℕ) → length front ≡ 4 → all �
 size_written front text all four is =
     let long : length all - 4 ≡ length text = omega (arith, ap length is, length-append front text, four) in
     ap (λ (n : ℕ). to_be_bytes w32 n ++ drop 4 all) long ∙ ap (λ (l : List ℕ). to_be_bytes w32 (length text) ++ l) (ap (λ (l : List ℕ). drop 4 l) is ∙ drop_at front text 4 four)
-
-header_put : (rides : ℕ) (bytes all : List ℕ) → all ≡ (84 ∷ 80 ∷ 83 ∷ 84 ∷ 79 ∷ 82 ∷ 69 ∷ 1 ∷ rides ∷ 0 ∷ 0 ∷ 0 ∷ 0 ∷ []) ++ bytes → take 9 all ++ to_be_bytes w32 (length all - 13) ++ drop 13 all ≡ 84 ∷ 80 ∷ 83 ∷ 84 ∷ 79 ∷ 82 ∷ 69 ∷ 1 ∷ rides ∷ (to_be_bytes w32 (length bytes) ++ bytes)
-header_put rides bytes all is =
-    let long : length all - 13 ≡ length bytes = omega (arith, ap length is) in
-    ap (λ (l : List ℕ). take 9 l ++ to_be_bytes w32 (length all - 13) ++ drop 13 l) is
-    ∙ ap (λ (n : ℕ). 84 ∷ 80 ∷ 83 ∷ 84 ∷ 79 ∷ 82 ∷ 69 ∷ 1 ∷ rides ∷ (to_be_bytes w32 n ++ bytes)) long
-
--- the header's bytes behind its gate, once the length stands in its four places
-pub header_written : (form : Form) (all : List ℕ) → all ≡ (84 ∷ 80 ∷ 83 ∷ 84 ∷ 79 ∷ 82 ∷ 69 ∷ 1 ∷ form.rides ∷ 0 ∷ 0 ∷ 0 ∷ 0 ∷ []) ++ canonical form.table → take 9 all ++ to_be_bytes w32 (length all - 13) ++ drop 13 all ≡ header_tail form
-unfolding header_tail
-header_written form all is = header_put form.rides (canonical form.table) all is
 
 -- a finished tree's text has stops of its timetable alone
 pub text_within : (f : FinishedTree) → IsTable f.table → IsFinished f → (text : List ℕ) → TreeText 2 65534 text f.tree → TreeText 2 (stops_of f.table) text f.tree

@@ -1,4 +1,6 @@
 pub mod Fault
+pub mod Going
+pub mod GoingLaws
 pub mod Lasting
 pub mod Laws
 pub mod ReadingLaws

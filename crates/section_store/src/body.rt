@@ -9,7 +9,7 @@ use std::alloc::AllocError;
 use tree_codec::encode;
 
 /// Writes how many bytes there are from `from` on into the four bytes before it, the highest first.
-pub(crate) fn put_size(bytes: &mut [u8], from: usize)
+fn put_size(bytes: &mut [u8], from: usize)
     requires room { 4 ≤ from }
     requires inside { from ≤ length bytes.old }
     requires small { length bytes.old - from < 2 ^ 32 }

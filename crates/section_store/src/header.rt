@@ -9,7 +9,6 @@ ghost use Rattle.section_store.specs.Lasting.{LosesNothing, StaysTrusted};
 ghost use Rattle.section_store.specs.Sections.{Form, StandsForNone, IsFresh, form_of, header, header_tail};
 ghost use Rattle.section_store.specs.Store.{IsRest, IsFreshRest, IsShort, IsClosed, IsWhole, Holds};
 
-use crate::body::put_size;
 use crate::fault::PutFault;
 use crate::form::Form as FormOf;
 use crate::step::Step;
@@ -104,22 +103,14 @@ fn begin_file<D: Disk>(disk: &mut D, rest: &[u8]) -> Result<(), DiskFault>
     open_header(disk)
 }
 
-/// The header's bytes behind its gate.
-pub fn header_bytes(alloc: Global, table: &Timetable, rides: Rides) -> Result<Vec<u8>, AllocError>
-    ensures { IfOk result (λ bytes. bytes.items ≡ header_tail (form_of table.now rides)) }
-{
-    let _ = table.stops();
-    let mut bytes = vec![in alloc; 84, 80, 83, 84, 79, 82, 69, 1, rides.number(), 0, 0, 0, 0]?;
-    table.write_canonical(&mut bytes)?;
-    put_size(&mut bytes, 13);
-    Ok(bytes)
-}
-
 // The header's bytes behind its gate, and a closed gate.
+#[tactic(auto, unfolding(crate::specs::Sections::header_tail))]
 fn rest_of_header(alloc: Global, table: &Timetable, rides: Rides) -> Result<Vec<u8>, AllocError>
     ensures { IfOk result (λ bytes. bytes.items ≡ header_tail (form_of table.now rides) ++ 0 ∷ []) }
 {
-    let mut bytes = header_bytes(alloc, table, rides)?;
+    let mut bytes = vec![in alloc; 84, 80, 83, 84, 79, 82, 69, 1, rides.number()]?;
+    bytes.extend_from_slice(&table.canonical_len().to_be_bytes())?;
+    table.write_canonical(&mut bytes)?;
     bytes.push(0)?;
     Ok(bytes)
 }

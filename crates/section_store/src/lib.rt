@@ -6,6 +6,7 @@ mod body;
 mod calls;
 mod fault;
 mod form;
+pub mod going_laws;
 mod header;
 pub mod laws;
 mod put;
@@ -16,7 +17,7 @@ mod store;
 
 pub use fault::PutFault;
 pub use form::Form;
-pub use header::{begin, header_bytes};
+pub use header::begin;
 pub use step::Step;
 pub use stop_set::StopSet;
 pub use store::{Receipt, SectionStore};

@@ -20,6 +20,22 @@ pub struct Receipt {
     pub number: usize,
 }
 
+impl Receipt {
+    /// The stop whose tree is stored.
+    pub fn source(&self) -> StopId
+        ensures { result ≡ self.now.source }
+    {
+        self.source
+    }
+
+    /// Its number in the list, from 0.
+    pub fn number(&self) -> usize
+        ensures { result ≡ self.now.number }
+    {
+        self.number
+    }
+}
+
 /// A file of finished trees, and what is known of it: what it is a store of, where the closed gate stands, how long the
 /// section that was written behind it is and whose, and whose trees are stored, in order and as a set. The bytes of a
 /// section are made in a buffer that is kept.

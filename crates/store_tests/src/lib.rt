@@ -1,4 +1,4 @@
-//! The tests of a store: what its file has after each call, and what every crash leaves of it.
+//! The tests of a store: what every crash leaves of its file.
 #![tactic(auto)]
 
 #[cfg(test)]

@@ -1,5 +1,5 @@
-//! What files have, single crashes, and all crashes, by a reading of the layout of its own.
+//! What crashes leave of a store, and how faults are told.
 
 mod crashes;
+mod faults;
 mod layout;
-mod putting;

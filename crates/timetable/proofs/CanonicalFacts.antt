@@ -3,8 +3,7 @@ use Rattle.std.proofs.Common.{◌≡◌, ℕ, suc, ◌+◌, ◌*◌, ◌<◌, �
 use Rattle.std.specs.List.{All, flat_map}
 use Rattle.std.proofs.lemmas.List.{append_assoc, append-nil, length-append, length-map}
 use Rattle.std.proofs.lemmas.List.Elements.{All-head, All-tail, All-append, All-map, All-nil}
-use Rattle.std.proofs.lemmas.List.Sums.{sum_by-cons, sum_by-le}
-use Rattle.std.proofs.lemmas.List.Concat.{length-flat_map}
+use Rattle.std.proofs.lemmas.List.Sums.{sum_by-cons}
 use Rattle.timetable.specs.Table.{Table, Run, IsTable, IsRun, IsRow, stops_of, walk_count, call_count}
 use Rattle.timetable.specs.Canonical.{two_bytes, four_bytes, change_bytes, walks_from, walk_bytes, flags, call_bytes, run_bytes, stops_bytes, walks_bytes, runs_bytes, canonical}
 use Rattle.timetable.specs.declared.parts.Call.{Call}
@@ -105,11 +104,11 @@ length_four : (n : ℕ) → length (four_bytes n) ≡ 4
 unfolding four_bytes
 length_four n = refl
 
-length_change : (c : Option ℕ) → length (change_bytes c) ≤ 4
-length_change None = omega (arith, length_four 4_294_967_295)
-length_change (Some seconds) = omega (arith, length_four seconds)
+length_change : (c : Option ℕ) → length (change_bytes c) ≡ 4
+length_change None = length_four 4_294_967_295
+length_change (Some seconds) = length_four seconds
 
-length_walk : (w : ℕ × Walk) → length (walk_bytes w) ≤ 8
+length_walk : (w : ℕ × Walk) → length (walk_bytes w) ≡ 8
 length_walk w = omega (
   arith,
   length-append (two_bytes w.0) (two_bytes w.1.to ++ four_bytes w.1.seconds),
@@ -119,7 +118,7 @@ length_walk w = omega (
   length_four w.1.seconds,
 )
 
-length_call : (c : Call) → length (call_bytes c) ≤ 11
+length_call : (c : Call) → length (call_bytes c) ≡ 11
 length_call c = omega (
   arith,
   length-append (two_bytes c.stop) (four_bytes c.arrival ++ (four_bytes c.departure ++ flags c ∷ [])),
@@ -130,13 +129,12 @@ length_call c = omega (
   length_four c.departure,
 )
 
--- a text of items that each take at most so many bytes
-length_each : {A : Type 0} (text : A → List ℕ) (most : ℕ) → ((x : A) → length (text x) ≤ most) → (xs : List A) → length (flat_map text xs) ≤ length xs * most
-length_each text most short xs =
-    let bound = sum_by-le (λ x. length (text x)) most xs (λ k d within. short _) in
-    subst (λ n. n ≤ length xs * most) (sym (length-flat_map text xs)) bound
+-- a text of items that each take so many bytes
+length_each : {A : Type 0} (text : A → List ℕ) (size : ℕ) → ((x : A) → length (text x) ≡ size) → (xs : List A) → length (flat_map text xs) ≡ length xs * size
+length_each text size is [] = omega arith
+length_each text size is (x ∷ xs) = omega (arith, length-append (text x) (flat_map text xs), is x, length_each text size is xs)
 
-length_run : (r : Run) → length (run_bytes r) ≤ 7 + length r.calls * 11
+length_run : (r : Run) → length (run_bytes r) ≡ 7 + length r.calls * 11
 length_run r =
     omega (
       arith,
@@ -147,13 +145,14 @@ length_run r =
       length_each call_bytes 11 length_call r.calls,
     )
 
-length_runs : (runs : List Run) → length (flat_map run_bytes runs) ≤ length runs * 7 + call_count runs * 11
+length_runs : (runs : List Run) → length (flat_map run_bytes runs) ≡ length runs * 7 + call_count runs * 11
 length_runs [] = omega arith
 length_runs (r ∷ runs) =
     omega (arith, length_run r, length_runs runs, length-append (run_bytes r) (flat_map run_bytes runs), sum_by-cons (λ (r : Run). length r.calls) r runs)
 
-pub short : (t : Table) → IsTable t → length (canonical t) < 4_294_967_296
-short t is =
+-- how long all of them are
+pub length_canonical : (t : Table) → length (canonical t) ≡ 14 + stops_of t * 4 + walk_count t.walks * 8 + length t.instances * 7 + call_count t.instances * 11
+length_canonical t =
     let stops = flat_map change_bytes t.changes in
     let ways = flat_map walk_bytes (walks_from 0 t.walks) in
     let runs = flat_map run_bytes t.instances in
@@ -167,4 +166,7 @@ short t is =
     omega (arith, whole, two, first, second, third, last, length_four t.horizon, length_two (stops_of t), length_four (walk_count t.walks), length_four (length t.instances)) in
     let some = length_each change_bytes 4 length_change t.changes in
     let far = length_each walk_bytes 8 length_walk (walks_from 0 t.walks) in
-    omega (arith, head, some, far, length-walks_from 0 t.walks, length_runs t.instances, is.few_stops, is.few_walks, is.few_instances, is.few_calls)
+    omega (arith, head, some, far, length-walks_from 0 t.walks, length_runs t.instances)
+
+pub short : (t : Table) → IsTable t → length (canonical t) < 4_294_967_296
+short t is = omega (arith, length_canonical t, is.few_stops, is.few_walks, is.few_instances, is.few_calls)

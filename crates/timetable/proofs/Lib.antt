@@ -17,6 +17,6 @@ pub mod Shifting
 pub mod NameFacts
 pub mod FieldFacts
 pub mod CanonicalFacts
-pub mod WritingFacts
+pub mod PartFacts
 pub mod EqualLists
 pub mod KnownStops

@@ -1,8 +1,8 @@
 -- The canonical bytes of a timetable: its numbers one after the other, each with its highest byte first. A store of pattern trees
 -- begins with them, so that trees are never read against another timetable.
-use Rattle.std.specs.Prelude.{◌≡◌, ◌↔◌, ℕ, suc, ◌+◌, ◌<◌, if◌then◌else◌, Option, Some, None, List, [], ◌∷◌, ◌++◌, length, map}
+use Rattle.std.specs.Prelude.{◌≡◌, ◌↔◌, ℕ, suc, ◌+◌, ◌<◌, if◌then◌else◌, Option, Some, None, List, [], ◌∷◌, ◌++◌, length, map, slice_index_or}
 use Rattle.std.specs.Int.{to_be_bytes, w16, w32}
-use Rattle.std.specs.List.{flat_map}
+use Rattle.std.specs.List.{concat, flat_map}
 use Rattle.timetable.specs.Table.{Table, Run, IsTable, stops_of, walk_count}
 use Rattle.timetable.specs.declared.parts.Call.{Call}
 use Rattle.timetable.specs.declared.parts.Walk.{Walk}
@@ -55,6 +55,26 @@ runs_bytes runs = four_bytes (length runs) ++ flat_map run_bytes runs
 -- the stops, the walks, the instances
 abbrev pub canonical : Table → List ℕ
 canonical table = stops_bytes table ++ (walks_bytes table.walks ++ runs_bytes table.instances)
+
+-- the walks from each stop, where the first row is that of stop n
+abbrev pub row_parts : ℕ → List (List Walk) → List (List ℕ)
+row_parts n [] = []
+row_parts n (row ∷ rows) = flat_map (λ walk. walk_bytes (n, walk)) row ∷ row_parts (suc n) rows
+
+-- The canonical bytes cut in parts: the stops, and how many walks there are; the walks from each stop; how many instances there
+-- are; each instance.
+unfoldable pub canonical_parts : Table → List (List ℕ)
+canonical_parts table =
+    (stops_bytes table ++ four_bytes (walk_count table.walks))
+    ∷ (row_parts 0 table.walks ++ four_bytes (length table.instances) ∷ map run_bytes table.instances)
+
+-- the bytes of the part of that number; parts are numbered from 0
+abbrev pub part_bytes : Table → ℕ → List ℕ
+part_bytes table part = slice_index_or (canonical_parts table) part []
+
+-- the parts one after the other are the canonical bytes
+abbrev pub PartsMakeCanonical : Type 0
+PartsMakeCanonical = (t : Table) → concat (canonical_parts t) ≡ canonical t
 
 -- two timetables share their canonical bytes exactly where they are equal
 abbrev pub CanonicalApart : Type 0

@@ -2,13 +2,28 @@
 
 ghost use Rattle.std.specs.Prelude.{◌≡◌, ℕ, ◌<◌, ◌≤◌, ◌++◌, OnOk, OnErr, length};
 ghost use Rattle.std.specs.List.{All, flat_map};
-ghost use Rattle.timetable.specs.Canonical.{canonical, two_bytes, four_bytes, change_bytes, walk_bytes, walks_from, call_bytes, run_bytes, stops_bytes, walks_bytes, runs_bytes};
+ghost use Rattle.timetable.specs.Canonical.{canonical, canonical_parts, part_bytes, two_bytes, four_bytes, change_bytes, walk_bytes, call_bytes, run_bytes, stops_bytes};
 ghost use Rattle.timetable.specs.Writing.{Grown};
-ghost use Rattle.timetable.specs.Table.{walk_count};
+ghost use Rattle.timetable.specs.Table.{walk_count, call_count};
 
 use crate::parts::{Call, Walk};
 use crate::table::{Instance, Timetable, Walks};
 use std::alloc::AllocError;
+
+// How many bytes there are beside the changes, the walks and the instances: the horizon, and how many stops, walks and instances.
+const FRAME: u32 = 14;
+
+// How many bytes a change takes.
+const CHANGE: u32 = 4;
+
+// How many bytes a walk takes.
+const WALK: u32 = 8;
+
+// How many bytes an instance takes beside its calls.
+const INSTANCE: u32 = 7;
+
+// How many bytes a call takes.
+const CALL: u32 = 11;
 
 // Writes a number in two bytes.
 #[tactic(auto, unfolding(crate::specs::Canonical::two_bytes))]
@@ -86,16 +101,16 @@ fn count_all(rows: &[Walks]) -> u32
     count
 }
 
-// Writes the walks from all stops.
-fn put_rows(out: &mut Vec<u8>, rows: &[Walks]) -> Result<(), AllocError>
-    requires { length rows.now ≤ 65_534 }
-    ensures ok { OnOk result (out.new.items ≡ out.old.items ++ flat_map walk_bytes (walks_from 0 rows.now)) }
-    ensures err { OnErr result (Grown out.old.items out.new.items) }
+// How many calls the instances have.
+fn count_calls(instances: &[Instance]) -> u32
+    requires { call_count instances.now ≤ 20_000_000 }
+    ensures { result ≡ call_count instances.now }
 {
-    for (from, walks) in rows.iter().enumerate() {
-        put_row(out, from as u16, walks.row())?;
+    let mut count = 0;
+    for instance in instances {
+        count += instance.calls().len() as u32;
     }
-    Ok(())
+    count
 }
 
 // Writes the calls of an instance.
@@ -122,59 +137,84 @@ fn put_instance(out: &mut Vec<u8>, instance: &Instance) -> Result<(), AllocError
     put_calls(out, calls)
 }
 
-// Writes all instances.
-fn put_instances(out: &mut Vec<u8>, instances: &[Instance]) -> Result<(), AllocError>
-    requires { All (λ run. length run.calls ≤ 65_535) instances.now }
-    ensures ok { OnOk result (out.new.items ≡ out.old.items ++ flat_map run_bytes instances.now) }
-    ensures err { OnErr result (Grown out.old.items out.new.items) }
-{
-    for instance in instances {
-        put_instance(out, instance)?;
-    }
-    Ok(())
-}
-
-// Writes how many walks there are, and the walks.
-fn put_walks(out: &mut Vec<u8>, rows: &[Walks]) -> Result<(), AllocError>
-    requires stops { length rows.now ≤ 65_534 }
-    requires few { walk_count rows.now ≤ 4_000_000 }
-    ensures ok { OnOk result (out.new.items ≡ out.old.items ++ walks_bytes rows.now) }
-    ensures err { OnErr result (Grown out.old.items out.new.items) }
-{
-    put_u32(out, count_all(rows))?;
-    put_rows(out, rows)
-}
-
-// Writes how many instances there are, and the instances.
-fn put_runs(out: &mut Vec<u8>, instances: &[Instance]) -> Result<(), AllocError>
-    requires few { length instances.now ≤ 1_000_000 }
-    requires calls { All (λ run. length run.calls ≤ 65_535) instances.now }
-    ensures ok { OnOk result (out.new.items ≡ out.old.items ++ runs_bytes instances.now) }
-    ensures err { OnErr result (Grown out.old.items out.new.items) }
-{
-    put_u32(out, instances.len() as u32)?;
-    put_instances(out, instances)
-}
-
 impl Timetable {
-    // Writes the horizon and the stops.
+    // Writes the horizon, the stops, and how many walks there are.
     fn put_stops(&self, out: &mut Vec<u8>) -> Result<(), AllocError>
-        ensures ok { OnOk result (out.new.items ≡ out.old.items ++ stops_bytes self.now) }
+        ensures ok { OnOk result (out.new.items ≡ out.old.items ++ (stops_bytes self.now ++ four_bytes (walk_count self.now.walks))) }
         ensures err { OnErr result (Grown out.old.items out.new.items) }
     {
         put_u32(out, self.horizon())?;
         put_u16(out, self.stops() as u16)?;
-        put_changes(out, self.changes())
+        put_changes(out, self.changes())?;
+        put_u32(out, count_all(self.walks()))
     }
 
-    // Writes the canonical bytes, part by part.
+    // Writes the part of that number.
+    fn put_part(&self, part: usize, out: &mut Vec<u8>) -> Result<(), AllocError>
+        requires { part < length (canonical_parts self.now) }
+        ensures ok { OnOk result (out.new.items ≡ out.old.items ++ part_bytes self.now part) }
+        ensures err { OnErr result (Grown out.old.items out.new.items) }
+    {
+        let stops = self.stops();
+        if part == 0 {
+            return self.put_stops(out);
+        }
+        if part <= stops {
+            let from = part - 1;
+            return put_row(out, from as u16, self.walks()[from].row());
+        }
+        if part == stops + 1 {
+            return put_u32(out, self.instances().len() as u32);
+        }
+        put_instance(out, self.instance(part - stops - 2))
+    }
+
+    // Writes all parts, one after the other.
     fn put_parts(&self, out: &mut Vec<u8>) -> Result<(), AllocError>
         ensures ok { OnOk result (out.new.items ≡ out.old.items ++ canonical self.now) }
         ensures err { OnErr result (Grown out.old.items out.new.items) }
     {
-        self.put_stops(out)?;
-        put_walks(out, self.walks())?;
-        put_runs(out, self.instances())
+        for part in 0..self.canonical_parts() {
+            self.put_part(part, out)?;
+        }
+        Ok(())
+    }
+
+    /// How many parts the canonical bytes are cut in: one for the stops, one for the walks from each stop, one that counts the
+    /// instances, and one for each instance. So none of them is longer than what one stop or one instance has.
+    pub fn canonical_parts(&self) -> usize
+        ensures { result ≡ length (canonical_parts self.now) }
+    {
+        self.stops() + self.instances().len() + 2
+    }
+
+    /// How many canonical bytes there are.
+    pub fn canonical_len(&self) -> u32
+        ensures { result ≡ length (canonical self.now) }
+    {
+        let walks = count_all(self.walks());
+        let instances = self.instances();
+        let calls = count_calls(instances);
+        FRAME
+            + CHANGE * self.stops() as u32
+            + WALK * walks
+            + INSTANCE * instances.len() as u32
+            + CALL * calls
+    }
+
+    /// Writes a part of the canonical bytes at the end; parts are numbered from 0. The parts one after the other are what
+    /// `write_canonical` writes, so that a long text can be made a piece at a time. Where memory runs out, the vector is as before.
+    pub fn write_canonical_part(&self, part: usize, out: &mut Vec<u8>) -> Result<(), AllocError>
+        requires { part < length (canonical_parts self.now) }
+        ensures ok { OnOk result (out.new.items ≡ out.old.items ++ part_bytes self.now part) }
+        ensures err { OnErr result (out.new.items ≡ out.old.items) }
+    {
+        let before = out.len();
+        let written = self.put_part(part, out);
+        if written.is_err() {
+            out.truncate(before);
+        }
+        written
     }
 
     /// Writes the canonical bytes at the end: every number of the timetable, one after the other, each with its highest byte

@@ -9,7 +9,6 @@ use disk_model::{Disk, MemDisk};
 use sample_store::{Sample, bytes_of, new_file};
 use section_store::{PutFault, begin};
 use std::alloc::Global;
-use std::process::Abort;
 use std::test::Fail;
 use timetable::Rides;
 
@@ -106,56 +105,6 @@ fn left_at(
     }
 }
 
-// Which bytes stand where a crash leaves any: one byte, what was being written, or that turned over.
-#[derive(Clone, Copy)]
-enum Fill {
-    Byte(u8),
-    Written,
-    Turned,
-}
-
-const FILLS: [Fill; 5] = [
-    Fill::Byte(0),
-    Fill::Byte(0xFF),
-    Fill::Byte(0xA5),
-    Fill::Written,
-    Fill::Turned,
-];
-
-// The bytes of a length that a crash leaves: with zeros and with ones where it leaves any, and those that reads gave.
-#[derive(Drop)]
-struct Left<'a> {
-    zeros: Vec<u8>,
-    ones: Vec<u8>,
-    target: &'a [u8],
-}
-
-impl Left<'_> {
-    // How many places a crash leaves open.
-    fn open(&self) -> usize {
-        self.zeros
-            .iter()
-            .zip(&self.ones)
-            .filter(|(a, b)| a != b)
-            .count()
-    }
-
-    // The bytes with that fill.
-    fn filled(&self, alloc: Global, fill: Fill) -> Result<Vec<u8>, Fail> {
-        let mut bytes = Vec::new(alloc);
-        for (place, (zero, one)) in self.zeros.iter().zip(&self.ones).enumerate() {
-            let written = self.target.get(place).copied().unwrap_or(0);
-            let byte = match fill {
-                Fill::Byte(byte) => byte,
-                Fill::Written => written,
-                Fill::Turned => !written,
-            };
-            bytes.push(if zero == one { *zero } else { byte })?;
-        }
-        Ok(bytes)
-    }
-}
-
 // Whether the bytes stand for the trees with a receipt, or for one more.
 fn is_right(sample: &Sample, receipts: usize, bytes: &[u8]) -> bool {
     match list_in(bytes, &sample.header) {
@@ -164,68 +113,49 @@ fn is_right(sample: &Sample, receipts: usize, bytes: &[u8]) -> bool {
     }
 }
 
-// Goes over the fills, and over each value where one byte is left open.
-fn check_fills(
-    rt: &impl Abort,
+// Goes over bytes that a crash of this length leaves: each value where one is left open, and else some of them.
+fn check_length(
     alloc: Global,
     sample: &Sample,
-    left: &Left<'_>,
+    moment: Moment,
+    len: u64,
+    open: u64,
     receipts: usize,
 ) -> Result<(), Fail> {
-    for fill in FILLS {
-        assert!(rt; is_right(sample, receipts, &left.filled(alloc, fill)?));
-    }
-    if left.open() == 1 {
-        for value in 0..=255 {
-            let bytes = left.filled(alloc, Fill::Byte(value))?;
-            assert!(rt; is_right(sample, receipts, &bytes));
+    for byte in 0..=255_u8 {
+        if open == 1 || byte % 255 == 0 || byte == 0xA5 {
+            let bytes = left_at(alloc, sample, moment, len, byte)?;
+            if !is_right(sample, receipts, &bytes) {
+                return Err(Fail::new("a crash that leaves another list"));
+            }
         }
     }
     Ok(())
 }
 
-// Goes over the lengths that a crash may leave. Says how many puts had a receipt.
-fn check_moment(
-    rt: &impl Abort,
-    alloc: Global,
-    sample: &Sample,
-    moment: Moment,
-    target: &[u8],
-) -> Result<usize, Fail> {
-    let ended = run(alloc, sample, moment.before, moment.failing)?;
+// Goes over the lengths that a crash may leave, and over what reads give. Says how many puts had a receipt.
+fn check_moment(alloc: Global, sample: &Sample, moment: Moment) -> Result<usize, Fail> {
+    let mut ended = run(alloc, sample, moment.before, moment.failing)?;
     for len in 0..400 {
         if let Some(open) = ended.disk.open_bytes(len) {
-            let left = Left {
-                zeros: left_at(alloc, sample, moment, len, 0)?,
-                ones: left_at(alloc, sample, moment, len, 0xFF)?,
-                target,
-            };
-            assert_eq!(rt; left.open() as u64, open);
-            check_fills(rt, alloc, sample, &left, ended.receipts)?;
+            check_length(alloc, sample, moment, len, open, ended.receipts)?;
         }
     }
-    Ok(ended.receipts)
-}
-
-// The file as reads give it before the n-th call. No further call is told to fail.
-fn read_before(alloc: Global, sample: &Sample, before: Before, n: u64) -> Result<Vec<u8>, Fail> {
-    let mut ended = run(alloc, sample, before, Failing::Since(n))?;
     ended.disk.fail_at(0);
-    bytes_of(alloc, &mut ended.disk)
+    let bytes = bytes_of(alloc, &mut ended.disk)?;
+    if is_right(sample, ended.receipts, &bytes) {
+        Ok(ended.receipts)
+    } else {
+        Err(Fail::new("reads that give another list"))
+    }
 }
 
 // Goes over the calls of the disk, each failing alone and with all later ones. Says how many calls there are.
-fn check_calls(
-    rt: &impl Abort,
-    alloc: Global,
-    sample: &Sample,
-    before: Before,
-) -> Result<u64, Fail> {
+fn count_calls(alloc: Global, sample: &Sample, before: Before) -> Result<u64, Fail> {
     for n in 1..40 {
-        let target = read_before(alloc, sample, before, n + 1)?;
         let mut receipts = 0;
         for failing in [Failing::Once(n), Failing::Since(n)] {
-            receipts = check_moment(rt, alloc, sample, Moment { before, failing }, &target)?;
+            receipts = check_moment(alloc, sample, Moment { before, failing })?;
         }
         if receipts == 5 {
             return Ok(n - 1);
@@ -234,21 +164,12 @@ fn check_calls(
     Err(Fail::new("there are more calls"))
 }
 
-// To begin a store takes 7 calls of the disk, and each put 4.
+// To begin a store takes 7 calls of the disk, and each put 4. A file that has more than one byte is cut and synced first.
 #[test]
-fn crashes_of_a_new_file(rt: HostRuntime) -> Result<(), Fail> {
+fn crashes_at_each_call(rt: HostRuntime) -> Result<(), Fail> {
     let sample = Sample::new(&rt)?;
-    assert_eq!(rt; check_calls(&rt, rt.alloc(), &sample, Before::Nothing)?, 27);
-    Ok(())
-}
-
-// A file that has more than one byte is cut and synced first.
-#[test]
-fn crashes_of_an_old_file(rt: HostRuntime) -> Result<(), Fail> {
-    let sample = Sample::new(&rt)?;
-    assert_eq!(rt;
-        check_calls(&rt, rt.alloc(), &sample, Before::ClosedGate)?,
-        29
-    );
+    for (before, calls) in [(Before::Nothing, 27), (Before::ClosedGate, 29)] {
+        assert_eq!(rt; count_calls(rt.alloc(), &sample, before)?, calls);
+    }
     Ok(())
 }

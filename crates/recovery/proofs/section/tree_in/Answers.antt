@@ -79,3 +79,14 @@ returns-else-eq-clause-found c = λ stored set small.
     let stops = all_stops c.stops.result c.deref.result.now form.table c.stops.ensures.value c.stops.ensures.valid table in
     let other : c.in-Err.fault ≢ Memory = search rules in
     bad_refused form stored text (subst (λ (n : ℕ). BeginsNoText 2 n text) stops (c.in-Err.ensures other))
+
+pub returns-else-contains-clause-known : goal.returns-else-contains-clause-known
+returns-else-contains-clause-known c =
+    let form = c.args.form.now in
+    let text = c.args.text.now in
+    let tree = c.in-Ok.read.0 in
+    let used = c.in-Ok.read.1 in
+    let table : c.deref.result.now ≡ form.table = search rules in
+    let stops = all_stops c.stops.result c.deref.result.now form.table c.stops.ensures.value c.stops.ensures.valid table in
+    let read : TreeText 2 (stops_of form.table) (take used text) tree = subst (λ (n : ℕ). TreeText 2 n (take used text) tree) stops c.in-Ok.ensures.1 in
+    read.source_below

@@ -1,4 +1,5 @@
-use Rattle.std.proofs.Common.{rules, ◌≡◌, ◌<◌, ◌≤◌, ◌++◌, [], ◌∷◌, ◌⊎◌, ℕ, List, length, drop, sym, ◌∙◌, ap, subst}
+use Rattle.std.proofs.Common.{rules, ◌≡◌, ◌<◌, ◌≤◌, ◌++◌, [], ◌∷◌, ◌⊎◌, ℕ, List, length, drop, sym, ◌∙◌, ap, subst, All}
+use Rattle.std.proofs.lemmas.List.Elements.{All-push}
 use Rattle.std.proofs.lemmas.List.{map-append}
 use Rattle.disk_model.specs.Disk.{State}
 use Rattle.timetable.specs.Table.{stops_of}
@@ -27,6 +28,8 @@ sections-preserved g c =
       stored = c.in-Ok-keep.ensures.stored ∙ ap (λ (l : List ℕ). l ++ tree.source ∷ []) c.sections.invariant.stored
           ∙ sym (map-append (λ (t : Content). t.source) trees (tree ∷ []))
           ∙ ap sources (sym c.in-Ok-keep.ensures.trees);
+      known = subst (All (λ (t : Content). t.source < stops_of form.table)) (sym c.in-Ok-keep.ensures.trees)
+          (All-push (λ (t : Content). t.source < stops_of form.table) trees tree c.sections.invariant.known (rw c.in-Some.is at c.in-Ok-next_section.ensures.known));
       present = subst (IsSetOf (stops_of form.table) c.keep.new.present) (sym c.in-Ok-keep.ensures.stored) (c.in-Ok-keep.ensures.present (stops_of form.table) stored c.sections.invariant.present);
       so_far = λ honest begun.
           let h = c.sections.invariant.honest.0 honest in

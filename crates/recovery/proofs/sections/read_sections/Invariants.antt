@@ -1,5 +1,6 @@
-use Rattle.std.proofs.Common.{◌≡◌, ◌↔◌, ◌≤◌, ◌-◌, []}
+use Rattle.std.proofs.Common.{◌≡◌, ◌↔◌, ◌<◌, ◌≤◌, ◌-◌, [], All}
 use Rattle.timetable.specs.Table.{stops_of}
+use Rattle.pattern_tree.specs.Content.{Content}
 use Rattle.section_store.specs.Sections.{sources}
 use Rattle.section_store.specs.Sources.{IsSetOf}
 use Rattle.recovery.specs.Reading.{IsSoFar}
@@ -16,6 +17,7 @@ invariant-sections g l = record {
   within : l.place ≤ l.end;
   stored : l.stored.items ≡ sources l.trees.items;
   present : IsSetOf (stops_of l.form.table) l.present l.stored.items;
+  known : All (λ (tree : Content). tree.source < stops_of l.form.table) l.trees.items;
   so_far : g.D.Disk.honest l.initial.disk → IsSoFar l.form (g.D.Disk.state l.initial.disk).read [] l.start
       → IsSoFar l.form (g.D.Disk.state l.initial.disk).read l.trees.items l.place;
 }

@@ -1,0 +1,130 @@
+-- How a store goes on.
+use Rattle.std.proofs.Common.{◌≡◌, inl, inr, ℕ, zero, suc, List, [], ◌∷◌, ◌++◌, append_assoc, get_or, arith, sym, ◌∙◌, ap, subst}
+use Rattle.std.specs.List.{Contains}
+use Rattle.std.proofs.lemmas.List.{append-nil, map-append, get_or_default}
+use Rattle.disk_model.specs.Image.{Image, IsOutcome}
+use Rattle.disk_model.specs.Disk.{State}
+use Rattle.disk_model.specs.Moments.{moments, Leaves, LeavesOnly}
+use Rattle.disk_model.proofs.Moments.{still, goes_on, weaker, leaves_last, only_settled}
+use Rattle.pattern_tree.specs.Content.{Content}
+use Rattle.section_store.specs.Going.{IsFront, StandsForFront, HoldsAll, IsKept, GoesOn}
+use Rattle.section_store.specs.Lasting.{HasSource, LosesNothing, IsTrustedFile, StaysTrusted}
+use Rattle.section_store.specs.Sections.{Form, Stands, IsBeforeOrAfter, sources}
+use Rattle.section_store.specs.Store.{IsRest}
+use Rattle.section_store.proofs.Lasting.{in_turn, lasts}
+
+module _ (form : Form) where
+  -- the bytes of a store at rest
+  rest_stands : (trees : List Content) (place : ℕ) (disk : State) → IsRest form trees place disk → (bytes : List ℕ) → IsOutcome disk.now bytes → Stands form bytes trees
+  rest_stands trees place disk rest bytes left =
+      let read : bytes ≡ disk.read = only_settled disk.read bytes (subst (λ (image : Image). IsOutcome image bytes) rest.durable left) in
+      inr (record {
+        texts = rest.begins.texts;
+        gate = rest.gate;
+        free = rest.free;
+        are = read ∙ rest.begins.are;
+        closed = rest.closed;
+        of = rest.begins.of;
+        apart = rest.begins.apart;
+      })
+
+  pub kept_front : (place : ℕ) (list storing : List ℕ) (disk : State) → IsKept form place list disk → IsFront list storing → Leaves (StandsForFront form list storing) disk.now
+  kept_front place list storing disk kept front = λ bytes left. record {
+    trees = kept.0;
+    stands = rest_stands kept.0 place disk kept.1.rest bytes left;
+    holds = ([], sym kept.1.stored_are ∙ sym (append-nil list));
+    front = (front.0, front.1 ∙ ap (λ (l : List ℕ). l ++ front.0) kept.1.stored_are);
+  }
+
+  pub kept_holds : (place : ℕ) (list : List ℕ) (disk : State) → IsKept form place list disk → HoldsAll form list disk
+  kept_holds place list disk kept = λ k d below bytes left.
+      let here : Contains list (get_or list k d) = (k, below, get_or_default list k (get_or list k d) d below) in
+      record {
+        trees = kept.0;
+        stands = rest_stands kept.0 place disk kept.1.rest bytes left;
+        has = subst (λ (l : List ℕ). Contains l (get_or list k d)) kept.1.stored_are here;
+      }
+
+  -- what was held still is
+  pub lost_none : (list : List ℕ) (old new : State) → LosesNothing form old new → HoldsAll form list old → HoldsAll form list new
+  lost_none list old new loses holds = λ k d below.
+      let s = get_or list k d in
+      leaves_last old new (HasSource form s)
+      (record {
+        since = loses.since;
+        are = loses.are;
+        each = λ i image inside. loses.each zero (suc i) image (omega arith) (omega (arith, inside)) s (holds k d below);
+      })
+      (holds k d below)
+
+  -- nothing was done
+  pub stay : (list storing : List ℕ) (old new : State) → new ≡ old → GoesOn form list storing old new
+  stay list storing old new same = record {
+    leaves = still old new (StandsForFront form list storing) same;
+    loses = record {
+      since = [];
+      are = ap moments same ∙ sym (append-nil (moments old));
+      each = λ i j d below inside. absurd (omega (arith, below, inside));
+    };
+    trusts = λ trusted. still old new (IsTrustedFile form) same;
+  }
+
+  -- a put has begun
+  module _ (list : List ℕ) (trees : List Content) (tree : Content) (are : list ≡ sources trees) where
+    more : sources (trees ++ tree ∷ []) ≡ list ++ tree.source ∷ []
+    more = map-append (λ (t : Content). t.source) trees (tree ∷ []) ∙ ap (λ (l : List ℕ). l ++ tree.source ∷ []) (sym are)
+
+    put_front : (bytes : List ℕ) → IsBeforeOrAfter form trees tree bytes → StandsForFront form list (list ++ tree.source ∷ []) bytes
+    put_front bytes (inl before) = record {
+      trees = trees;
+      stands = inr before;
+      holds = ([], sym are ∙ sym (append-nil list));
+      front = (tree.source ∷ [], ap (λ (l : List ℕ). l ++ tree.source ∷ []) are);
+    }
+    put_front bytes (inr after) = record {
+      trees = trees ++ tree ∷ [];
+      stands = inr after;
+      holds = (tree.source ∷ [], more);
+      front = ([], sym more ∙ sym (append-nil (sources (trees ++ tree ∷ []))));
+    }
+
+    pub put_goes : (old new : State) → LeavesOnly old new (IsBeforeOrAfter form trees tree) → LosesNothing form old new → StaysTrusted form old new
+        → GoesOn form list (list ++ tree.source ∷ []) old new
+    put_goes old new moments loses trusts = record {
+      leaves = weaker old new (IsBeforeOrAfter form trees tree) (StandsForFront form list (list ++ tree.source ∷ [])) put_front moments;
+      loses = loses;
+      trusts = trusts;
+    }
+
+  -- a longer storing order, and a shorter list
+  longer : (list storing more bytes : List ℕ) → StandsForFront form list storing bytes → StandsForFront form list (storing ++ more) bytes
+  longer list storing more bytes is = record {
+    trees = is.trees;
+    stands = is.stands;
+    holds = is.holds;
+    front = (is.front.0 ++ more, ap (λ (l : List ℕ). l ++ more) is.front.1 ∙ append_assoc (sources is.trees) is.front.0 more);
+  }
+
+  shorter : (list front storing bytes : List ℕ) → IsFront front list → StandsForFront form list storing bytes → StandsForFront form front storing bytes
+  shorter list front storing bytes begins is = record {
+    trees = is.trees;
+    stands = is.stands;
+    holds = (begins.0 ++ is.holds.0, is.holds.1 ∙ ap (λ (l : List ℕ). l ++ is.holds.0) begins.1 ∙ append_assoc front begins.0 is.holds.0);
+    front = is.front;
+  }
+
+  pub trusts_on : (old mid new : State) → StaysTrusted form old mid → StaysTrusted form mid new → StaysTrusted form old new
+  trusts_on old mid new first second = λ trusted.
+      goes_on old mid new (IsTrustedFile form) (first trusted) (second (lasts form old mid trusted first))
+
+  pub goes_more : (list storing more : List ℕ) (old mid new : State)
+      → IsFront list storing → GoesOn form list storing old mid → GoesOn form storing (storing ++ more) mid new → GoesOn form list (storing ++ more) old new
+  goes_more list storing more old mid new front first second =
+      let order : List ℕ = storing ++ more in
+      record {
+        leaves = goes_on old mid new (StandsForFront form list order)
+            (weaker old mid (StandsForFront form list storing) (StandsForFront form list order) (longer list storing more) first.leaves)
+            (weaker mid new (StandsForFront form storing order) (StandsForFront form list order) (λ bytes. shorter storing list order bytes front) second.leaves);
+        loses = in_turn form old mid new first.loses second.loses;
+        trusts = trusts_on old mid new first.trusts second.trusts;
+      }

@@ -1,0 +1,35 @@
+-- How a store goes on: its trees are stored one after the other, in a storing order.
+use Rattle.std.specs.Prelude.{◌≡◌, ℕ, List, ◌++◌}
+use Rattle.std.specs.List.{All}
+use Rattle.disk_model.specs.Disk.{State}
+use Rattle.disk_model.specs.Moments.{Leaves, LeavesOnly}
+use Rattle.pattern_tree.specs.Content.{Content}
+use Rattle.section_store.specs.Lasting.{HasSource, LosesNothing, StaysTrusted}
+use Rattle.section_store.specs.Sections.{Form, Stands, sources}
+use Rattle.section_store.specs.Store.{Holds}
+
+-- the list begins with the front
+abbrev pub IsFront : List ℕ → List ℕ → Type 0
+IsFront front list = (rest : List ℕ) × (list ≡ front ++ rest)
+
+-- the bytes stand for a front of the storing order that holds the list
+pub record StandsForFront (form : Form) (list storing bytes : List ℕ) : Type 0 where
+  pub trees : List Content
+  pub stands : Stands form bytes trees
+  pub holds : IsFront list (sources trees)
+  pub front : IsFront (sources trees) storing
+
+-- each outcome holds each of these sources
+abbrev pub HoldsAll : Form → List ℕ → State → Type 0
+HoldsAll form list disk = All (λ s. Leaves (HasSource form s) disk.now) list
+
+-- the file holds trees of these sources
+abbrev pub IsKept : Form → ℕ → List ℕ → State → Type 0
+IsKept form place list disk = (trees : List Content) × Holds form trees place list disk
+
+-- since the old state each outcome at each moment has stood for a front of the storing order that holds the list, no source that
+-- was held was lost, and a trusted disk has stayed trusted
+pub record GoesOn (form : Form) (list storing : List ℕ) (old new : State) : Type 0 where
+  pub leaves : LeavesOnly old new (StandsForFront form list storing)
+  pub loses : LosesNothing form old new
+  pub trusts : StaysTrusted form old new

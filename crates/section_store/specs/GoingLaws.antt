@@ -1,0 +1,44 @@
+-- Theorems about a store that goes on.
+use Rattle.std.specs.Prelude.{◌≡◌, ℕ, List, [], ◌∷◌, ◌++◌}
+use Rattle.disk_model.specs.Disk.{State}
+use Rattle.disk_model.specs.Moments.{Leaves, LeavesOnly}
+use Rattle.pattern_tree.specs.Content.{Content}
+use Rattle.section_store.specs.Going.{IsFront, StandsForFront, HoldsAll, IsKept, GoesOn}
+use Rattle.section_store.specs.Lasting.{LosesNothing, StaysTrusted}
+use Rattle.section_store.specs.Sections.{Form, IsBeforeOrAfter, sources}
+
+-- a crash of a store at rest leaves its list, however the storing order goes on
+abbrev pub KeptStandsForFront : Type 0
+KeptStandsForFront =
+    (form : Form) (place : ℕ) (list storing : List ℕ) (disk : State)
+    → IsKept form place list disk → IsFront list storing → Leaves (StandsForFront form list storing) disk.now
+
+-- what a store at rest has stored, each outcome holds
+abbrev pub KeptIsHeld : Type 0
+KeptIsHeld = (form : Form) (place : ℕ) (list : List ℕ) (disk : State) → IsKept form place list disk → HoldsAll form list disk
+
+-- what each outcome holds, each outcome holds from then on
+abbrev pub HeldForGood : Type 0
+HeldForGood = (form : Form) (list : List ℕ) (old new : State) → LosesNothing form old new → HoldsAll form list old → HoldsAll form list new
+
+-- a store goes on where nothing is done to it
+abbrev pub NothingGoesOn : Type 0
+NothingGoesOn = (form : Form) (list storing : List ℕ) (old new : State) → new ≡ old → GoesOn form list storing old new
+
+-- a store goes on by a put, with the tree's source behind its list
+abbrev pub PutGoesOn : Type 0
+PutGoesOn =
+    (form : Form) (list : List ℕ) (trees : List Content) (tree : Content) (old new : State)
+    → list ≡ sources trees → LeavesOnly old new (IsBeforeOrAfter form trees tree) → LosesNothing form old new → StaysTrusted form old new
+    → GoesOn form list (list ++ tree.source ∷ []) old new
+
+-- a store that went on, and then with all that was to be stored, went on altogether
+abbrev pub GoesOnInTurn : Type 0
+GoesOnInTurn =
+    (form : Form) (list storing more : List ℕ) (old mid new : State)
+    → IsFront list storing → GoesOn form list storing old mid → GoesOn form storing (storing ++ more) mid new
+    → GoesOn form list (storing ++ more) old new
+
+-- a disk that stayed trusted, and stayed so from then on, stayed trusted altogether
+abbrev pub TrustInTurn : Type 0
+TrustInTurn = (form : Form) (old mid new : State) → StaysTrusted form old mid → StaysTrusted form mid new → StaysTrusted form old new
