@@ -15,8 +15,13 @@ use std::test::Fail;
 use timetable::{Rides, StopId, Timetable};
 use work_ledger::{Call, Fault, Ledger, Outcome, Refusal, Reply};
 
-// A finished tree of a stop.
-fn tree(alloc: Global, table: &Arc<Timetable>, k: u8, source: u16) -> Result<Finished, TreeFault>
+/// A finished tree of a stop.
+pub fn tree(
+    alloc: Global,
+    table: &Arc<Timetable>,
+    k: u8,
+    source: u16,
+) -> Result<Finished, TreeFault>
     requires stops { stops_of (arc_value table.now) ≡ 5 }
     requires source { source < 5 }
     requires some { 0 < k }

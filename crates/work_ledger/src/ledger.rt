@@ -109,6 +109,20 @@ impl Ledger {
         })
     }
 
+    /// The timetable that its trees are for.
+    pub fn timetable(&self) -> &Arc<Timetable>
+        ensures { arc_value result.now ≡ self.now.table }
+    {
+        &self.table
+    }
+
+    /// The most rides of the journeys that its trees are for.
+    pub fn k(&self) -> Rides
+        ensures { result ≡ self.now.rides }
+    {
+        self.rides
+    }
+
     /// Whether a tree that its seat hands in now meets Full.
     pub fn is_full(&self) -> bool
         ensures { IsTrue result ↔ (length self.now.trees ≡ self.now.room) }

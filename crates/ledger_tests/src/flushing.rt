@@ -1,0 +1,160 @@
+//! Flushes of the sample feed's trees to a store in memory.
+
+ghost use Rattle.std.specs.Prelude.{◌<◌, ◌≤◌, ◌+◌, ◌≡◌, length, vec_len, vec_capacity, IfOk};
+ghost use Rattle.std.specs.Arc.{arc_value};
+ghost use Rattle.timetable.specs.Table.{stops_of};
+ghost use Rattle.section_store.specs.Sections.{form_of};
+
+use crate::tests::tree;
+use disk_model::MemDisk;
+use flusher::{Ack, FlushEnd, Intake, Notice, flush};
+use pattern_tree::Finished;
+use sample_feed::demo;
+use section_store::{Form, Receipt, SectionStore, Step, begin};
+use std::alloc::{AllocError, Global};
+use std::sync::Arc;
+use std::test::Fail;
+use timetable::{Rides, StopId, Timetable};
+use work_ledger::Outcome;
+
+// Trees that wait, the last of them the next; the sources that were taken, and what became of them.
+#[derive(Drop)]
+struct Waiting {
+    trees: Vec<Finished>,
+    taken: Vec<StopId>,
+    acks: Vec<Ack>,
+    closed: bool,
+    ghost fewer: { length acks.items ≤ length taken.items },
+    ghost room: { vec_len taken + vec_len trees ≤ vec_capacity taken },
+    ghost room_for_acks: { vec_capacity taken ≤ vec_capacity acks },
+}
+
+impl Waiting {
+    fn new(alloc: Global, trees: Vec<Finished>) -> Result<Waiting, AllocError> {
+        let taken = Vec::with_capacity(alloc, trees.len())?;
+        let acks = Vec::with_capacity(alloc, taken.capacity())?;
+        Ok(Waiting {
+            trees,
+            taken,
+            acks,
+            closed: false,
+        })
+    }
+}
+
+impl Intake for Waiting {
+    ghost use Rattle.std.specs.Prelude.{length};
+
+    ghost taken = { λ w. w.taken.items };
+
+    ghost acked = { λ w. w.acks.items };
+
+    ghost closed = { λ w. w.closed };
+
+    ghost left = { λ w. length w.trees.items };
+
+    ghost fewer = { λ w. w.fewer };
+
+    fn take(&mut self) -> Option<Finished> {
+        match self.trees.pop() {
+            None => {
+                self.closed = true;
+                None
+            }
+            Some(tree) => {
+                self.closed = false;
+                self.taken.push_reserved(tree.tree().source());
+                Some(tree)
+            }
+        }
+    }
+
+    fn ack(&mut self, ack: Ack) {
+        self.acks.push_reserved(ack);
+    }
+}
+
+// Who was told, and the numbers of the receipts.
+#[derive(Drop)]
+struct Heard {
+    form: Form,
+    numbers: Vec<usize>,
+}
+
+impl Notice for Heard {
+    ghost form = { λ h. h.form };
+
+    fn stored(&mut self, _tree: Finished, receipt: Receipt) {
+        let _ = self.numbers.push(receipt.number());
+    }
+}
+
+// A store in memory, a call of whose disk fails after so many, and who hears of its trees.
+fn store_and_heard(
+    alloc: Global,
+    table: &Arc<Timetable>,
+    fails_at: u64,
+) -> Result<(SectionStore<MemDisk>, Heard), Fail>
+    ensures ready { IfOk result (λ r. r.0.next ≡ Step.WriteBody) }
+    ensures form { IfOk result (λ r. r.1.form ≡ r.0.form) }
+{
+    let rides = Rides::new(3);
+    let Ok(mut store) = begin(alloc, MemDisk::new(alloc), table, rides) else {
+        return Err(Fail::new("the store wasn't begun"));
+    };
+    store.fail_at(fails_at);
+    let form = Form::new(Arc::try_clone(table)?, rides);
+    let heard = Heard {
+        form,
+        numbers: Vec::new(alloc),
+    };
+    Ok((store, heard))
+}
+
+// The trees of A, B and C, between them one of A again and one for journeys of two rides alone; the first to be taken last.
+fn trees_waiting(alloc: Global, table: &Arc<Timetable>) -> Result<Waiting, Fail>
+    requires { stops_of (arc_value table.now) ≡ 5 }
+{
+    let mut trees = Vec::new(alloc);
+    for (k, source) in [(3, 2), (2, 3), (3, 0), (3, 1), (3, 0)] {
+        trees.push(tree(alloc, table, k, source)?)?;
+    }
+    Ok(Waiting::new(alloc, trees)?)
+}
+
+// What became of each, by its outcome, and which receipts were heard of.
+fn told(waiting: &Waiting, heard: &Heard) -> (usize, usize, usize) {
+    let kept = waiting
+        .acks
+        .iter()
+        .filter(|ack| ack.outcome == Outcome::Keep)
+        .count();
+    (waiting.acks.len(), kept, heard.numbers.len())
+}
+
+#[test]
+fn stored_as_they_come(rt: HostRuntime) -> Result<(), Fail> {
+    let alloc = rt.alloc();
+    let table = Arc::new(alloc, demo(&rt)?)?;
+    let mut waiting = trees_waiting(alloc, &table)?;
+    let (mut store, mut heard) = store_and_heard(alloc, &table, 0)?;
+    let end = flush(&mut store, &mut waiting, &mut heard);
+    assert!(rt; end == FlushEnd::Drained && waiting.closed);
+    assert_eq!(rt; told(&waiting, &heard), (5, 3, 3));
+    assert!(rt; store.stored() == [StopId::new(0), StopId::new(1), StopId::new(2)].as_slice());
+    Ok(())
+}
+
+// Each put makes four calls; the second of the second put fails.
+#[test]
+fn ends_where_the_device_fails(rt: HostRuntime) -> Result<(), Fail> {
+    let alloc = rt.alloc();
+    let table = Arc::new(alloc, demo(&rt)?)?;
+    let mut waiting = trees_waiting(alloc, &table)?;
+    let (mut store, mut heard) = store_and_heard(alloc, &table, 6)?;
+    let end = flush(&mut store, &mut waiting, &mut heard);
+    assert!(rt; end == FlushEnd::DeviceFailed && waiting.taken.len() == 2);
+    assert_eq!(rt; told(&waiting, &heard), (1, 1, 1));
+    assert!(rt; store.stored() == [StopId::new(0)].as_slice());
+    Ok(())
+}
