@@ -72,7 +72,7 @@ impl Stored {
     pub fn source(&self) -> StopId
         ensures { result ≡ self.now.tree.source }
     {
-        self.receipt.source
+        self.receipt.source()
     }
 
     // Its parts.
