@@ -1,1 +1,2 @@
 pub mod PrintedFacts
+pub mod PrintingFacts

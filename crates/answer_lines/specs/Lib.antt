@@ -1,2 +1,4 @@
 pub mod Moments
 pub mod Printed
+pub mod Printing
+pub mod Reports

@@ -1,10 +1,14 @@
-//! Answers of the journey planner as lines: moments, rides and walks, journeys, and all of an answer.
+//! Answers of the journey planner as lines: moments, rides and walks, journeys, and all of an answer; and reports of a store.
 #![tactic(auto)]
 
 mod answer;
 mod moment;
+mod printing;
+mod report;
 mod stage;
 
 pub use answer::{Answer, Point};
 pub use moment::{DayTime, day_time};
+pub use printing::{PrintFault, print};
+pub use report::Report;
 pub use stage::Stage;

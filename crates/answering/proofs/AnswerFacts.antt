@@ -1,19 +1,16 @@
--- Answers between single stops and from the trees of all stops.
-use Rattle.std.proofs.Common.{Option, ◌≡◌, ℕ, zero, suc, ◌<◌, ◌≤◌, Bool, false, true≢false, List, [], ◌∷◌, length, map, slice_get, get_or, Some, None, Contains, All, arith, refl, sym, ◌∙◌, subst, subst₂}
+-- Answers between single stops, and journeys of trees between places.
+use Rattle.std.proofs.Common.{Option, ◌≡◌, ℕ, zero, suc, ◌<◌, Bool, false, true≢false, List, [], ◌∷◌, map, get_or, Contains, All, arith, refl, sym, subst, subst₂}
 use Rattle.std.specs.List.{AllZip}
-use Rattle.std.proofs.lemmas.List.Elements.{All-tail, at_from_Contains}
-use Rattle.std.proofs.lemmas.Option.{slice_get_within, slice_get-get_or, get_or_from_slice_get}
+use Rattle.std.proofs.lemmas.List.Elements.{All-cons, All-nil, All-tail, at_from_Contains}
 use Rattle.timetable.specs.declared.parts.Leg.{Leg}
 use Rattle.timetable.specs.declared.parts.Numbers.{Numbers}
 use Rattle.timetable.specs.Front.{AreFront}
 use Rattle.timetable.specs.Journeys.{Journey, Serves, Reaches}
-use Rattle.timetable.specs.Table.{Table, stops_of}
-use Rattle.pattern_tree.specs.Content.{Content, longest}
-use Rattle.pattern_tree.specs.Completeness.{Complete}
+use Rattle.timetable.specs.Table.{Table}
+use Rattle.pattern_tree.specs.Content.{Content}
 use Rattle.pattern_query.specs.Answer.{PointData, numbers, AreBest}
-use Rattle.planner.specs.Forest.{AreAllTrees}
-use Rattle.planner.specs.Questions.{AreComplete, IsAskedPoint, IsFirstMissing, ReachesBetween}
-use Rattle.answering.specs.Answers.{IsRideBetween, Shows}
+use Rattle.planner.specs.Questions.{IsAskedPoint, ReachesBetween}
+use Rattle.answering.specs.Answers.{IsReached, IsRideBetween, Shows}
 use Rattle.answering.specs.Found.{IsJourneyBetween}
 use Rattle.told_journeys.specs.Points.{ShowsNumbers, Tells}
 use Rattle.answer_lines.specs.declared.answer.Point.{Point}
@@ -79,6 +76,14 @@ journey_between table held froms tos d p h = record {
   rides = h.2.counted;
 }
 
+-- so its numbers are those of a journey
+pub are_reached : (table : Table) (froms tos : List ℕ) (d : ℕ) (journeys : List PointData)
+    → All (IsJourneyBetween table froms tos d) journeys → All (IsReached table froms tos d) (map numbers journeys)
+are_reached table froms tos d [] are = All-nil (IsReached table froms tos d)
+are_reached table froms tos d (p ∷ journeys) are =
+    All-cons (IsReached table froms tos d) (numbers p) (map numbers journeys) (p.from, p.to, p.legs, are 0 p (omega arith))
+    (are_reached table froms tos d journeys (All-tail (IsJourneyBetween table froms tos d) p journeys are))
+
 -- journeys between the stops are told
 pub shown_journeys : (basis : BasisData) (froms tos : List ℕ) (d : ℕ) (wanted : Bool) (journeys : List PointData) (points : List Point)
     → All (IsJourneyBetween basis.timetable froms tos d) journeys → AllZip (Tells basis d wanted) journeys points
@@ -86,42 +91,12 @@ pub shown_journeys : (basis : BasisData) (froms tos : List ℕ) (d : ℕ) (wante
 shown_journeys basis froms tos d wanted [] [] are h = tt
 shown_journeys basis froms tos d wanted [] (point ∷ points) are h = absurd h
 shown_journeys basis froms tos d wanted (p ∷ journeys) [] are h = absurd h
-shown_journeys basis froms tos d wanted (p ∷ journeys) (point ∷ points) are h =
-    let is = are 0 p (omega arith) in (
-      record {
-        rides = h.0.rides;
-        at = h.0.at;
-        told = λ e. record {
-          from = p.from;
-          to = p.to;
-          legs = p.legs;
-          starts = is.starts;
-          ends = is.ends;
-          journey = is.journey;
-          rides = is.rides;
-          told = h.0.told e;
-        };
-        untold = h.0.untold;
-      },
-      shown_journeys basis froms tos d wanted journeys points (All-tail (IsJourneyBetween basis.timetable froms tos d) p journeys are) h.1,
-    )
-
-module _ (table : Table) (k : ℕ) (trees : List Content) (all : AreAllTrees table k trees) where
-  -- all trees are complete
-  pub are_complete : (froms : List ℕ) → AreComplete table (λ s. slice_get trees s) k froms
-  are_complete froms s tree c e =
-      let here = get_or_from_slice_get trees s tree tree e in
-      let is = all.each s tree (slice_get_within trees s tree e) in
-      (subst (λ (t : Content). Complete table k t.source t.pairs) here is.complete, subst (λ (t : Content). longest t.pairs ≤ k) here is.short)
-
-  none_some : (x : Content) → None ≡ Some x → ⊥
-  none_some x e = cc
-
-  -- no stop's tree is missing
-  pub none_missing : (froms : List ℕ) (s : ℕ) → All (λ p. p < stops_of table) froms → ¬ IsFirstMissing (λ p. slice_get trees p) froms s
-  none_missing froms s known first =
-      let below = known first.index s first.within in
-      let here = first.here in
-      let lt : s < length trees = (let count = all.count in omega (arith, below, here, count)) in
-      let no_tree : Content = get_or trees s (record { source = 0; pairs = [] }) in
-      none_some _ (sym first.missing ∙ slice_get-get_or trees s no_tree lt)
+shown_journeys basis froms tos d wanted (p ∷ journeys) (point ∷ points) are h = (
+  record {
+    rides = h.0.rides;
+    at = h.0.at;
+    told = λ e. record { from = p.from; to = p.to; legs = p.legs; is = are 0 p (omega arith); told = h.0.told e };
+    untold = h.0.untold;
+  },
+  shown_journeys basis froms tos d wanted journeys points (All-tail (IsJourneyBetween basis.timetable froms tos d) p journeys are) h.1,
+)

@@ -1,52 +1,39 @@
--- A question whose places are known and whose moment is covered isn't refused where each stop has its tree.
-use Rattle.std.proofs.Common.{Option, ◌≡◌, ℕ, ◌<◌, ◌≤◌, List, slice_get, None, All, arith, refl, subst, inl, inr}
+-- When one leaves, and what a refusal of a question between places says of it.
+use Rattle.std.proofs.Common.{Option, ◌≡◌, ℕ, ◌<◌, ◌≤◌, None, Some, arith, sym, ◌∙◌, ap}
+use Rattle.std.specs.Option.{unwrap_or}
 use Rattle.timetable.specs.Table.{Table}
-use Rattle.pattern_tree.specs.Content.{Content}
-use Rattle.planner.specs.Forest.{AreAllTrees}
 use Rattle.planner.specs.Places.{stops_at}
 use Rattle.planner.specs.Questions as planner
 use Rattle.planner.specs.declared.fault.AskFault.{AskFault}
 use Rattle.planner.specs.declared.fault.AskFault.TheVariants as faults
-use Rattle.answering.proofs.AnswerFacts.{none_missing}
-use Rattle.feed_basis.specs.Basis.{BasisData, IsSound}
-use Rattle.feed_basis.proofs.NameFacts.{stops_known, unknown}
-use Rattle.answering.specs.Refusals.{AreKnown, IsCovered, IsUnanswered}
-use Rattle.pattern_tree.specs.declared.fault.TreeFault.{TreeFault}
-use Rattle.pattern_tree.specs.declared.fault.TreeFault.TheVariants as trees
-use Rattle.program_inputs.specs.Faults.{of_tree}
-use Rattle.program_inputs.specs.declared.fault.Fault.{Fault}
-use Rattle.program_inputs.specs.declared.fault.Fault.TheVariants as told
 use Rattle.command_line.specs.declared.job.Question.{Question}
+use Rattle.feed_basis.specs.Basis.{BasisData}
+use Rattle.answering.specs.Refusals.{IsCovered, IsMissing, IsUnanswered, of_ask}
 
--- what is refused before anything is kept is refused whatever is too much to keep
-pub refused_before : (stops : List ℕ → Option (List ℕ)) (Large : Type 0) (table : Table) (moment : Option ℕ) (question : Question) (fault : Fault)
-    → IsUnanswered stops ⊥ table moment question fault → IsUnanswered stops Large table moment question fault
-refused_before stops Large table moment question (told.UnknownStop id) h = h
-refused_before stops Large table moment question told.NotCovered h = h
-refused_before stops Large table moment question told.TooLarge h = absurd h.2
-refused_before stops Large table moment question told.Memory h = tt
-refused_before stops Large table moment question told.BadDate h = absurd h
-refused_before stops Large table moment question told.BadTime h = absurd h
-refused_before stops Large table moment question (told.Feed f) h = absurd h
-refused_before stops Large table moment question (told.Days f) h = absurd h
+-- a covered moment is one
+pub leaves_at : (moment : Option ℕ) (horizon d : ℕ) → d ≡ unwrap_or moment 4_294_967_295 → d ≤ horizon → horizon ≤ 2_851_199 → moment ≡ Some d
+leaves_at None horizon d is covered bound = let b : ⊥ = omega (arith, is, covered, bound) in absurd b
+leaves_at (Some x) horizon d is covered bound = ap Some (sym is)
 
--- why a tree isn't built
-pub tree_refused : (stops : List ℕ → Option (List ℕ)) (Large : Type 0) (table : Table) (moment : Option ℕ) (question : Question) (fault : TreeFault)
-    → AreKnown stops question → IsCovered table moment → (fault ≡ trees.TooLarge → Large) → IsUnanswered stops Large table moment question (of_tree fault)
-tree_refused stops Large table moment question trees.TooLarge known covered large = (known, covered, large refl)
-tree_refused stops Large table moment question trees.Memory known covered large = tt
+some_same : (a b : ℕ) → Some a ≡ Some b → a ≡ b
+some_same a b e = cc
 
-module _ (basis : BasisData) (k : ℕ) (trees : List Content) (question : Question) (d : ℕ) (sound : IsSound basis) (all : AreAllTrees basis.timetable k trees)
-    (known : AreKnown (stops_at basis.names) question) (covered : d ≤ basis.timetable.horizon) where
-  abbrev pub held : ℕ → Option Content
-  held s = slice_get trees s
+-- nor is one covered where that one isn't
+pub not_covered : (table : Table) (moment : Option ℕ) (d : ℕ) → d ≡ unwrap_or moment 4_294_967_295 → table.horizon < d → ¬ IsCovered table moment
+not_covered table moment d is late covered =
+    let at : d ≡ covered.0 = is ∙ ap (λ o. unwrap_or o 4_294_967_295) covered.1 in
+    let within = covered.2 in
+    let b : ⊥ = omega (arith, at, late, within) in b
 
-  pub no_refusal : (fault : AskFault) → ¬ planner.IsRefusal basis.timetable basis.names held question.from.now question.to.now d fault
-  no_refusal (faults.UnknownStop id) h = elim h.1 [
-    | inl e ↦ unknown basis.names question.from.now known.0 (subst (λ id. stops_at basis.names id ≡ None) e h.0)
-    | inr e ↦ unknown basis.names question.to.now known.1 (subst (λ id. stops_at basis.names id ≡ None) e.1 h.0)
-  ]
-  no_refusal faults.NotCovered h = let late = h.2 in let b : ⊥ = omega (arith, late, covered) in b
-  no_refusal (faults.NotStored id) h =
-      none_missing basis.timetable k trees all h.2 h.3
-      (subst (λ n. All (λ s. s < n) h.2) sound.stops (stops_known basis.names question.from.now h.2 sound.names h.4)) h.5
+-- a refusal, as the program tells it
+pub refused : (basis : BasisData) (held : planner.Held) (moment : Option ℕ) (question : Question) (d : ℕ) (fault : AskFault)
+    → d ≡ unwrap_or moment 4_294_967_295 → basis.timetable.horizon ≤ 2_851_199
+    → planner.IsRefusal basis.timetable basis.names held question.from.now question.to.now d fault
+    → IsUnanswered (stops_at basis.names) (IsMissing basis held question) basis.timetable moment question (of_ask fault)
+refused basis held moment question d (faults.UnknownStop id) is bound h = h
+refused basis held moment question d faults.NotCovered is bound h = ((h.0, h.1), not_covered basis.timetable moment d is h.2)
+refused basis held moment question d (faults.NotStored id) is bound h = (
+  ((h.2, h.4), h.0),
+  (d, leaves_at moment basis.timetable.horizon d is h.1 bound, h.1),
+  (h.2, h.3, h.4, h.5, h.6),
+)

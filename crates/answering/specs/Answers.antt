@@ -1,26 +1,21 @@
 -- What the program answers to a question, by the timetable and the covered days.
 -- RAPTOR (Delling, Pajor, Werneck, ALENEX 2012), section 2: the Pareto set of arrival time and number of trips.
 use Rattle.std.specs.Prelude.{◌≡◌, ℕ, ◌≤◌, Bool, true, false, List, [], length, Option, Some}
-use Rattle.std.specs.List.{AllZip, Contains}
+use Rattle.std.specs.List.{All, AllZip, Contains}
 use Rattle.timetable.specs.declared.parts.Leg.{Leg}
 use Rattle.timetable.specs.declared.parts.Numbers.{Numbers}
 use Rattle.timetable.specs.Journeys.{Journey, Serves, arrives}
 use Rattle.timetable.specs.Table.{Table}
 use Rattle.pattern_query.specs.Answer.{AreBest}
-use Rattle.planner.specs.Questions.{ReachesBetween}
+use Rattle.planner.specs.Questions.{AreComplete, Held, IsStored, ReachesBetween}
 use Rattle.answer_lines.specs.declared.answer.Answer.{Answer}
 use Rattle.answer_lines.specs.declared.answer.Answer.TheVariants as answers
 use Rattle.answer_lines.specs.declared.answer.Point.{Point}
 use Rattle.feed_basis.specs.Basis.{BasisData}
-use Rattle.command_line.specs.declared.job.Job.{Job}
 use Rattle.command_line.specs.declared.job.Question.{Question}
-use Rattle.command_line.specs.declared.job.Task.{Task}
-use Rattle.command_line.specs.declared.job.Task.TheVariants as tasks
 use Rattle.answer_lines.specs.declared.stage.Stage.{Stage}
 use Rattle.answer_lines.specs.Moments.{Says}
 use Rattle.told_journeys.specs.Stages.{ShowsPart, parts_of}
-use Rattle.command_line.specs.Tasks.{question_of}
-use Rattle.answering.specs.Tasks.{stops_for}
 
 -- the leg is a ride from one of the first stops to one of the others that departs at d or later
 abbrev pub IsRideBetween : BasisData → List ℕ → List ℕ → ℕ → Leg → Type 0
@@ -35,15 +30,23 @@ IsDirect basis froms tos d (answers.Arrive time) =
     × Says basis.cover (arrives basis.timetable leg) time
 IsDirect basis froms tos d (answers.Points points) = ⊥
 
+-- the legs are a journey from one of the first stops at d to one of the others, with these numbers
+pub record IsJourneyOf (table : Table) (froms tos : List ℕ) (d : ℕ) (n : Numbers) (from to : ℕ) (legs : List Leg) : Type 0 where
+  pub starts : Contains froms from
+  pub ends : Contains tos to
+  pub journey : Journey table from d legs to n.arrival
+  pub rides : length legs ≡ n.rides
+
+-- some journey has these numbers, of however many rides
+abbrev pub IsReached : Table → List ℕ → List ℕ → ℕ → Numbers → Type 0
+IsReached table froms tos d n = (from : ℕ) × (to : ℕ) × (legs : List Leg) × IsJourneyOf table froms tos d n from to legs
+
 -- the stages are the rides and walks of a journey from one of the first stops at d to one of the others, with these numbers
 pub record AreStagesOf (basis : BasisData) (froms tos : List ℕ) (d : ℕ) (n : Numbers) (stages : List Stage) : Type 0 where
   pub from : ℕ
   pub to : ℕ
   pub legs : List Leg
-  pub starts : Contains froms from
-  pub ends : Contains tos to
-  pub journey : Journey basis.timetable from d legs to n.arrival
-  pub rides : length legs ≡ n.rides
+  pub is : IsJourneyOf basis.timetable froms tos d n from to legs
   pub told : AllZip (ShowsPart basis) (parts_of basis.timetable from d legs to) stages
 
 -- a point has the rides and the arrival of these numbers, and the stages of such a journey where they are wanted
@@ -53,18 +56,25 @@ pub record Shows (basis : BasisData) (froms tos : List ℕ) (d : ℕ) (wanted : 
   pub told : wanted ≡ true → AreStagesOf basis froms tos d n point.stages.items
   pub untold : wanted ≡ false → point.stages.items ≡ []
 
+-- each point shows the numbers of this front at its place
+abbrev pub ShowsFront : BasisData → List ℕ → List ℕ → ℕ → Bool → List Numbers → Answer → Type 0
+ShowsFront basis froms tos d wanted front answers.NoRide = ⊥
+ShowsFront basis froms tos d wanted front (answers.Arrive time) = ⊥
+ShowsFront basis froms tos d wanted front (answers.Points points) = AllZip (Shows basis froms tos d wanted) front points.items
+
 -- the best numbers over journeys of at most k rides between these stops, by rising rides
 abbrev pub ArePoints : BasisData → ℕ → Bool → List ℕ → List ℕ → ℕ → Answer → Type 0
-ArePoints basis k wanted froms tos d answers.NoRide = ⊥
-ArePoints basis k wanted froms tos d (answers.Arrive time) = ⊥
-ArePoints basis k wanted froms tos d (answers.Points points) =
-    (front : List Numbers) × AreBest (ReachesBetween basis.timetable k froms tos d) front × AllZip (Shows basis froms tos d wanted) front points.items
+ArePoints basis k wanted froms tos d answer =
+    (front : List Numbers) × AreBest (ReachesBetween basis.timetable k froms tos d) front × ShowsFront basis froms tos d wanted front answer
 
--- the answer to a task of at most k rides, from the first stops to the others, for one who leaves at the moment d
-abbrev pub IsAnswerTo : Task → ℕ → BasisData → List ℕ → List ℕ → ℕ → Answer → Type 0
-IsAnswerTo (tasks.Direct question) k basis = IsDirect basis
-IsAnswerTo (tasks.Scan question) k basis = ArePoints basis k false
-IsAnswerTo (tasks.Ask question on legs) k basis = ArePoints basis k legs
+-- The answer from the trees that are held: those of the first stops are among them, and each point is a journey with its numbers. Where
+-- these trees are complete, the points are the best over all journeys of at most k rides.
+pub record AreTreePoints (basis : BasisData) (held : Held) (wanted : Bool) (froms tos : List ℕ) (d : ℕ) (answer : Answer) : Type 0 where
+  pub stored : All (IsStored held) froms
+  pub front : List Numbers
+  pub journeys : All (IsReached basis.timetable froms tos d) front
+  pub shown : ShowsFront basis froms tos d wanted front answer
+  pub exact : (k : ℕ) → AreComplete basis.timetable held k froms → AreBest (ReachesBetween basis.timetable k froms tos d) front
 
 -- the question's ids stand for these stops, and its moment is this one, which is covered
 pub record IsAsked (stops : List ℕ → Option (List ℕ)) (table : Table) (moment : Option ℕ) (question : Question) (froms tos : List ℕ) (depart : ℕ) : Type 0 where
@@ -77,8 +87,3 @@ pub record IsAsked (stops : List ℕ → Option (List ℕ)) (table : Table) (mom
 abbrev pub IsAnswered : (List ℕ → Option (List ℕ)) → (List ℕ → List ℕ → ℕ → Answer → Type 0) → Table → Option ℕ → Question → Answer → Type 0
 IsAnswered stops Right table moment question answer =
     (froms : List ℕ) × (tos : List ℕ) × (depart : ℕ) × IsAsked stops table moment question froms tos depart × Right froms tos depart answer
-
--- the answer to a job: between the stops of its ids, at a covered moment
-abbrev pub IsAnswer : BasisData → Option ℕ → Job → Answer → Type 0
-IsAnswer basis moment job answer =
-    IsAnswered (stops_for job.task basis.names) (IsAnswerTo job.task job.settings.rides basis) basis.timetable moment (question_of job.task) answer

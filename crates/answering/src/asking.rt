@@ -1,20 +1,19 @@
 //! Answers to questions.
 
-ghost use Rattle.std.specs.Prelude.{◌≡◌, ◌≤◌, ◌<◌, [], ◌∷◌, Some, Err, IfOk, IfErr, IfSome, IfNone, false, length};
+ghost use Rattle.std.specs.Prelude.{◌≡◌, ◌≤◌, ◌<◌, [], ◌∷◌, Some, IfOk, IfErr, IfSome, IfNone, false};
 ghost use Rattle.planner.specs.Places.{stops_at};
 ghost use Rattle.timetable.specs.Table.{stops_of};
-ghost use Rattle.answering.specs.Answers.{ArePoints, IsAnswer, IsAnswered, IsAsked, IsDirect};
-ghost use Rattle.pattern_tree.specs.declared.fault.TreeFault.{TreeFault};
+ghost use Rattle.answering.specs.Answers.{ArePoints, AreTreePoints, IsAnswered, IsAsked, IsDirect};
 ghost use Rattle.answering.specs.Found.{AreFound};
 ghost use Rattle.feed_basis.specs.Basis.{IsSound};
 ghost use Rattle.feed_basis.specs.Ids.{stop_alone};
-ghost use Rattle.answering.specs.Refusals.{AreKnown, IsCovered, IsRefusal, IsTooLarge, IsUnanswered};
+ghost use Rattle.answering.specs.Refusals.{IsCovered, IsMissing, IsUnanswered, NoneMissing, of_ask};
 
 use answer_lines::Answer;
-use command_line::{Job, Question, Task};
+use command_line::Question;
+use direct_connections::Network;
 use feed_basis::Basis;
-use pattern_tree::TreeFault;
-use planner::{Forest, ask_on};
+use planner::{AskFault, Trees, ask_on};
 use program_inputs::Fault;
 use rounds::Rides;
 use std::alloc::Global;
@@ -25,7 +24,6 @@ use told_journeys::{points_of, told};
 fn covered_moment(basis: &Basis, moment: Option<u32>) -> Option<u32>
     ensures moment { IfSome result (λ depart. (moment ≡ Some depart) × (depart ≤ basis.now.timetable.horizon)) }
     ensures early { IfSome result (λ depart. depart ≤ 4_000_000_000) }
-    ensures sound { IfSome result (λ depart. IsSound basis.now) }
     ensures none { IfNone result (¬ IsCovered basis.now.timetable moment) }
 {
     let depart = moment?;
@@ -55,7 +53,7 @@ fn between<'a>(
     ensures from { IfOk result (λ asked. asked.from < stops_of basis.now.timetable) }
     ensures to { IfOk result (λ asked. asked.to < stops_of basis.now.timetable) }
     ensures early { IfOk result (λ asked. asked.depart ≤ 4_000_000_000) }
-    ensures refusal { IfErr result (IsUnanswered (stop_alone basis.now.names) ⊥ basis.now.timetable moment question.now) }
+    ensures refusal { IfErr result (IsUnanswered (stop_alone basis.now.names) NoneMissing basis.now.timetable moment question.now) }
 {
     let Some(from) = basis.stop_named(question.from) else {
         return Err(Fault::UnknownStop(question.from));
@@ -69,15 +67,15 @@ fn between<'a>(
     Ok(Asked { from, to, depart })
 }
 
-// The least arrival of one ride.
-fn direct<'a>(
+/// The least arrival of one ride from the question's stop to its other one, without walks, for one who is there at the moment.
+pub fn direct<'a>(
     alloc: Global,
     basis: &Basis,
     question: &Question<'a>,
     moment: Option<u32>,
 ) -> Result<Answer, Fault<'a>>
     ensures answer { IfOk result (IsAnswered (stop_alone basis.now.names) (IsDirect basis.now) basis.now.timetable moment question.now) }
-    ensures refusal { IfErr result (IsUnanswered (stop_alone basis.now.names) ⊥ basis.now.timetable moment question.now) }
+    ensures refusal { IfErr result (IsUnanswered (stop_alone basis.now.names) NoneMissing basis.now.timetable moment question.now) }
 {
     let asked = between(basis, question, moment)?;
     let network = basis.network(alloc)?;
@@ -88,8 +86,8 @@ fn direct<'a>(
     Ok(answer)
 }
 
-// The best arrivals, by rounds.
-fn scan<'a>(
+/// The best arrivals from stop to stop over journeys of at most so many rides, by rounds: no tree is asked.
+pub fn scan<'a>(
     alloc: Global,
     basis: &Basis,
     question: &Question<'a>,
@@ -98,7 +96,7 @@ fn scan<'a>(
 ) -> Result<Answer, Fault<'a>>
     ensures answer { IfOk result (IsAnswered (stop_alone basis.now.names) (ArePoints basis.now rides false)
         basis.now.timetable moment question.now) }
-    ensures refusal { IfErr result (IsUnanswered (stop_alone basis.now.names) ⊥ basis.now.timetable moment question.now) }
+    ensures refusal { IfErr result (IsUnanswered (stop_alone basis.now.names) NoneMissing basis.now.timetable moment question.now) }
 {
     let asked = between(basis, question, moment)?;
     let front = rounds::scan(
@@ -113,94 +111,66 @@ fn scan<'a>(
     Ok(Answer::Points(points))
 }
 
-// The best journeys of a question that has an answer, from the pattern trees of all stops, which are built here.
-fn journeys(
-    alloc: Global,
-    basis: &Basis,
-    question: &Question<'_>,
-    depart: u32,
-    rides: Rides,
-) -> Result<pattern_query::Answer, TreeFault>
-    requires known { AreKnown (stops_at basis.now.names) question.now }
-    requires covered { depart ≤ basis.now.timetable.horizon }
-    ensures found { IfOk result (AreFound basis.now rides question.now depart) }
-    ensures large { result ≡ Err TreeFault.TooLarge → IsTooLarge basis.now.timetable rides }
+// The refusal of a question between places, as the program tells it.
+fn told_fault<'a>(fault: AskFault<'a>) -> Fault<'a>
+    ensures { result ≡ of_ask fault.entry }
 {
-    let network = basis.network(alloc)?;
-    let forest = Forest::build(alloc, basis.timetable(), rides)?;
-    let answer = ask_on(
-        &network,
+    match fault {
+        AskFault::UnknownStop(id) => Fault::UnknownStop(id),
+        AskFault::NotCovered => Fault::NotCovered,
+        AskFault::NotStored(id) => Fault::NotStored(id),
+    }
+}
+
+// Journeys of the trees between the question's places. No covered moment is as late as the one that stands for none.
+fn journeys<'a, T: Trees>(
+    basis: &'a Basis,
+    network: &Network,
+    trees: &T,
+    question: &Question<'a>,
+    moment: Option<u32>,
+) -> Result<(pattern_query::Answer, u32), Fault<'a>>
+    requires network { network.now ≡ basis.now.timetable }
+    ensures found { IfOk result (λ found. AreFound basis.now (T.held trees.now) question.now found.1 found.0) }
+    ensures moment { IfOk result (λ found. (moment ≡ Some found.1) × (found.1 ≤ basis.now.timetable.horizon)) }
+    ensures early { IfOk result (λ found. found.1 ≤ 4_000_000_000) }
+    ensures sound { IfOk result (λ _. IsSound basis.now) }
+    ensures refusal { IfErr result (IsUnanswered (stops_at basis.now.names) (IsMissing basis.now (T.held trees.now) question.now)
+        basis.now.timetable moment question.now) }
+{
+    let depart = moment.unwrap_or(u32::MAX);
+    match ask_on(
+        network,
         basis.names(),
-        &forest,
+        trees,
         question.from,
         question.to,
         depart,
-    );
-    match answer {
-        Ok(journeys) => Ok(journeys),
-        // the places are known, the moment is covered, and each stop has its tree
-        Err(_) => unreachable!(),
+    ) {
+        Ok(journeys) => Ok((journeys, depart)),
+        Err(fault) => Err(told_fault(fault)),
     }
 }
 
-// The moment of a question between two places that has an answer.
-fn asked_moment<'a>(
-    basis: &Basis,
-    question: &Question<'a>,
-    moment: Option<u32>,
-) -> Result<u32, Fault<'a>>
-    ensures known { IfOk result (λ depart. AreKnown (stops_at basis.now.names) question.now) }
-    ensures moment { IfOk result (λ depart. (moment ≡ Some depart) × (depart ≤ basis.now.timetable.horizon)) }
-    ensures early { IfOk result (λ depart. depart ≤ 4_000_000_000) }
-    ensures sound { IfOk result (λ depart. IsSound basis.now) }
-    ensures refusal { IfErr result (IsUnanswered (stops_at basis.now.names) ⊥ basis.now.timetable moment question.now) }
-{
-    if !basis.is_place(question.from) {
-        return Err(Fault::UnknownStop(question.from));
-    }
-    if !basis.is_place(question.to) {
-        return Err(Fault::UnknownStop(question.to));
-    }
-    match covered_moment(basis, moment) {
-        Some(depart) => Ok(depart),
-        None => Err(Fault::NotCovered),
-    }
-}
-
-// The best journeys between two places. The trees are built only once the question is known to have an answer.
-fn ask<'a>(
+/// The best journeys between the question's places, each a stop or a station, from the trees of the first place's stops, with their rides
+/// and walks where `legs` wants them. Each is a journey with its numbers, whatever the trees hold; where the trees are complete, these
+/// are the best of all journeys. The network is that of the basis's timetable.
+pub fn ask<'a, T: Trees>(
     alloc: Global,
-    basis: &Basis,
+    basis: &'a Basis,
+    network: &Network,
+    trees: &T,
     question: &Question<'a>,
     moment: Option<u32>,
-    rides: Rides,
     legs: bool,
 ) -> Result<Answer, Fault<'a>>
-    ensures answer { IfOk result (IsAnswered (stops_at basis.now.names) (ArePoints basis.now rides legs)
+    requires network { network.now ≡ basis.now.timetable }
+    ensures answer { IfOk result (IsAnswered (stops_at basis.now.names) (AreTreePoints basis.now (T.held trees.now) legs)
         basis.now.timetable moment question.now) }
-    ensures refusal { IfErr result (IsUnanswered (stops_at basis.now.names) (IsTooLarge basis.now.timetable rides)
+    ensures refusal { IfErr result (IsUnanswered (stops_at basis.now.names) (IsMissing basis.now (T.held trees.now) question.now)
         basis.now.timetable moment question.now) }
 {
-    let depart = asked_moment(basis, question, moment)?;
-    let found = journeys(alloc, basis, question, depart, rides)?;
+    let (found, depart) = journeys(basis, network, trees, question, moment)?;
     let points = told(alloc, basis, depart, legs, found.points())?;
     Ok(Answer::Points(points))
-}
-
-/// Answers a job's question, for one who leaves at the moment of its words.
-pub fn perform<'a>(
-    alloc: Global,
-    basis: &Basis,
-    moment: Option<u32>,
-    job: &Job<'a>,
-) -> Result<Answer, Fault<'a>>
-    ensures answer { IfOk result (IsAnswer basis.now moment job.now) }
-    ensures refusal { IfErr result (IsRefusal basis.now moment job.now) }
-{
-    let rides = Rides::new(job.settings.rides);
-    match &job.task {
-        Task::Direct(question) => direct(alloc, basis, question, moment),
-        Task::Scan(question) => scan(alloc, basis, question, moment, rides),
-        Task::Ask { question, legs, .. } => ask(alloc, basis, question, moment, rides, *legs),
-    }
 }

@@ -28,7 +28,15 @@ fn status(rt: &HostRuntime) -> u8 {
     let mut shown = Vec::new(alloc);
     let job = match read_words(alloc, texts.as_slice(), &mut shown) {
         Ok(job) => job,
-        Err(status) => return show(rt, "bench", shown.as_slice(), status),
+        Err(status) => {
+            return show(
+                "bench",
+                shown.as_slice(),
+                status,
+                &mut rt.stdout(),
+                &mut rt.stderr(),
+            );
+        }
     };
     match measure(rt, &job) {
         Ok(()) => 0,

@@ -11,9 +11,25 @@ journey_app name =
     (required_rule (codes "to")))
     (required_rule (codes "at"))
 
--- a journey between stops or stations, perhaps on another day than the first, perhaps told with its rides and walks
+-- a command over the file of a store
+abbrev pub store_app : Text → App
+store_app name = with_rule (common_app name) (required_rule (codes "store"))
+
+-- all trees that the store lacks, perhaps told how far the build is
+abbrev pub build_app : App
+build_app = with_rule (store_app (codes "build")) (flag_rule (codes "progress"))
+
+-- the stops whose trees are stored
+abbrev pub list_app : App
+list_app = store_app (codes "list")
+
+-- a journey between stops or stations by a store, perhaps on another day than the first, perhaps told with its rides and walks
 abbrev pub ask_app : App
-ask_app = with_rule (with_rule (journey_app (codes "ask")) (optional_rule (codes "on"))) (flag_rule (codes "legs"))
+ask_app =
+    with_rule (with_rule (with_rule (journey_app (codes "ask"))
+    (required_rule (codes "store")))
+    (optional_rule (codes "on")))
+    (flag_rule (codes "legs"))
 
 abbrev pub needs_subcommand : App → App
 needs_subcommand app = record app { top = record app.top { subcommand_required = true } }
@@ -24,7 +40,9 @@ tells_version app = record app { top = record app.top { has_version = true } }
 -- the program, which tells its version: else one of its commands must be named
 abbrev pub program_app : App
 program_app =
-    with_subcommand (with_subcommand (with_subcommand (needs_subcommand (tells_version (new_app (codes "tp"))))
+    with_subcommand (with_subcommand (with_subcommand (with_subcommand (with_subcommand (needs_subcommand (tells_version (new_app (codes "tp"))))
     (journey_app (codes "direct")).top)
     (journey_app (codes "scan")).top)
+    build_app.top)
+    list_app.top)
     ask_app.top

@@ -4,6 +4,8 @@ use Rattle.std.specs.Option.{option_map}
 use Rattle.clap.specs.Words.{Row, Text, first_of}
 use Rattle.program_inputs.specs.Settings.{HasSettings}
 use Rattle.program_inputs.specs.Values.{HasFlag, HasText}
+use Rattle.command_line.specs.declared.job.Command.{Command}
+use Rattle.command_line.specs.declared.job.Command.TheVariants as command
 use Rattle.command_line.specs.declared.job.Job.{Job}
 use Rattle.command_line.specs.declared.job.Question.{Question}
 use Rattle.command_line.specs.declared.job.Task.{Task}
@@ -19,22 +21,33 @@ pub record IsQuestion (rows : List Row) (question : Question) : Type 0 where
 abbrev pub LacksQuestion : List Row → Type 0
 LacksQuestion rows = (question : Question) → ¬ IsQuestion rows question
 
--- the command, and its own words
+-- the command that asks, and its own words
 abbrev pub IsTask : Text → List Row → Task → Type 0
 IsTask name rows (task.Direct question) = (name ≡ codes "direct") × IsQuestion rows question
 IsTask name rows (task.Scan question) = (name ≡ codes "scan") × IsQuestion rows question
-IsTask name rows (task.Ask question on legs) =
+IsTask name rows (task.Ask question on legs store) =
     (name ≡ codes "ask") × IsQuestion rows question × (option_map (λ text. text.now) on ≡ first_of (codes "on") rows)
-    × (IsTrue legs ↔ HasFlag rows (codes "legs"))
+    × (IsTrue legs ↔ HasFlag rows (codes "legs")) × HasText rows (codes "store") store.now
 
 -- no task has this name and these rows
 abbrev pub NamesNoTask : Text → List Row → Type 0
 NamesNoTask name rows = (task : Task) → ¬ IsTask name rows task
 
+-- the command, and its own words
+abbrev pub IsCommand : Text → List Row → Command → Type 0
+IsCommand name rows (command.Answer task) = IsTask name rows task
+IsCommand name rows (command.Build store progress) =
+    (name ≡ codes "build") × HasText rows (codes "store") store.now × (IsTrue progress ↔ HasFlag rows (codes "progress"))
+IsCommand name rows (command.List store) = (name ≡ codes "list") × HasText rows (codes "store") store.now
+
+-- no command has this name and these rows
+abbrev pub NamesNoCommand : Text → List Row → Type 0
+NamesNoCommand name rows = (command : Command) → ¬ IsCommand name rows command
+
 -- a command's name and rows give this job
 pub record IsJobOf (name : Text) (rows : List Row) (job : Job) : Type 0 where
   pub settings : HasSettings rows job.settings
-  pub task : IsTask name rows job.task
+  pub command : IsCommand name rows job.command
 
 abbrev pub IsJob : Option (Text × List Row) → Job → Type 0
 IsJob None job = ⊥

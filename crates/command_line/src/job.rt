@@ -1,7 +1,7 @@
 //! What the program is asked to do.
 
-ghost use Rattle.std.specs.Prelude.{◌≡◌};
-ghost use Rattle.command_line.specs.Tasks.{question_of, day_of};
+ghost use Rattle.std.specs.Prelude.{◌≡◌, option_map};
+ghost use Rattle.command_line.specs.Tasks.{question_of, day_from, store_of};
 
 use program_inputs::Settings;
 
@@ -16,20 +16,22 @@ pub struct Question<'a> {
     pub at: &'a str,
 }
 
-/// A command, with the words that are its own.
+/// What is to be answered, with the words that are its own.
 #[derive(Clone, Copy, Debug, PartialEq, Eq)]
 pub enum Task<'a> {
     /// The least arrival of one ride.
     Direct(Question<'a>),
     /// The best arrivals, by how many rides they take.
     Scan(Question<'a>),
-    /// The best journeys, from the pattern trees of the stops to leave from.
+    /// The best journeys, from the stored pattern trees of the stops to leave from.
     Ask {
         question: Question<'a>,
         /// The date to leave on, as it is written: the first covered day where there is none.
         on: Option<&'a str>,
         /// Whether the rides and walks of each journey are told.
         legs: bool,
+        /// The file of the store.
+        store: &'a str,
     },
 }
 
@@ -43,23 +45,54 @@ impl<'a> Task<'a> {
             Task::Ask { question, .. } => *question,
         }
     }
+
+    /// The date to leave on, as it is written, where the first covered day is `first`.
+    pub fn day(&self, first: &'a str) -> &'a str
+        ensures { result.now ≡ day_from first.now self.now }
+    {
+        match self {
+            Task::Ask { on: Some(day), .. } => day,
+            _ => first,
+        }
+    }
+}
+
+/// A command, with the words that are its own.
+#[derive(Clone, Copy, Debug, PartialEq, Eq)]
+pub enum Command<'a> {
+    /// Answers a question.
+    Answer(Task<'a>),
+    /// Stores the pattern trees of all stops that the store lacks.
+    Build {
+        /// The file of the store.
+        store: &'a str,
+        /// Whether it is told how far the build is, also where standard error is no terminal.
+        progress: bool,
+    },
+    /// Lists the stops whose pattern trees are stored.
+    List {
+        /// The file of the store.
+        store: &'a str,
+    },
 }
 
 /// The words of the program, read.
 #[derive(Clone, Copy, Debug, PartialEq, Eq)]
 pub struct Job<'a> {
     pub settings: Settings<'a>,
-    pub task: Task<'a>,
+    pub command: Command<'a>,
 }
 
 impl<'a> Job<'a> {
-    /// The date to leave on, as it is written.
-    pub fn day(&self) -> &'a str
-        ensures { result.now ≡ day_of self.now }
+    /// The file of the store, where the command has one.
+    pub fn store(&self) -> Option<&'a str>
+        ensures { option_map (λ path. path.now) result ≡ store_of self.now }
     {
-        match self.task {
-            Task::Ask { on: Some(day), .. } => day,
-            _ => self.settings.date,
+        match self.command {
+            Command::Answer(Task::Ask { store, .. })
+            | Command::Build { store, .. }
+            | Command::List { store } => Some(store),
+            Command::Answer(_) => None,
         }
     }
 }

@@ -4,7 +4,7 @@ ghost use Rattle.std.specs.Prelude.{◌≡◌, codes, false, IfOk, IfErr, IsOkAn
 ghost use Rattle.clap.specs.Words.{app_of, kind_of, subcommand_of, subcommand_rows_of, fault_of, with_subcommand, FailsBy};
 ghost use Rattle.clap.specs.declared.error.kind.ErrorKind.TheVariants.{OutOfMemory};
 ghost use Rattle.clap.specs.declared.builder.command.Command.TheViews.{out-Command as fields_of};
-ghost use Rattle.command_line.specs.CommandLine.{ask_app, journey_app, program_app};
+ghost use Rattle.command_line.specs.CommandLine.{ask_app, build_app, journey_app, list_app, program_app, store_app};
 
 use clap::{ArgMatches, Command, Error};
 use program_inputs::{common, flag, optional, required};
@@ -34,13 +34,20 @@ the row, where row 0 is the header or the whole file:
   S3 ZoneJump          by --zone a day lasts less than 1 or more than 172,800 seconds
   A1 BadDate           --date and --on are days of the calendar, as 20240102
   A2 BadTime           --at is a time up to 167:59:59, as 08:00:00
+  Z1 NotAStore         FILE is no store of this program: name another, or delete it
+  Z2 OtherTimetable    FILE was built from another feed, --date, --days, --zone or --default-walk
+  Z3 OtherRides        FILE was built with another --rides
+  Z4 Damaged           FILE is damaged from that section on: delete it and build again
+  Z5 Device            FILE can't be made, read or written, or another process has it open
+  P3 Device            FILE can't be written any more: what was stored before stands
   Q1 UnknownStop       stops.txt has no stop with that stop_id; a station is a stop for ask alone
   Q2 NotCovered        the time isn't within the covered days
-  N1 TooLarge          a stop has too many patterns: ask with fewer --days or --rides, or scan
+  Q3 NotStored         FILE lacks the tree of the stop: build with the same options first
 
-Statuses: 0 done, 1 the feed or its days are at fault, 2 the command-line arguments are, 3 a tree
-would be too large, 6 the question is at fault (an unknown stop, a day that isn't covered), 7 out
-of memory, 8 standard output refused a write.";
+Statuses: 0 done, 1 the feed or its days are at fault, 2 the command-line arguments are, 3 the build
+left out stops whose trees would be too large, 4 the store is at fault, 6 the question is (an unknown
+stop, a day that isn't covered, a stop whose tree isn't stored), 7 out of memory, 8 standard output
+refused a write.";
 
 const DIRECT: &str = "The least arrival of one ride from a stop to a stop, without walks";
 
@@ -56,14 +63,30 @@ For each number of rides that arrives earlier than all with fewer there is a lin
 
 Example: tp scan --feed demo/feed-m --date 20240102 --from A --to D --at 08:00:00";
 
+const BUILD: &str = "Builds the pattern trees of all stops that the store lacks, and stores each";
+
+const BUILD_MORE: &str = "\
+It may be stopped at any moment, as by Ctrl-C: what was stored stands, and the same command goes on.
+It prints `stored N of M`, and `missing ID` for each stop whose tree would be too large; the status
+is 3 then. While it builds, it tells on standard error how far it is, where that is a terminal.
+
+Example: tp build --feed demo/feed-m --date 20240102 --store feed-m.store";
+
+const LIST: &str = "The stops whose trees are stored, in the order in which they were";
+
+const LIST_MORE: &str = "\
+The ids, one a line.
+
+Example: tp list --feed demo/feed-m --date 20240102 --store feed-m.store";
+
 const ASK: &str = "The best journeys between stops or stations by walks and at most K rides";
 
 const ASK_MORE: &str = "\
 For each number of rides that arrives earlier than all with fewer there is a line. The answer
-comes from the patterns of the best journeys of each stop, which are built first, in memory; that
-takes long on a large feed.
+comes from the store, which has the patterns of the best journeys of each stop: build it first, with
+the same options.
 
-Example: tp ask --feed demo/feed-m --date 20240102 --from A --to E --at 08:00:00 --legs";
+Example: tp ask --feed demo/feed-m --date 20240102 --store feed-m.store --from A --to E --at 08:00:00";
 
 const FROM: &str = "The id of the stop to leave from, for ask also of a station";
 
@@ -74,6 +97,11 @@ const AT: &str = "The time of the day to leave at; hours up to 167";
 const ON: &str = "The covered day to leave on, where it isn't the first";
 
 const LEGS: &str = "Print the rides and walks of each journey below its line";
+
+const STORE: &str = "The file of the stored trees, which is made where it isn't there";
+
+const PROGRESS: &str =
+    "Tell on standard error how far the build is, also where that is no terminal";
 
 // A command that goes from one stop to another, at a time, and more to be told below its options.
 fn journey<'a>(
@@ -93,6 +121,31 @@ fn journey<'a>(
     Ok(command.after_help(more))
 }
 
+// A command over the file of a store, and more to be told below its options.
+fn store<'a>(
+    alloc: Global,
+    name: &'a str,
+    about: &'a str,
+    more: &'a str,
+) -> Result<Command<'a>, Error>
+    ensures shape { IfOk result (λ c. app_of c ≡ store_app name.entry.now) }
+    ensures local { IfOk result (λ c. (fields_of c).has_globals ≡ false) }
+    ensures err { IfErr result (λ e. kind_of e ≡ OutOfMemory) }
+{
+    let command = common(alloc, name, about)?.arg(required(alloc, "store", "FILE", STORE))?;
+    Ok(command.after_help(more))
+}
+
+// The command that stores pattern trees.
+fn build<'a>(alloc: Global) -> Result<Command<'a>, Error>
+    ensures shape { IfOk result (λ c. app_of c ≡ build_app) }
+    ensures local { IfOk result (λ c. (fields_of c).has_globals ≡ false) }
+    ensures err { IfErr result (λ e. kind_of e ≡ OutOfMemory) }
+{
+    let command = store(alloc, "build", BUILD, BUILD_MORE)?.arg(flag(alloc, "progress", PROGRESS))?;
+    Ok(command)
+}
+
 // The command that answers from pattern trees.
 fn ask<'a>(alloc: Global) -> Result<Command<'a>, Error>
     ensures shape { IfOk result (λ c. app_of c ≡ ask_app) }
@@ -100,6 +153,7 @@ fn ask<'a>(alloc: Global) -> Result<Command<'a>, Error>
     ensures err { IfErr result (λ e. kind_of e ≡ OutOfMemory) }
 {
     let command = journey(alloc, "ask", ASK, ASK_MORE)?
+        .arg(required(alloc, "store", "FILE", STORE))?
         .arg(optional(alloc, "on", "YYYYMMDD", ON))?
         .arg(flag(alloc, "legs", LEGS))?;
     Ok(command)
@@ -130,6 +184,8 @@ fn program<'a>(alloc: Global) -> Result<Command<'a>, Error>
         .subcommand_required(true);
     let program = with_command(program, journey(alloc, "direct", DIRECT, DIRECT_MORE))?;
     let program = with_command(program, journey(alloc, "scan", SCAN, SCAN_MORE))?;
+    let program = with_command(program, build(alloc))?;
+    let program = with_command(program, store(alloc, "list", LIST, LIST_MORE))?;
     let program = with_command(program, ask(alloc))?;
     Ok(program)
 }

@@ -4,9 +4,9 @@ ghost use Rattle.std.specs.Prelude.{◌≡◌, IfOk, IfErr, IfSome, IfNone, OnOk
 ghost use Rattle.clap.specs.Words.{subcommand_rows_of, subcommand_of, rows_of, found_of, fault_of};
 ghost use Rattle.program_inputs.specs.Statuses.{IsStatus};
 ghost use Rattle.command_line.specs.CommandLine.{program_app};
-ghost use Rattle.command_line.specs.Jobs.{IsJob, IsJobOf, IsQuestion, IsTask, LacksQuestion, NamesNoJob, NamesNoJobOf, NamesNoTask};
+ghost use Rattle.command_line.specs.Jobs.{IsCommand, IsJob, IsJobOf, IsQuestion, IsTask, LacksQuestion, NamesNoCommand, NamesNoJob, NamesNoJobOf, NamesNoTask};
 
-use crate::job::{Job, Question, Task};
+use crate::job::{Command, Job, Question, Task};
 use crate::program::matches_of;
 use clap::ArgMatches;
 use program_inputs::{flag_of, refuse, settings_of, text_of};
@@ -24,7 +24,7 @@ fn question_of<'a>(found: &ArgMatches<'a>) -> Option<Question<'a>>
     Some(Question { from, to, at })
 }
 
-// The task of a command's name and words: none where it is no command's, or a word isn't there.
+// The task of a command's name and words: none where it is no such command's, or a word isn't there.
 fn task_of<'a>(name: &str, found: &ArgMatches<'a>) -> Option<Task<'a>>
     ensures task { IfSome result (IsTask name.now (rows_of (found_of found.now))) }
     ensures none { IfNone result (NamesNoTask name.now (rows_of (found_of found.now))) }
@@ -37,8 +37,26 @@ fn task_of<'a>(name: &str, found: &ArgMatches<'a>) -> Option<Task<'a>>
             question,
             on: text_of(found, "on"),
             legs: flag_of(found, "legs"),
+            store: text_of(found, "store")?,
         }),
         _ => None,
+    }
+}
+
+// The command of a name and words: none where there is no such command, or a word isn't there.
+fn command_of<'a>(name: &str, found: &ArgMatches<'a>) -> Option<Command<'a>>
+    ensures command { IfSome result (IsCommand name.now (rows_of (found_of found.now))) }
+    ensures none { IfNone result (NamesNoCommand name.now (rows_of (found_of found.now))) }
+{
+    match name {
+        "build" => Some(Command::Build {
+            store: text_of(found, "store")?,
+            progress: flag_of(found, "progress"),
+        }),
+        "list" => Some(Command::List {
+            store: text_of(found, "store")?,
+        }),
+        _ => Some(Command::Answer(task_of(name, found)?)),
     }
 }
 
@@ -47,8 +65,8 @@ fn command_job<'a>(name: &str, found: &ArgMatches<'a>) -> Option<Job<'a>>
     ensures none { IfNone result (NamesNoJobOf name.now (rows_of (found_of found.now))) }
 {
     let settings = settings_of(found)?;
-    let task = task_of(name, found)?;
-    Some(Job { settings, task })
+    let command = command_of(name, found)?;
+    Some(Job { settings, command })
 }
 
 // The job of the command that was met: none where there is none, or a word isn't there.

@@ -1,3 +1,6 @@
-pub mod Feeds
-pub mod Runs
 pub mod Words
+pub mod Errands
+pub mod Feeds
+pub mod Prints
+pub mod Runs
+pub mod Programs

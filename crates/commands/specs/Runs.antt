@@ -1,34 +1,113 @@
--- What a run of the program over a feed leaves.
-use Rattle.std.specs.Prelude.{◌≡◌, ◌⊎◌, ℕ, List, [], ◌∷◌, ◌++◌, Option}
-use Rattle.std.specs.Io.KnownBytes.{Appends, Keeps}
+-- What a run of the program over a feed and the disk of a store leaves.
+use Rattle.std.specs.Prelude.{◌≡◌, ◌↔◌, ◌⊎◌, ℕ, List, Option, None, Some, Result, Ok, Err, Bool, false}
+use Rattle.disk_model.specs.Disk.{State}
+use Rattle.disk_model.specs.declared.fault.FileFault.{FileFault}
+use Rattle.disk_model.specs.declared.fault.FileFault.TheVariants as files
 use Rattle.gtfs_tables.specs.Feed.{Feed}
-use Rattle.commands.specs.Feeds.{IsFeedAnswer, IsFeedFault}
-use Rattle.answer_lines.specs.Printed.{answer_text}
-use Rattle.program_inputs.specs.Faults.{status_of}
-use Rattle.answer_lines.specs.declared.answer.Answer.{Answer}
-use Rattle.program_inputs.specs.declared.fault.Fault.{Fault}
+use Rattle.recovery.specs.declared.fault.RecoverFault.TheVariants.{Device}
+use Rattle.command_line.specs.declared.job.Command.{Command}
+use Rattle.command_line.specs.declared.job.Command.TheVariants as commands
 use Rattle.command_line.specs.declared.job.Job.{Job}
+use Rattle.command_line.specs.declared.job.Question.{Question}
+use Rattle.command_line.specs.declared.job.Task.{Task}
+use Rattle.command_line.specs.declared.job.Task.TheVariants as tasks
+use Rattle.program_inputs.specs.declared.fault.Fault.{Fault}
+use Rattle.program_inputs.specs.declared.fault.Fault.TheVariants as faults
+use Rattle.program_inputs.specs.declared.settings.Settings.{Settings}
+use Rattle.feed_basis.specs.Basis.{BasisData}
+use Rattle.feed_basis.specs.Ids.{stop_alone}
+use Rattle.answer_lines.specs.declared.answer.Answer.{Answer}
+use Rattle.answering.specs.Answers.{ArePoints, IsAnswered, IsDirect}
+use Rattle.answering.specs.Refusals.{IsUnanswered, NoneMissing}
+use Rattle.store_answers.specs.Asked.{IsStoredAnswer, IsStoredRefusal}
+use Rattle.store_answers.specs.Builds.{IsBuilt, IsUnbuilt}
+use Rattle.store_answers.specs.Listings.{IsListed, IsUnlisted}
+use Rattle.commands.specs.Feeds.{IsGround, IsGroundFault, LeavesAt}
+use Rattle.commands.specs.Prints.{AreAnswerLines, AreReportLines, IsFaulted, IsPrint}
 
--- the answer stands on standard output, as lines
-pub record IsPrinted (feed : Feed) (job : Job) (old new : Option (List ℕ)) (status : ℕ) : Type 0 where
-  pub answer : Answer
-  pub right : IsFeedAnswer feed job answer
-  pub done : status ≡ 0
-  pub printed : Appends old new (answer_text answer ++ 10 ∷ [])
+-- a run: standard output before it and after it, and its status
+pub record Run : Type 0 where
+  pub before : Option (List ℕ)
+  pub after : Option (List ℕ)
+  pub status : ℕ
 
--- there is an answer, but standard output refused a write
-pub record IsUnwritten (feed : Feed) (job : Job) (status : ℕ) : Type 0 where
-  pub answer : Answer
-  pub right : IsFeedAnswer feed job answer
-  pub refused : status ≡ 8
+abbrev pub run_of : Option (List ℕ) → Option (List ℕ) → ℕ → Run
+run_of before after status = record { before = before; after = after; status = status }
 
--- there is a fault, and nothing was written on standard output
-pub record IsFaulted (feed : Feed) (job : Job) (old new : Option (List ℕ)) (status : ℕ) : Type 0 where
-  pub fault : Fault
-  pub right : IsFeedFault feed job fault
-  pub said : status ≡ status_of fault
-  pub nothing : Keeps old new
+-- the run printed such lines, or told such a fault
+abbrev pub Prints : (List ℕ → ℕ → Type 0) → (Fault → Type 0) → Run → Type 0
+Prints Lines Faults run = IsPrint Lines Faults run.before run.after run.status
 
--- what a run leaves on standard output, and its status
-abbrev pub IsRun : Feed → Job → Option (List ℕ) → Option (List ℕ) → ℕ → Type 0
-IsRun feed job old new status = IsPrinted feed job old new status ⊎ (IsUnwritten feed job status ⊎ IsFaulted feed job old new status)
+-- the run told such a fault, and printed nothing
+abbrev pub Tells : (Fault → Type 0) → Run → Type 0
+Tells Faults run = IsFaulted Faults run.before run.after run.status
+
+-- why the file of a store can't be opened: another process has it, or the system refused
+abbrev pub of_file : FileFault → Fault
+of_file files.InUse = faults.StoreInUse
+of_file files.Failed = faults.Store Device
+
+-- How a run opens the file of a store: what that may give for a path, whether calls of the disk can be believed, and its states.
+pub record Opening (D : Type 0) : Type 1 where
+  pub opens : List ℕ → Result D FileFault → Type 0
+  pub honest : D → Type 0
+  pub state : D → State
+
+abbrev pub opening_of : {D : Type 0} → (List ℕ → Result D FileFault → Type 0) → (D → Type 0) → (D → State) → Opening D
+opening_of opens honest state = record { opens = opens; honest = honest; state = state }
+
+-- the file wasn't opened, which the run told
+pub record IsRefusedFile {D : Type 0} (o : Opening D) (path : List ℕ) (run : Run) (disk : Option D) : Type 0 where
+  pub fault : FileFault
+  pub opened : o.opens path (Err fault)
+  pub none : disk ≡ None
+  pub told : Tells (λ f. f ≡ of_file fault) run
+
+-- the file was opened, and the run used its disk
+pub record IsOverDisk {D : Type 0} (o : Opening D) (path : List ℕ) (Uses : State → State → Run → Type 0) (run : Run) (disk : Option D) : Type 0 where
+  pub first : D
+  pub last : D
+  pub opened : o.opens path (Ok first)
+  pub given_back : disk ≡ Some last
+  pub honest : o.honest first ↔ o.honest last
+  pub uses : o.honest first → Uses (o.state first) (o.state last) run
+
+-- a run over the file of that path
+abbrev pub IsOverStore : {D : Type 0} → Opening D → List ℕ → (State → State → Run → Type 0) → Run → Option D → Type 0
+IsOverStore o path Uses run disk = IsRefusedFile o path run disk ⊎ IsOverDisk o path Uses run disk
+
+-- a question between stops, without a store
+abbrev pub IsStopRun : BasisData → Option ℕ → Question → (List ℕ → List ℕ → ℕ → Answer → Type 0) → Run → Type 0
+IsStopRun basis moment question Right run =
+    Prints (AreAnswerLines (IsAnswered (stop_alone basis.names) Right basis.timetable moment question))
+    (IsUnanswered (stop_alone basis.names) NoneMissing basis.timetable moment question) run
+
+-- a question between places, over a store
+abbrev pub IsAskRun : BasisData → ℕ → Option ℕ → Question → Bool → State → State → Run → Type 0
+IsAskRun basis k moment question legs old new run =
+    Prints (AreAnswerLines (IsStoredAnswer basis k moment question legs old new)) (IsStoredRefusal basis k moment question old new) run
+
+-- a question, over the timetable, at the moment of its words
+abbrev pub IsTaskRun : {D : Type 0} → Opening D → BasisData → ℕ → Option ℕ → Task → Run → Option D → Type 0
+IsTaskRun o basis k moment (tasks.Direct question) run disk = IsStopRun basis moment question (IsDirect basis) run × (disk ≡ None)
+IsTaskRun o basis k moment (tasks.Scan question) run disk = IsStopRun basis moment question (ArePoints basis k false) run × (disk ≡ None)
+IsTaskRun o basis k moment (tasks.Ask question on legs store) run disk =
+    IsOverStore o store.now (IsAskRun basis k moment question legs) run disk
+
+-- a command, over the timetable
+abbrev pub IsCommandRun : {D : Type 0} → Opening D → Settings → BasisData → Command → Run → Option D → Type 0
+IsCommandRun o settings basis (commands.Answer task) run disk =
+    (moment : Option ℕ) × LeavesAt settings task basis moment × IsTaskRun o basis settings.rides moment task run disk
+IsCommandRun o settings basis (commands.Build store progress) run disk =
+    IsOverStore o store.now
+    (λ old new. Prints (AreReportLines (IsBuilt basis settings.rides old new)) (IsUnbuilt basis settings.rides old new)) run disk
+IsCommandRun o settings basis (commands.List store) run disk =
+    IsOverStore o store.now
+    (λ old new. Prints (AreReportLines (IsListed basis settings.rides old new)) (IsUnlisted basis settings.rides old new)) run disk
+
+-- What a run leaves, in the order in which faults are looked for: the words, the feed and its days; then the store, and then the question.
+-- The store is opened only where the feed and its days are without fault.
+abbrev pub IsRun : {D : Type 0} → Opening D → Feed → Job → Run → Option D → Type 0
+IsRun o feed job run disk =
+    (Tells (IsGroundFault feed job) run × (disk ≡ None))
+    ⊎ ((basis : BasisData) × IsGround feed job.settings basis × IsCommandRun o job.settings basis job.command run disk)

@@ -1,31 +1,44 @@
--- The dates and the time of a job's words.
-use Rattle.std.specs.Prelude.{◌≡◌, ◌⊎◌, ℕ, Some, None}
+-- The days and the time of a job's words.
+use Rattle.std.specs.Prelude.{◌≡◌, ◌⊎◌, ℕ, List, Some, None}
 use Rattle.jiff.specs.Types.{Date}
 use Rattle.gtfs_text.specs.Values.{date_of, time_of, ymd}
-use Rattle.command_line.specs.Tasks.{question_of, day_of}
+use Rattle.command_line.specs.Tasks.{question_of, day_from}
+use Rattle.command_line.specs.declared.job.Command.{Command}
+use Rattle.command_line.specs.declared.job.Command.TheVariants as commands
 use Rattle.command_line.specs.declared.job.Job.{Job}
+use Rattle.command_line.specs.declared.job.Task.{Task}
 use Rattle.program_inputs.specs.declared.fault.Fault.{Fault}
 use Rattle.program_inputs.specs.declared.fault.Fault.TheVariants as faults
 
--- the job's words are that first covered date, that date to leave on, and that time
-pub record AreDateTime (job : Job) (first day : Date) (seconds : ℕ) : Type 0 where
-  pub first_is : date_of job.settings.date.now ≡ Some (ymd first)
-  pub day_is : date_of (day_of job) ≡ Some (ymd day)
-  pub time : time_of (question_of job.task).at.now ≡ Some seconds
+-- the text is that date
+abbrev pub IsDate : List ℕ → Date → Type 0
+IsDate text date = date_of text ≡ Some (ymd date)
 
--- the words are dates and a time
-abbrev pub HasDateTime : Job → Date → Type 0
-HasDateTime job first = (day : Date) × (seconds : ℕ) × AreDateTime job first day seconds
+-- the task's words are that date to leave on and that time of it, where `first` is written for the first covered day
+pub record IsLeaving (first : List ℕ) (task : Task) (day : Date) (seconds : ℕ) : Type 0 where
+  pub day_is : IsDate (day_from first task) day
+  pub time : time_of (question_of task).at.now ≡ Some seconds
 
--- one of the two dates is none; or else the time is none
+-- the task's date is none; or else its time is none
+abbrev pub IsLeavingFault : List ℕ → Task → Fault → Type 0
+IsLeavingFault first task fault =
+    ((fault ≡ faults.BadDate) × (date_of (day_from first task) ≡ None))
+    ⊎ ((fault ≡ faults.BadTime) × ((day : Date) × IsDate (day_from first task) day) × (time_of (question_of task).at.now ≡ None))
+
+-- only a question has words of its own that may be none
+abbrev pub IsCommandFault : List ℕ → Command → Fault → Type 0
+IsCommandFault first (commands.Answer task) fault = IsLeavingFault first task fault
+IsCommandFault first (commands.Build store progress) fault = ⊥
+IsCommandFault first (commands.List store) fault = ⊥
+
+-- the first covered date is none; or else a word of the command is
 abbrev pub IsWordFault : Job → Fault → Type 0
-IsWordFault job faults.BadDate = (date_of job.settings.date.now ≡ None) ⊎ (date_of (day_of job) ≡ None)
-IsWordFault job faults.BadTime =
-    (first : Date) × (day : Date) × (date_of job.settings.date.now ≡ Some (ymd first)) × (date_of (day_of job) ≡ Some (ymd day))
-    × (time_of (question_of job.task).at.now ≡ None)
-IsWordFault job (faults.Feed f) = ⊥
-IsWordFault job (faults.Days f) = ⊥
-IsWordFault job (faults.UnknownStop id) = ⊥
-IsWordFault job faults.NotCovered = ⊥
-IsWordFault job faults.TooLarge = ⊥
-IsWordFault job faults.Memory = ⊥
+IsWordFault job fault =
+    ((fault ≡ faults.BadDate) × (date_of job.settings.date.now ≡ None))
+    ⊎ (((first : Date) × IsDate job.settings.date.now first) × IsCommandFault job.settings.date.now job.command fault)
+
+-- a question's words are a date and a time
+abbrev pub HasWords : List ℕ → Command → Type 0
+HasWords first (commands.Answer task) = (day : Date) × (seconds : ℕ) × IsLeaving first task day seconds
+HasWords first (commands.Build store progress) = Unit {0}
+HasWords first (commands.List store) = Unit {0}

@@ -1,7 +1,12 @@
-//! The commands of the journey planner's program: the lines and the status that answer what it is asked to do.
+//! The commands of the journey planner's program: the lines and the status that answer what it is asked to do, over a feed and the disk of
+//! a store.
 #![tactic(auto)]
 
-mod leaving;
+mod errand;
+mod printing;
+mod program;
 mod running;
+mod storing;
 
+pub use program::run_words;
 pub use running::run;

@@ -1,78 +1,127 @@
 //! Running a job.
 
-ghost use Rattle.std.specs.Prelude.{◌≡◌, ◌⊎◌, IfOk, IfErr};
+ghost use Rattle.std.specs.Prelude.{IfOk, IfErr};
+ghost use Rattle.std.specs.Fn.{FnOnceReturnsAt};
+ghost use Rattle.std.specs.List.{Contains};
 ghost use Rattle.gtfs_tables.specs.Feed.{Feed, AreReaders};
-ghost use Rattle.commands.specs.Feeds.{IsFeedAnswer, IsFeedFault, IsFeedRefusal};
-ghost use Rattle.commands.specs.Runs.{IsRun};
-ghost use Rattle.commands.specs.Words.{AreDateTime};
-ghost use Rattle.feed_basis.specs.Basis.{IsBasis};
+ghost use Rattle.commands.specs.Errands.{IsErrand};
+ghost use Rattle.commands.specs.Feeds.{IsGround, IsGroundFault};
+ghost use Rattle.commands.specs.Prints.{statuses};
+ghost use Rattle.commands.specs.Runs.{IsRun, IsTaskRun, opening_of, run_of};
 
-use crate::leaving::{DateTime, date_time};
-use answer_lines::Answer;
-use answering::perform;
-use command_line::Job;
+use crate::errand::{Errand, words_of};
+use crate::printing::{print_answer, tell_fault};
+use crate::storing::{run_ask, run_build, run_list};
+use answering::{direct, scan};
+use command_line::{Job, Task};
+use disk_model::{Disk, FileFault};
 use feed_basis::{Basis, basis_of};
 use gtfs_tables::Files;
-use program_inputs::{Fault, unwritten};
+use program_inputs::Fault;
 use std::alloc::Global;
 use std::hash::RandomState;
 use std::io::{Read, Write};
+use store_building::Progress;
+use timetable::Rides;
 
-// Answers a job over the feed's timetable, for one who leaves when its words say.
-fn answer_over<'a>(
+// Answers a question, for one who leaves at the moment of its words.
+fn run_task<D: Disk, S: FnOnce(&str) -> Result<D, FileFault>, W: Write, E: Write>(
     alloc: Global,
-    basis: Basis,
-    words: DateTime,
-    job: &Job<'a>,
-) -> Result<Answer, Fault<'a>>
-    requires { AreDateTime job.now words.first words.day words.seconds }
-    ensures answer { (feed : Feed) → IsBasis feed job.now.settings words.first basis → IfOk result (IsFeedAnswer feed job.now) }
-    ensures refusal { (feed : Feed) → IsBasis feed job.now.settings words.first basis → IfErr result (IsFeedRefusal feed job.now) }
+    basis: &Basis,
+    rides: Rides,
+    moment: Option<u32>,
+    task: &Task<'_>,
+    open_store: S,
+    out: &mut W,
+    err: &mut E,
+) -> (u8, Option<D>)
+    requires { S.IsAlwaysCallable open_store }
+    ensures run { IsTaskRun (opening_of (FnOnceReturnsAt S.FnOnce open_store) D.honest D.state) basis.now rides moment task.now
+        (run_of (W.contents out.old) (W.contents out.new) result.0) result.1 }
+    ensures statuses { Contains statuses result.0 }
 {
-    let moment = basis.moment(words.day, words.seconds);
-    perform(alloc, &basis, moment, job)
+    match task {
+        Task::Direct(question) => {
+            let answer = direct(alloc, basis, question, moment);
+            (print_answer(alloc, answer, out, err), None)
+        }
+        Task::Scan(question) => {
+            let answer = scan(alloc, basis, question, moment, rides);
+            (print_answer(alloc, answer, out, err), None)
+        }
+        Task::Ask {
+            question,
+            legs,
+            store,
+            ..
+        } => run_ask(
+            alloc, basis, rides, moment, question, *legs, store, open_store, out, err,
+        ),
+    }
 }
 
-// Answers a job over the feed's files.
-fn answer<'a, R: Read + Drop>(
+// What the job stands on: the timetable of the feed, and the command with its words read.
+fn ground<'a, R: Read + Drop>(
     alloc: Global,
     keys: Option<RandomState>,
     job: &Job<'a>,
     files: Files<R>,
-) -> Result<Answer, Fault<'a>>
-    ensures answer { (feed : Feed) → AreReaders R.remaining files feed → IfOk result (IsFeedAnswer feed job.now) }
-    ensures fault { (feed : Feed) → AreReaders R.remaining files feed → IfErr result (IsFeedFault feed job.now) }
+) -> Result<(Basis, Errand<'a>), Fault<'a>>
+    ensures ground { (feed : Feed) → AreReaders R.remaining files feed → IfOk result (λ ground. IsGround feed job.now.settings ground.0) }
+    ensures errand { IfOk result (λ ground. IsErrand job.now.settings.date.now job.now.command ground.1) }
+    ensures fault { (feed : Feed) → AreReaders R.remaining files feed → IfErr result (IsGroundFault feed job.now) }
 {
-    let words = date_time(job)?;
+    let words = match words_of(job) {
+        Ok(words) => words,
+        Err(fault) => return Err(fault),
+    };
     let basis = basis_of(alloc, keys, &job.settings, words.first, files)?;
-    answer_over(alloc, basis, words, job)
+    Ok((basis, words.errand))
 }
 
-/// Does the job over the feed's files: the answer goes to `out`, a fault to `err` behind `tp: `. Gives the status to end
-/// with: 0 done; 1 the feed or its days are at fault; 2 the dates or the time are; 3 the tree of a stop would be too large; 6 the
-/// question is at fault; 7 memory ran out; 8 `out` refused a write. Where there are no `keys` for the look-up of ids, that is a feed
-/// whose reader failed.
-pub fn run<R: Read + Drop, W: Write, E: Write>(
+/// Does the job over the feed's files, and over the disk of the store that it names: `open_store` opens the file of that path, and is
+/// called only where the feed and its days are without fault. The answer goes to `out`; a fault goes to `err` behind `tp: `, with a line
+/// beneath it where there is something to do about it. While a build goes on, `progress` is told how far it is.
+///
+/// Gives the status to end with, and the disk where it was opened: 0 done; 1 the feed or its days are at fault; 2 the dates or the time
+/// are; 3 a stop has no tree, since it would be too large; 4 the store is at fault, or its device; 6 the question is at fault; 7 memory ran
+/// out; 8 `out` refused a write. Where there are no `keys` for the look-up of ids, that is a feed whose reader failed.
+pub fn run<
+    R: Read + Drop,
+    D: Disk,
+    S: FnOnce(&str) -> Result<D, FileFault>,
+    P: Progress,
+    W: Write,
+    E: Write,
+>(
     alloc: Global,
     keys: Option<RandomState>,
     job: &Job<'_>,
     files: Files<R>,
+    open_store: S,
+    progress: &mut P,
     out: &mut W,
     err: &mut E,
-) -> u8
-    ensures run { (feed : Feed) → AreReaders R.remaining files feed → IsRun feed job.now (W.contents out.old) (W.contents out.new) result }
-    ensures statuses { (result ≡ 0) ⊎ ((result ≡ 1) ⊎ ((result ≡ 2) ⊎ ((result ≡ 3) ⊎ ((result ≡ 6) ⊎ ((result ≡ 7) ⊎ (result ≡ 8)))))) }
+) -> (u8, Option<D>)
+    requires { S.IsAlwaysCallable open_store }
+    ensures run { (feed : Feed) → AreReaders R.remaining files feed
+        → IsRun (opening_of (FnOnceReturnsAt S.FnOnce open_store) D.honest D.state) feed job.now
+        (run_of (W.contents out.old) (W.contents out.new) result.0) result.1 }
+    ensures statuses { Contains statuses result.0 }
 {
-    match answer(alloc, keys, job, files) {
-        Ok(answer) => {
-            if writeln!(out, "{answer}").is_err() || out.flush().is_err() {
-                return unwritten("tp", err);
-            }
-            0
+    let (basis, errand) = match ground(alloc, keys, job, files) {
+        Ok(ground) => ground,
+        Err(fault) => return (tell_fault(&fault, err), None),
+    };
+    let rides = Rides::new(job.settings.rides);
+    match errand {
+        Errand::Answer(task, leaving) => {
+            let moment = basis.moment(leaving.day, leaving.seconds);
+            run_task(alloc, &basis, rides, moment, &task, open_store, out, err)
         }
-        Err(fault) => {
-            let _ = writeln!(err, "tp: {fault}");
-            fault.status()
-        }
+        Errand::Build(path) => run_build(
+            alloc, &basis, rides, path, open_store, progress, out, err,
+        ),
+        Errand::List(path) => run_list(alloc, &basis, rides, path, open_store, out, err),
     }
 }

@@ -30,3 +30,7 @@ IsBasisFault feed settings first faults.BadTime = ⊥
 IsBasisFault feed settings first (faults.UnknownStop id) = ⊥
 IsBasisFault feed settings first faults.NotCovered = ⊥
 IsBasisFault feed settings first faults.TooLarge = ⊥
+IsBasisFault feed settings first (faults.Store f) = ⊥
+IsBasisFault feed settings first faults.StoreInUse = ⊥
+IsBasisFault feed settings first faults.PutFailed = ⊥
+IsBasisFault feed settings first (faults.NotStored id) = ⊥

@@ -1,4 +1,3 @@
 pub mod PlaceFacts
 pub mod GatherSteps
 pub mod AnswerSteps
-pub mod ForestSteps

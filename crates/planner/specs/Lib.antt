@@ -1,4 +1,3 @@
 pub mod Places
 pub mod Questions
 pub mod Gathered
-pub mod Forest

@@ -3,10 +3,8 @@
 
 mod asking;
 mod fault;
-mod forest;
 mod trees;
 
 pub use asking::ask_on;
 pub use fault::AskFault;
-pub use forest::Forest;
 pub use trees::Trees;

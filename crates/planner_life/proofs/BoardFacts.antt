@@ -6,14 +6,16 @@ use Rattle.std.specs.List.Sorted.{IsPermutation}
 use Rattle.std.proofs.lemmas.Bool.{cases_eq, false≢true}
 use Rattle.std.proofs.lemmas.Bool.Decides.{nat_tests}
 use Rattle.std.proofs.lemmas.List.{get_or-set_same, get_or-set_other}
+use Rattle.std.proofs.lemmas.List.Sorted.{Contains-permutation}
 use Rattle.std.proofs.lemmas.List.Elements.{All-cons, All-nil, Contains-append_right}
-use Rattle.pattern_tree.specs.Completeness.{IsTreeOf}
+use Rattle.timetable.specs.Journeys.{Reaches, Unbeaten}
+use Rattle.pattern_tree.specs.Completeness.{IsPathOf, IsTreeOf}
 use Rattle.pattern_tree.specs.Content.{Content, longest}
-use Rattle.pattern_tree.proofs.OrderFacts.{tree_still}
+use Rattle.pattern_tree.proofs.OrderFacts.{longest_still, tree_still}
 use Rattle.section_store.specs.Lasting.{IsExact}
 use Rattle.section_store.specs.Sections.{Form, IsNew, Stands, AreTexts}
 use Rattle.section_store.specs.Sources.{is_among}
-use Rattle.planner_life.specs.Board.{shown, IsPlaceOf, IsBoardOf, IsRight, AreRight}
+use Rattle.planner_life.specs.Board.{shown, IsPlaceOf, IsBoardOf, IsRight, AreRight, IsWhole, IsWholeAmong, AreWholeAmong}
 
 -- whether a stop is among some
 pub among_new : (s : ℕ) (list : List ℕ) → is_among s list ≡ false → IsNew s list
@@ -98,24 +100,52 @@ set_at [] i place = inr refl
 set_at (x ∷ board) zero place = inl refl
 set_at (x ∷ board) (suc i) place = set_at board i place
 
-pub right_more : (form : Form) (board : List (Option Content)) (i : ℕ) (tree : Content) → AreRight form board → IsRight form tree → AreRight form (slice_set board i (Some tree))
-right_more form board i tree are is = λ s other at. elim (cases_eq s i) [
+-- what holds of each tree there
+abbrev EachShown : (Content → Type 0) → List (Option Content) → Type 0
+EachShown P board = (s : ℕ) (tree : Content) → shown board s ≡ Some tree → P tree
+
+each_more : (P : Content → Type 0) (board : List (Option Content)) (i : ℕ) (tree : Content) → EachShown P board → P tree → EachShown P (slice_set board i (Some tree))
+each_more P board i tree are is = λ s other at. elim (cases_eq s i) [
   | inl same ↦
       let here : shown (slice_set board i (Some tree)) i ≡ Some other = subst (λ (n : ℕ). shown (slice_set board i (Some tree)) n ≡ Some other) same at in
       elim (set_at board i (Some tree)) [
-        | inl set ↦ subst (IsRight form) (some_is tree other (sym set ∙ here)) is
+        | inl set ↦ subst P (some_is tree other (sym set ∙ here)) is
         | inr kept ↦ are i other (sym kept ∙ here)
       ]
   | inr apart ↦ are s other (sym (get_or-set_other board i s (Some tree) None apart) ∙ at)
 ]
 
+each_none : (P : Content → Type 0) (board : List (Option Content)) → ((s : ℕ) → shown board s ≡ None) → EachShown P board
+each_none P board bare = λ s tree at. absurd (none_some tree (sym (bare s) ∙ at))
+
+pub right_more : (form : Form) (board : List (Option Content)) (i : ℕ) (tree : Content) → AreRight form board → IsRight form tree → AreRight form (slice_set board i (Some tree))
+right_more form = each_more (IsRight form)
+
 pub right_none : (form : Form) (board : List (Option Content)) → ((s : ℕ) → shown board s ≡ None) → AreRight form board
-right_none form board bare = λ s tree at. absurd (none_some tree (sym (bare s) ∙ at))
+right_none form = each_none (IsRight form)
+
+pub whole_more : (form : Form) (froms : List ℕ) (board : List (Option Content)) (i : ℕ) (tree : Content)
+    → AreWholeAmong form froms board → IsWholeAmong form froms tree → AreWholeAmong form froms (slice_set board i (Some tree))
+whole_more form froms = each_more (IsWholeAmong form froms)
+
+pub whole_none : (form : Form) (froms : List ℕ) (board : List (Option Content)) → ((s : ℕ) → shown board s ≡ None) → AreWholeAmong form froms board
+whole_none form froms = each_none (IsWholeAmong form froms)
 
 -- the patterns of a tree, in another order
 pub right_still : (form : Form) (tree patterns : Content) → patterns.source ≡ tree.source → IsPermutation tree.pairs patterns.pairs → IsRight form tree → IsRight form patterns
 right_still form tree patterns source same is =
     subst (λ (n : ℕ). IsTreeOf form.table form.rides n patterns) (sym source) (tree_still form.table form.rides tree.source tree patterns source same is)
+
+pub whole_still : (form : Form) (froms : List ℕ) (tree patterns : Content) → patterns.source ≡ tree.source → IsPermutation tree.pairs patterns.pairs
+    → IsWholeAmong form froms tree → IsWholeAmong form froms patterns
+whole_still form froms tree patterns source same is = λ among.
+    let was = is (subst (Contains froms) source among) in
+    record {
+      complete = λ d t n un.
+          let c = was.complete d t n (subst (λ (s : ℕ). Unbeaten (Reaches form.table 1 form.rides s t d) n) source un) in
+          (c.0, subst (λ (s : ℕ). IsPathOf form.table s t d n c.0) (sym source) c.1, Contains-permutation tree.pairs patterns.pairs (c.0, t) same c.2);
+      short = longest_still tree.pairs patterns.pairs form.rides same was.short;
+    }
 
 -- trees that a file has are no deeper than their form says
 texts_short : (form : Form) (texts : List (List ℕ)) (trees : List Content) → AreTexts form texts trees → All (λ (tree : Content). longest tree.pairs ≤ form.rides) trees
@@ -137,3 +167,6 @@ right_all form bytes trees stands exact = λ k d below. record {
   earned = (exact k d below).earned;
   short = stands_short form bytes trees stands k d below;
 }
+
+pub whole_all : (form : Form) (bytes : List ℕ) (trees : List Content) → Stands form bytes trees → All (IsExact form) trees → All (IsWhole form) trees
+whole_all form bytes trees stands exact = λ k d below. record { complete = (exact k d below).complete; short = stands_short form bytes trees stands k d below }

@@ -1,3 +1,4 @@
 mod BoardFacts
+mod DeskFacts
+mod Putting
 mod Replying
-mod Going

@@ -1,8 +1,11 @@
--- The trees on a board. Only private clauses cite these words.
-use Rattle.std.specs.Prelude.{◌≡◌, ◌<◌, ℕ, Option, Some, None, List, slice_index_or, is_some}
-use Rattle.pattern_tree.specs.Content.{Content}
-use Rattle.pattern_tree.specs.Completeness.{IsTreeOf}
-use Rattle.section_store.specs.Sections.{Form}
+-- The trees that a desk shows.
+use Rattle.std.specs.Prelude.{◌≡◌, ◌<◌, ◌≤◌, ◌↔◌, ℕ, Option, Some, None, List, length, slice_index_or, is_some}
+use Rattle.std.specs.List.{All, Contains}
+use Rattle.timetable.specs.Table.{stops_of}
+use Rattle.pattern_tree.specs.Content.{Content, longest}
+use Rattle.pattern_tree.specs.Completeness.{Complete, IsTreeOf}
+use Rattle.planner.specs.Questions.{IsStored}
+use Rattle.section_store.specs.Sections.{Form, IsNew}
 use Rattle.section_store.specs.Sources.{is_among}
 
 -- the tree of the stop, where it is there
@@ -18,6 +21,18 @@ pub record IsPlaceOf (list : List ℕ) (s : ℕ) (place : Option Content) : Type
 abbrev pub IsBoardOf : ℕ → List ℕ → List (Option Content) → Type 0
 IsBoardOf stops list board = (s : ℕ) → s < stops → IsPlaceOf list s (shown board s)
 
+-- the board of the trees of these sources, all of them stops of the timetable that the tools are for
+pub record IsDesk (tools form : Form) (list : List ℕ) (board : List (Option Content)) : Type 0 where
+  pub same : tools ≡ form
+  pub long : length board ≡ stops_of form.table
+  pub shows : IsBoardOf (stops_of form.table) list board
+  pub known : All (λ s. s < stops_of form.table) list
+
+-- of each stop of the timetable, the board has its tree exactly where the list has the stop
+pub record ShowsList (stops : ℕ) (list : List ℕ) (board : List (Option Content)) : Type 0 where
+  pub held : (s : ℕ) → s < stops → IsStored (shown board) s ↔ Contains list s
+  pub missing : (s : ℕ) → s < stops → (shown board s ≡ None) ↔ IsNew s list
+
 -- the tree has the patterns of all best journeys from its source, and no others
 abbrev pub IsRight : Form → Content → Type 0
 IsRight form tree = IsTreeOf form.table form.rides tree.source tree
@@ -25,3 +40,16 @@ IsRight form tree = IsTreeOf form.table form.rides tree.source tree
 -- so does each tree there
 abbrev pub AreRight : Form → List (Option Content) → Type 0
 AreRight form board = (s : ℕ) (tree : Content) → shown board s ≡ Some tree → IsRight form tree
+
+-- the tree has the patterns of all best journeys from its source, maybe others too, and no path has more rides than the form says
+pub record IsWhole (form : Form) (tree : Content) : Type 0 where
+  pub complete : Complete form.table form.rides tree.source tree.pairs
+  pub short : longest tree.pairs ≤ form.rides
+
+-- so it is where it is the tree of one of these stops
+abbrev pub IsWholeAmong : Form → List ℕ → Content → Type 0
+IsWholeAmong form froms tree = Contains froms tree.source → IsWhole form tree
+
+-- so is each tree there
+abbrev pub AreWholeAmong : Form → List ℕ → List (Option Content) → Type 0
+AreWholeAmong form froms board = (s : ℕ) (tree : Content) → shown board s ≡ Some tree → IsWholeAmong form froms tree

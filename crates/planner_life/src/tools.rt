@@ -3,10 +3,12 @@
 ghost use Rattle.std.specs.Prelude.{◌≡◌, ◌↔◌, ◌<◌, ◌≤◌, Err, IsTrue, IfOk, map};
 ghost use Rattle.std.specs.Arc.{arc_value};
 ghost use Rattle.std.specs.List.{All};
+ghost use Rattle.std.specs.List.Sorted.{IsPermutation};
 ghost use Rattle.timetable.specs.Table.{stops_of};
 ghost use Rattle.pattern_tree.specs.Completeness.{TooManyAreEarned};
 ghost use Rattle.pattern_query.specs.Answer.{numbers, IsPoint, IsExact};
 ghost use Rattle.section_store.specs.Sections.{form_of};
+ghost use Rattle.planner_life.specs.Board.{IsRight};
 
 use direct_connections::Network;
 use pattern_building::finish;
@@ -76,22 +78,38 @@ impl Tools {
         self.network.timetable().covers(moment)
     }
 
-    /// The tree of a source.
-    pub fn build(&mut self, alloc: Global, source: StopId) -> Result<Finished, TreeFault>
+    /// The timetable, with its lines and direct connections.
+    pub fn network(&self) -> &Network
+        ensures { result.now ≡ self.now.table }
+    {
+        &self.network
+    }
+
+    /// The tree of a source, and its patterns.
+    pub fn build(
+        &mut self,
+        alloc: Global,
+        source: StopId,
+    ) -> Result<(Finished, Patterns), TreeFault>
         requires { source < stops_of self.old.table }
         ensures same { self.new ≡ self.old }
-        ensures source { IfOk result (λ finished. finished.tree.source ≡ source) }
-        ensures form { IfOk result (λ finished. form_of finished.table finished.rides ≡ self.old) }
+        ensures source { IfOk result (λ made. made.0.tree.source ≡ source) }
+        ensures form { IfOk result (λ made. form_of made.0.table made.0.rides ≡ self.old) }
+        ensures right { IfOk result (λ made. IsRight self.old made.0.tree) }
+        ensures patterns { IfOk result (λ made. (made.1.source ≡ made.0.tree.source)
+            × IsPermutation made.0.tree.pairs made.1.pairs) }
         ensures large { result ≡ Err TreeFault.TooLarge → TooManyAreEarned self.old.table self.old.rides source }
     {
-        finish(
+        let tree = finish(
             alloc,
             self.network.shared(),
             source,
             self.rides,
             &mut self.scratch,
             &mut self.arena,
-        )
+        )?;
+        let patterns = Patterns::of(alloc, tree.tree())?;
+        Ok((tree, patterns))
     }
 
     /// The best journeys of a tree's patterns to a stop at a covered moment. It takes no memory.

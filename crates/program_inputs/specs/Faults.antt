@@ -1,5 +1,5 @@
 -- The faults that the programs tell, and the status that each ends them with.
-use Rattle.std.specs.Prelude.{ℕ}
+use Rattle.std.specs.Prelude.{ℕ, Bool, true, false}
 use Rattle.gtfs_rows.specs.declared.fault.FaultKind.{FaultKind}
 use Rattle.gtfs_rows.specs.declared.fault.FaultKind.TheVariants as kinds
 use Rattle.gtfs_rows.specs.declared.fault.FeedFault.{FeedFault}
@@ -7,6 +7,8 @@ use Rattle.service_days.specs.declared.fault.DayFault.{DayFault}
 use Rattle.service_days.specs.declared.fault.DayFault.TheVariants as days
 use Rattle.pattern_tree.specs.declared.fault.TreeFault.{TreeFault}
 use Rattle.pattern_tree.specs.declared.fault.TreeFault.TheVariants as trees
+use Rattle.recovery.specs.declared.fault.RecoverFault.{RecoverFault}
+use Rattle.recovery.specs.declared.fault.RecoverFault.TheVariants as stores
 use Rattle.program_inputs.specs.declared.fault.Fault.{Fault}
 use Rattle.program_inputs.specs.declared.fault.Fault.TheVariants as fault
 
@@ -15,8 +17,12 @@ status_of fault.BadDate = 2
 status_of fault.BadTime = 2
 status_of (fault.Feed f) = 1
 status_of (fault.Days f) = 1
+status_of (fault.Store f) = 4
+status_of fault.StoreInUse = 4
+status_of fault.PutFailed = 4
 status_of (fault.UnknownStop id) = 6
 status_of fault.NotCovered = 6
+status_of (fault.NotStored id) = 6
 status_of fault.TooLarge = 3
 status_of fault.Memory = 7
 
@@ -47,3 +53,35 @@ of_days days.ZoneJump = fault.Days days.ZoneJump
 abbrev pub of_tree : TreeFault → Fault
 of_tree trees.TooLarge = fault.TooLarge
 of_tree trees.Memory = fault.Memory
+
+-- the fault of a store's file, but for want of memory
+abbrev pub of_store : RecoverFault → Fault
+of_store stores.Memory = fault.Memory
+of_store stores.NotAStore = fault.Store stores.NotAStore
+of_store stores.OtherTimetable = fault.Store stores.OtherTimetable
+of_store stores.OtherRides = fault.Store stores.OtherRides
+of_store (stores.Damaged number) = fault.Store (stores.Damaged number)
+of_store stores.Device = fault.Store stores.Device
+
+-- what a program tells beneath a fault is advice on stores: of their files, and of stops whose trees they lack
+abbrev pub store_has_advice : RecoverFault → Bool
+store_has_advice stores.Memory = false
+store_has_advice stores.NotAStore = true
+store_has_advice stores.OtherTimetable = true
+store_has_advice stores.OtherRides = true
+store_has_advice (stores.Damaged number) = true
+store_has_advice stores.Device = true
+
+abbrev pub has_advice : Fault → Bool
+has_advice fault.BadDate = false
+has_advice fault.BadTime = false
+has_advice (fault.Feed f) = false
+has_advice (fault.Days f) = false
+has_advice (fault.Store f) = store_has_advice f
+has_advice fault.StoreInUse = true
+has_advice fault.PutFailed = true
+has_advice (fault.UnknownStop id) = false
+has_advice fault.NotCovered = false
+has_advice (fault.NotStored id) = true
+has_advice fault.TooLarge = false
+has_advice fault.Memory = false

@@ -1,10 +1,11 @@
 //! Why a program gives no answer.
 
-ghost use Rattle.std.specs.Prelude.{◌≡◌};
-ghost use Rattle.program_inputs.specs.Faults.{status_of};
+ghost use Rattle.std.specs.Prelude.{◌≡◌, is_some};
+ghost use Rattle.program_inputs.specs.Faults.{has_advice, status_of, store_has_advice};
 
 use gtfs_tables::{FaultKind, FeedFault, FeedFile};
 use pattern_tree::TreeFault;
+use recovery::RecoverFault;
 use service_days::DayFault;
 use shown_ids::Shown;
 use std::alloc::AllocError;
@@ -17,7 +18,45 @@ pub const NO_KEYS: FeedFault = FeedFault {
     row: 0,
 };
 
-/// A fault of the words, the feed, its days or the question, shown as the programs print it: its code and name,
+const NOT_A_STORE: &str =
+    "The file is no store of this program: name another with --store, or delete it and run `tp build`.";
+
+const OTHER_TIMETABLE: &str =
+    "The store was built from another feed or with another --date, --days, --zone or --default-walk: \
+give those of the build, or run `tp build` with yours and another --store.";
+
+const OTHER_RIDES: &str =
+    "The store was built with another --rides: give that of the build, or run `tp build` with yours and another --store.";
+
+const DAMAGED: &str =
+    "The file is damaged from the section of that number on, counted from 0: delete it and run `tp build` again.";
+
+const DEVICE: &str =
+    "The file can't be made, read or written: see that its folder is there, and that you may write to it.";
+
+const IN_USE: &str = "Another process has the store open: wait until it ends.";
+
+const PUT_FAILED: &str =
+    "The file can't be written. What was stored before stands: make room and run the same command again.";
+
+const NOT_STORED: &str =
+    "The store lacks the tree of that stop: run `tp build` with the same options first.";
+
+// What to do about a fault of a store's file.
+fn store_advice(fault: &RecoverFault) -> Option<&'static str>
+    ensures { is_some result ≡ store_has_advice fault.now }
+{
+    match fault {
+        RecoverFault::NotAStore => Some(NOT_A_STORE),
+        RecoverFault::OtherTimetable => Some(OTHER_TIMETABLE),
+        RecoverFault::OtherRides => Some(OTHER_RIDES),
+        RecoverFault::Damaged(_) => Some(DAMAGED),
+        RecoverFault::Device => Some(DEVICE),
+        RecoverFault::Memory => None,
+    }
+}
+
+/// A fault of the words, the feed, its days, the store or the question, shown as the programs print it: its code and name,
 /// and an id so that it stays on its line.
 #[derive(Clone, Copy, Debug, PartialEq, Eq, Error)]
 pub enum Fault<'a> {
@@ -29,10 +68,22 @@ pub enum Fault<'a> {
     Feed(FeedFault),
     #[error("{0}")]
     Days(DayFault),
+    /// The file isn't the store of this timetable and these rides, or is damaged, or the system refused it.
+    #[error("{0}")]
+    Store(RecoverFault),
+    /// Another process holds the file of the store.
+    #[error("Z5 Device")]
+    StoreInUse,
+    /// The device failed while a tree was put into the store.
+    #[error("P3 Device")]
+    PutFailed,
     #[error("Q1 UnknownStop {}", Shown(.0))]
     UnknownStop(&'a str),
     #[error("Q2 NotCovered")]
     NotCovered,
+    /// The store lacks the tree of the stop that has this id.
+    #[error("Q3 NotStored {}", Shown(.0))]
+    NotStored(&'a str),
     #[error("N1 TooLarge")]
     TooLarge,
     #[error("Memory")]
@@ -40,8 +91,8 @@ pub enum Fault<'a> {
 }
 
 impl<'a> Fault<'a> {
-    /// The status to end with: 1 for the feed and its days, 2 for the words, 3 for a stop whose tree would be too large, 6 for the
-    /// question, 7 for want of memory.
+    /// The status to end with: 1 for the feed and its days, 2 for the words, 3 for a stop whose tree would be too large, 4 for the
+    /// store, 6 for the question, 7 for want of memory.
     pub fn status(&self) -> u8
         ensures { result ≡ status_of self.now }
     {
@@ -49,8 +100,23 @@ impl<'a> Fault<'a> {
             Fault::Feed(_) | Fault::Days(_) => 1,
             Fault::BadDate | Fault::BadTime => 2,
             Fault::TooLarge => 3,
-            Fault::UnknownStop(_) | Fault::NotCovered => 6,
+            Fault::Store(_) | Fault::StoreInUse | Fault::PutFailed => 4,
+            Fault::UnknownStop(_) | Fault::NotCovered | Fault::NotStored(_) => 6,
             Fault::Memory => 7,
+        }
+    }
+
+    /// What the fault means and what to do about it, as a line to print below it. The faults of the store have one, and that of
+    /// a stop whose tree isn't in it.
+    pub fn advice(&self) -> Option<&'static str>
+        ensures { is_some result ≡ has_advice self.now }
+    {
+        match self {
+            Fault::Store(fault) => store_advice(fault),
+            Fault::StoreInUse => Some(IN_USE),
+            Fault::PutFailed => Some(PUT_FAILED),
+            Fault::NotStored(_) => Some(NOT_STORED),
+            _ => None,
         }
     }
 }
@@ -79,6 +145,20 @@ impl<'a> From<DayFault> for Fault<'a> {
         match fault {
             DayFault::Memory => Fault::Memory,
             _ => Fault::Days(fault),
+        }
+    }
+}
+
+impl<'a> From<RecoverFault> for Fault<'a> {
+    ghost use Rattle.std.specs.Prelude.{◌≡◌};
+    ghost use Rattle.program_inputs.specs.Faults.{of_store};
+
+    ghost from_gives = { λ f e. e ≡ of_store f };
+
+    fn from(fault: RecoverFault) -> Fault<'a> {
+        match fault {
+            RecoverFault::Memory => Fault::Memory,
+            _ => Fault::Store(fault),
         }
     }
 }

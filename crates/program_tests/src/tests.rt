@@ -1,11 +1,12 @@
-use command_line::{Job, Question, Task};
-use commands::run;
+use commands::run_words;
+use disk_model::{FileFault, MemDisk};
 use gtfs_tables::Files;
-use program_inputs::{Settings, out_of_memory, unread};
+use program_inputs::{out_of_memory, unread};
 use std::hash::RandomState;
 use std::io;
 use std::io::{ErrorKind, Read, Write};
 use std::test::Fail;
+use store_building::Silent;
 
 const STOPS: &[u8] = b"stop_id\nA\nB\n";
 
@@ -21,6 +22,25 @@ T,A,1,08:00:00,08:00:00\nT,B,2,08:10:00,08:10:00\n";
 const REFUSED: &str = "tp: standard output refused a write\n";
 
 const ANSWER: &str = "rides 1 arrive 20240102 08:10:00\n";
+
+// From A to B, by at most one ride.
+const SCAN: [&str; 14] = [
+    "tp", "scan", "--feed", "feed", "--date", "20240102", "--rides", "1", "--from", "A", "--to",
+    "B", "--at", "08:00:00",
+];
+
+const ASK: [&str; 16] = [
+    "tp", "ask", "--feed", "feed", "--date", "20240102", "--rides", "1", "--from", "A", "--to",
+    "B", "--at", "08:00:00", "--store", "file",
+];
+
+const BUILD: [&str; 10] = [
+    "tp", "build", "--feed", "feed", "--date", "20240102", "--rides", "1", "--store", "file",
+];
+
+const LIST: [&str; 10] = [
+    "tp", "list", "--feed", "feed", "--date", "20240102", "--rides", "1", "--store", "file",
+];
 
 // A reader of these bytes, which fails at their end where it is a broken one.
 #[derive(Drop)]
@@ -57,22 +77,40 @@ fn feed(broken: bool) -> Files<Source> {
     }
 }
 
-// From A to B, by at most one ride.
-const JOB: Job<'static> = Job {
-    settings: Settings {
-        feed: "feed",
-        date: "20240102",
-        days: 1,
-        zone: "UTC0",
-        rides: 1,
-        default_walk: 120,
-    },
-    task: Task::Scan(Question {
-        from: "A",
-        to: "B",
-        at: "08:00:00",
-    }),
-};
+// What the program left: its status, what it printed and told, and the disk of its store.
+#[derive(Drop)]
+struct Left {
+    status: u8,
+    out: Vec<u8>,
+    err: Vec<u8>,
+    disk: Option<MemDisk>,
+}
+
+// Runs the program over the whole feed and a store on that disk.
+fn outcome_of(
+    rt: &HostRuntime,
+    words: &[&str],
+    store: Result<MemDisk, FileFault>,
+) -> Result<Left, Fail> {
+    let keys = RandomState::new(rt)?;
+    let (mut out, mut err) = (Vec::new(rt.alloc()), Vec::new(rt.alloc()));
+    let (status, disk) = run_words(
+        rt.alloc(),
+        Some(keys),
+        words,
+        |_folder| Ok(feed(false)),
+        |_path| store,
+        |_asked| Silent,
+        &mut out,
+        &mut err,
+    );
+    Ok(Left {
+        status,
+        out,
+        err,
+        disk,
+    })
+}
 
 // All bytes of the stop times can be read, and then the reader fails; or there is no seed to look ids up with: the feed is at fault,
 // and nothing is answered.
@@ -93,12 +131,25 @@ fn what_can_not_be_read_to_its_end(rt: HostRuntime) -> Result<(), Fail> {
     for (seeded, broken, status, answer, fault) in rows {
         let (mut out, mut err) = (Vec::new(rt.alloc()), Vec::new(rt.alloc()));
         let keys = if seeded { Some(keys) } else { None };
-        let told = run(rt.alloc(), keys, &JOB, feed(broken), &mut out, &mut err);
+        let (told, _disk) = run_words(
+            rt.alloc(),
+            keys,
+            &SCAN,
+            |_folder| Ok(feed(broken)),
+            no_store,
+            |_asked| Silent,
+            &mut out,
+            &mut err,
+        );
         assert_eq!(rt; std::str::from_utf8(err.as_slice())?, fault);
         assert_eq!(rt; std::str::from_utf8(out.as_slice())?, answer);
         assert_eq!(rt; told, status);
     }
     Ok(())
+}
+
+fn no_store(_path: &str) -> Result<MemDisk, FileFault> {
+    Err(FileFault::Failed)
 }
 
 // A writer that takes so many bytes and refuses the next.
@@ -129,11 +180,13 @@ fn a_writer_that_refuses_the_rest(rt: HostRuntime) -> Result<(), Fail> {
         let mut out = Narrow { room };
         let mut err = Vec::new(rt.alloc());
         let keys = RandomState::new(&rt)?;
-        let status = run(
+        let (status, _disk) = run_words(
             rt.alloc(),
             Some(keys),
-            &JOB,
-            feed(false),
+            &SCAN,
+            |_folder| Ok(feed(false)),
+            no_store,
+            |_asked| Silent,
             &mut out,
             &mut err,
         );
@@ -145,6 +198,63 @@ fn a_writer_that_refuses_the_rest(rt: HostRuntime) -> Result<(), Fail> {
         assert_eq!(rt; status, wanted, "with room for {room} bytes");
         assert_eq!(rt; std::str::from_utf8(err.as_slice())?, said);
     }
+    Ok(())
+}
+
+// A store is built, listed and asked on one disk, which goes from run to run.
+#[test]
+fn a_store_goes_from_run_to_run(rt: HostRuntime) -> Result<(), Fail> {
+    let mut disk = MemDisk::new(rt.alloc());
+    let rows: [(&[&str], u8, &str); 5] = [
+        (&LIST, 0, ""),
+        (&BUILD, 0, "stored 2 of 2\n"),
+        (&BUILD, 0, "stored 2 of 2\n"),
+        (&LIST, 0, "A\nB\n"),
+        (&ASK, 0, ANSWER),
+    ];
+    for (words, status, lines) in rows {
+        let left = outcome_of(&rt, words, Ok(disk))?;
+        assert_eq!(rt; std::str::from_utf8(left.err.as_slice())?, "");
+        assert_eq!(rt; std::str::from_utf8(left.out.as_slice())?, lines);
+        assert_eq!(rt; left.status, status);
+        disk = left.disk.ok_or("the disk is gone")?;
+    }
+    Ok(())
+}
+
+// Whichever call of the disk fails first, and all later ones with it, the status says so, and the next build goes on to the end.
+#[test]
+fn a_build_goes_on_after_each_failure(rt: HostRuntime) -> Result<(), Fail> {
+    let mut last = 0;
+    for call in 1..40 {
+        let mut disk = MemDisk::new(rt.alloc());
+        disk.stop_at(call);
+        let broken = outcome_of(&rt, &BUILD, Ok(disk))?;
+        if broken.status == 0 {
+            break;
+        }
+        last = call;
+        assert_eq!(rt; broken.status, 4);
+        assert_eq!(rt; broken.out.len(), 0);
+        let mut disk = broken.disk.ok_or("the disk is gone")?;
+        disk.fail_at(0);
+        let whole = outcome_of(&rt, &BUILD, Ok(disk))?;
+        assert_eq!(rt;
+            std::str::from_utf8(whole.out.as_slice())?,
+            "stored 2 of 2\n"
+        );
+        assert_eq!(rt; whole.status, 0);
+    }
+    assert!(rt; last > 10);
+    Ok(())
+}
+
+#[test]
+fn a_store_in_use_is_told(rt: HostRuntime) -> Result<(), Fail> {
+    let left = outcome_of(&rt, &LIST, Err(FileFault::InUse))?;
+    assert_eq!(rt; left.status, 4);
+    assert!(rt; std::str::from_utf8(left.err.as_slice())?.starts_with("tp: Z5 Device\n"));
+    assert!(rt; left.disk.is_none());
     Ok(())
 }
 

@@ -6,6 +6,9 @@ pub returns-clause-shape : goal.returns-clause-shape
 returns-clause-shape c =
     c.in_ok-command.ensures.shape c.flag.ensures.local
     ∙ ap₂ with_rule (
-    c.in_ok-arg.ensures.shape c.optional.ensures.local
-    ∙ ap₂ with_rule c.in_ok-journey.ensures.shape c.optional.ensures.rule)
+    c.in_ok-arg-2.ensures.shape c.optional.ensures.local
+    ∙ ap₂ with_rule (
+    c.in_ok-arg.ensures.shape c.required.ensures.local
+    ∙ ap₂ with_rule c.in_ok-journey.ensures.shape c.required.ensures.rule)
+    c.optional.ensures.rule)
     c.flag.ensures.rule

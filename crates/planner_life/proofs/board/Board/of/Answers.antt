@@ -4,8 +4,8 @@ use Rattle.std.proofs.lemmas.List.{length-set, map-append}
 use Rattle.std.proofs.lemmas.List.Elements.{All-pop}
 use Rattle.pattern_tree.specs.Content.{Content}
 use Rattle.section_store.specs.Sections.{sources}
-use Rattle.planner_life.specs.Board.{IsBoardOf, IsRight, AreRight}
-use Rattle.planner_life.proofs.BoardFacts.{board_none, board_more, right_none, right_more, right_still}
+use Rattle.planner_life.specs.Board.{IsBoardOf, IsRight, AreRight, IsWholeAmong, AreWholeAmong}
+use Rattle.planner_life.proofs.BoardFacts.{board_none, board_more, right_none, right_more, right_still, whole_none, whole_more, whole_still}
 use Rattle.planner_life.proofs.board.Board.of.Goals as goal
 
 nothing_left : {X : Type 0} (l : List X) → length l ≡ 0 → l ≡ []
@@ -19,6 +19,7 @@ loop-tree-init c = record {
   long = c.in_ok-board.ensures.long;
   shows = board_none c.args.stops c.in_ok-board.board c.in_ok-board.ensures.bare;
   right = λ form all. right_none form c.in_ok-board.board c.in_ok-board.ensures.bare;
+  whole = λ form froms all. whole_none form froms c.in_ok-board.board c.in_ok-board.ensures.bare;
 }
 
 pub loop-tree-preserved : goal.loop-tree-preserved
@@ -42,6 +43,11 @@ loop-tree-preserved c =
           let both = All-pop (IsRight form) (at.yielded ++ tree ∷ []) at.yielded (Some tree) refl all in
           subst (AreRight form) (sym set)
           (right_more form at.board patterns.source patterns (at.invariant.right form both.0) (right_still form tree patterns source c.in_ok-of.ensures.pairs both.1));
+      whole = λ form froms all.
+          let both = All-pop (IsWholeAmong form froms) (at.yielded ++ tree ∷ []) at.yielded (Some tree) refl all in
+          subst (AreWholeAmong form froms) (sym set)
+          (whole_more form froms at.board patterns.source patterns (at.invariant.whole form froms both.0)
+          (whole_still form froms tree patterns source c.in_ok-of.ensures.pairs both.1));
     }
 
 pub returns-clause-shows : goal.returns-clause-shows
@@ -59,3 +65,11 @@ returns-clause-right c = λ form exact.
     let empty : into_iter_items at.tree-iterator ≡ [] = nothing_left _ (sym at.invariant.count ∙ none.0) in
     let all = sym (append-nil at.yielded) ∙ rw empty at at.invariant.rest ∙ c.into_iter-tree-iterator.ensures.into_iter_gives.0 in
     at.invariant.right form (subst (All (IsRight form)) (sym all) exact)
+
+pub returns-clause-whole : goal.returns-clause-whole
+returns-clause-whole c = λ form froms whole.
+    let at = c.loop-tree in
+    let none = c.in-None.ensures.steps in
+    let empty : into_iter_items at.tree-iterator ≡ [] = nothing_left _ (sym at.invariant.count ∙ none.0) in
+    let all = sym (append-nil at.yielded) ∙ rw empty at at.invariant.rest ∙ c.into_iter-tree-iterator.ensures.into_iter_gives.0 in
+    at.invariant.whole form froms (subst (All (IsWholeAmong form froms)) (sym all) whole)

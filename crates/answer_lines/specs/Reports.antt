@@ -1,0 +1,29 @@
+-- How reports on a store are shown, and the status that each ends a program with.
+use Rattle.std.specs.Prelude.{ℕ, List, [], ◌∷◌, ◌++◌, codes}
+use Rattle.std.specs.Fmt.{decimal}
+use Rattle.std.specs.List.{flat_map}
+use Rattle.shown_ids.specs.Shown.{shown}
+use Rattle.answer_lines.specs.declared.report.Report.{Report}
+use Rattle.answer_lines.specs.declared.report.Report.TheVariants as reports
+
+-- an id on a line of its own, with this in front, and the line's end
+abbrev pub id_line : List ℕ → List ℕ → List ℕ
+id_line front id = front ++ (shown id ++ 10 ∷ [])
+
+-- how many stops of how many have their tree in the store
+abbrev pub count_line : ℕ → ℕ → List ℕ
+count_line stored of = codes "stored " ++ (decimal stored ++ (codes " of " ++ (decimal of ++ 10 ∷ [])))
+
+-- the lines of a report, each with its end
+abbrev pub report_text : Report → List ℕ
+report_text (reports.Stored ids) = flat_map (λ id. id_line [] id.now) ids.items
+report_text (reports.Built stored of missing) = count_line stored of ++ flat_map (λ id. id_line (codes "missing ") id.now) missing.items
+
+-- 3 where some stop has no tree
+abbrev pub status_by : {X : Type 0} → List X → ℕ
+status_by [] = 0
+status_by (missing ∷ others) = 3
+
+abbrev pub report_status : Report → ℕ
+report_status (reports.Stored ids) = 0
+report_status (reports.Built stored of missing) = status_by missing.items

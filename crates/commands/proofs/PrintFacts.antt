@@ -1,0 +1,41 @@
+-- What is printed of a result.
+use Rattle.std.proofs.Common.{◌≡◌, ◌++◌, [], ◌∷◌, ℕ, List, Option, Result, Ok, Err, MatchResult, IfOk, IfErr, refl, sym, subst, inl, inr}
+use Rattle.std.specs.Io.KnownBytes.{Keeps}
+use Rattle.answer_lines.specs.Printed.{answer_text}
+use Rattle.answer_lines.specs.Reports.{report_text, report_status}
+use Rattle.answer_lines.specs.declared.answer.Answer.{Answer}
+use Rattle.answer_lines.specs.declared.report.Report.{Report}
+use Rattle.program_inputs.specs.Faults.{status_of}
+use Rattle.program_inputs.specs.declared.fault.Fault.{Fault}
+use Rattle.commands.specs.Prints.{AreAnswerLines, AreReportLines, IsPrint, IsTextPrinted}
+
+pub matched : {T E : Type 0} (r : Result T E) (P : T → Type 0) (Q : E → Type 0) → IfOk r P → IfErr r Q → MatchResult r P Q
+matched (Ok x) P Q ok err = ok
+matched (Err e) P Q ok err = err
+
+module _ {X : Type 0} (text : X → List ℕ) (meant : X → ℕ) (Lines : List ℕ → ℕ → Type 0) (Right : X → Type 0) (Wrong : Fault → Type 0)
+    (old new : Option (List ℕ)) (status : ℕ) (lines : (x : X) → Right x → Lines (text x) (meant x)) where
+  printed : (r : Result X Fault) → MatchResult r Right Wrong
+      → MatchResult r (λ x. IsTextPrinted (text x) (meant x) old new status) (λ fault. (status ≡ status_of fault) × Keeps old new)
+      → IsPrint Lines Wrong old new status
+  printed (Ok x) right told = elim told [
+    | inl whole ↦ inl (record { text = text x; right = subst (λ s. Lines (text x) s) (sym whole.0) (lines x right); printed = whole.1 })
+    | inr cut ↦ inr (inl (record { text = text x; meant = meant x; right = lines x right; cut_off = cut }))
+  ]
+  printed (Err fault) wrong told = inr (inr (record { fault = fault; right = wrong; said = told.0; nothing = told.1 }))
+
+-- an answer's lines, or a fault
+pub answer_printed : (r : Result Answer Fault) (Right : Answer → Type 0) (Wrong : Fault → Type 0) (old new : Option (List ℕ)) (status : ℕ)
+    → MatchResult r Right Wrong
+    → MatchResult r (λ answer. IsTextPrinted (answer_text answer ++ 10 ∷ []) 0 old new status) (λ fault. (status ≡ status_of fault) × Keeps old new)
+    → IsPrint (AreAnswerLines Right) Wrong old new status
+answer_printed r Right Wrong old new status =
+    printed (λ answer. answer_text answer ++ 10 ∷ []) (λ answer. 0) (AreAnswerLines Right) Right Wrong old new status (λ answer right. (answer, right, refl, refl)) r
+
+-- a report's lines, or a fault
+pub report_printed : (r : Result Report Fault) (Right : Report → Type 0) (Wrong : Fault → Type 0) (old new : Option (List ℕ)) (status : ℕ)
+    → MatchResult r Right Wrong
+    → MatchResult r (λ report. IsTextPrinted (report_text report) (report_status report) old new status) (λ fault. (status ≡ status_of fault) × Keeps old new)
+    → IsPrint (AreReportLines Right) Wrong old new status
+report_printed r Right Wrong old new status =
+    printed report_text report_status (AreReportLines Right) Right Wrong old new status (λ report right. (report, right, refl, refl)) r

@@ -1,0 +1,52 @@
+-- What a command leaves, by its words as they were read.
+use Rattle.std.proofs.Common.{ℕ, List, Option, Bor, subst}
+use Rattle.service_days.specs.Answers.{IsMoment}
+use Rattle.command_line.specs.declared.job.Command.{Command}
+use Rattle.command_line.specs.declared.job.Command.TheVariants as commands
+use Rattle.command_line.specs.declared.job.Task.{Task}
+use Rattle.program_inputs.specs.declared.settings.Settings.{Settings}
+use Rattle.feed_basis.specs.Basis.{BasisData}
+use Rattle.store_answers.specs.Builds.{IsBuilt, IsUnbuilt}
+use Rattle.store_answers.specs.Listings.{IsListed, IsUnlisted}
+use Rattle.commands.specs.Errands.{IsErrand}
+use Rattle.commands.specs.Prints.{AreReportLines}
+use Rattle.commands.specs.Runs.{IsCommandRun, IsOverStore, IsTaskRun, Opening, Prints, Run}
+use Rattle.commands.specs.Words.{HasWords}
+use Rattle.commands.specs.declared.errand.Errand.{Errand}
+use Rattle.commands.specs.declared.errand.Errand.TheVariants as errands
+use Rattle.commands.specs.declared.errand.Leaving.{Leaving}
+
+pub has_words : (first : List ℕ) (command : Command) (errand : Errand) → IsErrand first command errand → HasWords first command
+has_words first (commands.Answer task) (errands.Answer asked leaving) h = (leaving.day, leaving.seconds, h.1)
+has_words first (commands.Answer task) (errands.Build path) h = absurd h
+has_words first (commands.Answer task) (errands.List path) h = absurd h
+has_words first (commands.Build store progress) errand h = tt
+has_words first (commands.List store) errand h = tt
+
+module _ {D : Type 0} (o : Opening D) (settings : Settings) (basis : BasisData) (run : Run) (disk : Option D) where
+  pub question_run : (command : Command) (task : Task) (leaving : Leaving) (moment : Option ℕ)
+      → IsErrand settings.date.now command (errands.Answer task leaving) → IsMoment basis.cover leaving.day leaving.seconds moment
+      → IsTaskRun o basis settings.rides moment task run disk → IsCommandRun o settings basis command run disk
+  question_run (commands.Answer asked) task leaving moment h is done = (
+    moment,
+    record { day = leaving.day; seconds = leaving.seconds; words = h.1; is = is },
+    subst (λ (t : Task). IsTaskRun o basis settings.rides moment t run disk) h.0 done,
+  )
+  question_run (commands.Build store progress) task leaving moment h is done = absurd h
+  question_run (commands.List store) task leaving moment h is done = absurd h
+
+  pub build_run : (command : Command) (path : Bor (List ℕ)) → IsErrand settings.date.now command (errands.Build path)
+      → IsOverStore o path.now (λ old new. Prints (AreReportLines (IsBuilt basis settings.rides old new)) (IsUnbuilt basis settings.rides old new)) run disk
+      → IsCommandRun o settings basis command run disk
+  build_run (commands.Build store progress) path h done =
+      subst (λ p. IsOverStore o p (λ old new. Prints (AreReportLines (IsBuilt basis settings.rides old new)) (IsUnbuilt basis settings.rides old new)) run disk) h done
+  build_run (commands.Answer task) path h done = absurd h
+  build_run (commands.List store) path h done = absurd h
+
+  pub list_run : (command : Command) (path : Bor (List ℕ)) → IsErrand settings.date.now command (errands.List path)
+      → IsOverStore o path.now (λ old new. Prints (AreReportLines (IsListed basis settings.rides old new)) (IsUnlisted basis settings.rides old new)) run disk
+      → IsCommandRun o settings basis command run disk
+  list_run (commands.List store) path h done =
+      subst (λ p. IsOverStore o p (λ old new. Prints (AreReportLines (IsListed basis settings.rides old new)) (IsUnlisted basis settings.rides old new)) run disk) h done
+  list_run (commands.Answer task) path h done = absurd h
+  list_run (commands.Build store progress) path h done = absurd h

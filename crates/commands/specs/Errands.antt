@@ -1,0 +1,19 @@
+-- A command whose words are read. Only private clauses cite these words.
+use Rattle.std.specs.Prelude.{◌≡◌, ℕ, List}
+use Rattle.command_line.specs.declared.job.Command.{Command}
+use Rattle.command_line.specs.declared.job.Command.TheVariants as commands
+use Rattle.commands.specs.declared.errand.Errand.{Errand}
+use Rattle.commands.specs.declared.errand.Errand.TheVariants as errands
+use Rattle.commands.specs.Words.{IsLeaving}
+
+-- it is the command, with the day and the time of its words
+abbrev pub IsErrand : List ℕ → Command → Errand → Type 0
+IsErrand first (commands.Answer task) (errands.Answer asked leaving) = (asked ≡ task) × IsLeaving first task leaving.day leaving.seconds
+IsErrand first (commands.Build store progress) (errands.Build path) = path.now ≡ store.now
+IsErrand first (commands.List store) (errands.List path) = path.now ≡ store.now
+IsErrand first (commands.Answer task) (errands.Build path) = ⊥
+IsErrand first (commands.Answer task) (errands.List path) = ⊥
+IsErrand first (commands.Build store progress) (errands.Answer asked leaving) = ⊥
+IsErrand first (commands.Build store progress) (errands.List path) = ⊥
+IsErrand first (commands.List store) (errands.Answer asked leaving) = ⊥
+IsErrand first (commands.List store) (errands.Build path) = ⊥

@@ -1,6 +1,0 @@
-//! A module for each crate.
-
-mod calls;
-mod services;
-mod tables;
-mod text;

@@ -1,0 +1,4 @@
+pub mod OpeningFacts
+pub mod AskedFacts
+pub mod MissingFacts
+pub mod BuildFacts

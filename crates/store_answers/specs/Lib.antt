@@ -1,0 +1,4 @@
+pub mod Stores
+pub mod Listings
+pub mod Builds
+pub mod Asked

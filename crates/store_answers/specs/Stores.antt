@@ -1,0 +1,28 @@
+-- What is found when a store is opened.
+use Rattle.std.specs.Prelude.{◌≡◌, ◌⊎◌, ℕ, List, [], map, slice_index_or}
+use Rattle.disk_model.specs.Disk.{State}
+use Rattle.timetable.specs.NameLists.{NameLists}
+use Rattle.section_store.specs.Sections.{Form, form_of}
+use Rattle.recovery.specs.Recovery.{StandsForNoList, IsOutside, CauseOf}
+use Rattle.recovery.specs.declared.fault.RecoverFault.{RecoverFault}
+use Rattle.planner_life.specs.Desk.{IsOpening}
+use Rattle.feed_basis.specs.Basis.{BasisData}
+use Rattle.program_inputs.specs.Faults.{of_store}
+use Rattle.program_inputs.specs.declared.fault.Fault.{Fault}
+
+-- what a store of trees over the timetable is for, with journeys of at most k rides
+abbrev pub form_over : BasisData → ℕ → Form
+form_over basis k = form_of basis.timetable k
+
+-- The store isn't opened: its bytes stand for no list, for this cause; or else a call of the disk failed, or memory ran out. Nothing
+-- of it is lost.
+pub record IsUnopened (form : Form) (old new : State) (fault : Fault) : Type 0 where
+  pub why : RecoverFault
+  pub cause : CauseOf form old.read why
+  pub no_list : IsOutside why ⊎ StandsForNoList form old.read
+  pub told : fault ≡ of_store why
+  pub opening : IsOpening form old new
+
+-- the ids of stops, in their order
+abbrev pub ids_of : NameLists → List ℕ → List (List ℕ)
+ids_of names stops = map (λ stop. slice_index_or names.stops stop []) stops

@@ -1,6 +1,0 @@
-//! A module for each crate.
-
-mod disks;
-mod files;
-mod texts;
-mod trees;

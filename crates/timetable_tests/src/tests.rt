@@ -1,5 +1,0 @@
-//! A module for each crate.
-
-mod days;
-mod samples;
-mod timetables;
