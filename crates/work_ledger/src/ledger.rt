@@ -3,7 +3,7 @@
 ghost use Rattle.std.specs.Prelude.{◌≡◌, ◌↔◌, IsTrue, IfErr, IsOk, ◌<◌, ◌≤◌, ◌++◌, ◌∷◌, [], length, All, IfOk, OnErr, OnOk, true};
 ghost use Rattle.std.specs.Arc.{arc_value};
 ghost use Rattle.timetable.specs.Table.{stops_of};
-ghost use Rattle.work_ledger.specs.Object.{Legal, MayCome, status_of};
+ghost use Rattle.work_ledger.specs.Object.{Legal, MayCome, Step, status_of};
 ghost use Rattle.work_ledger.specs.Comparison.{Fits};
 ghost use Rattle.work_ledger.specs.Book.{Made, IsOurs, state_of, first_of};
 ghost use Rattle.work_ledger.specs.Replies.{claim_reply, Takes, Refuses, TurnsAway};
@@ -145,6 +145,17 @@ impl Ledger {
         &self.history
     }
 
+    // Adds the entry of a call that changes nothing.
+    fn answer(&mut self, call: Call, reply: Reply) -> Result<(), AllocError>
+        requires { Step self.old.room (state_of self.old) call reply (state_of self.old) }
+        ensures made { OnOk result (Made self.old call reply self.new) }
+        ensures trees { self.new.trees ≡ self.old.trees }
+        ensures memory { OnErr result (self.new ≡ self.old) }
+    {
+        note(&mut self.history, self.claimed, call, reply)?;
+        Ok(())
+    }
+
     /// Gives the free source of the least number to the seat. The entry of that source's `give_back` has its memory from now on.
     pub fn claim(&mut self, seat: u8) -> Result<Claimed, AllocError>
         ensures made { IfOk result (λ r. Made self.old (Call.Claim seat) (claim_reply r) self.new) }
@@ -153,7 +164,7 @@ impl Ledger {
     {
         let call = Call::Claim(seat);
         if self.stopped || self.free.is_empty() {
-            note(&mut self.history, self.claimed, call, Reply::Closed)?;
+            self.answer(call, Reply::Closed)?;
             return Ok(Claimed::Closed);
         }
         self.history.reserve(self.claimed + 2)?;
@@ -204,20 +215,20 @@ impl Ledger {
         let source = tree.tree().tree().source();
         if !tree.fits() {
             let call = Call::HandIn(seat, source, false);
-            let Ok(()) = note(&mut self.history, self.claimed, call, Reply::OtherTimetable) else {
+            let Ok(()) = self.answer(call, Reply::OtherTimetable) else {
                 return Err((Refusal::Memory, tree));
             };
             return Err((Refusal::OtherTimetable, tree));
         }
         let call = Call::HandIn(seat, source, true);
         if status_at(&self.sources, source) != Status::Claimed(seat) {
-            let Ok(()) = note(&mut self.history, self.claimed, call, Reply::NotYours) else {
+            let Ok(()) = self.answer(call, Reply::NotYours) else {
                 return Err((Refusal::Memory, tree));
             };
             return Err((Refusal::NotYours, tree));
         }
         if self.queue.len() == self.room {
-            let Ok(()) = note(&mut self.history, self.claimed, call, Reply::Full) else {
+            let Ok(()) = self.answer(call, Reply::Full) else {
                 return Err((Refusal::Memory, tree));
             };
             return Err((Refusal::Full, tree));
@@ -239,7 +250,7 @@ impl Ledger {
     {
         let call = Call::GiveBack(seat, source);
         if status_at(&self.sources, source) != Status::Claimed(seat) {
-            let Ok(()) = note(&mut self.history, self.claimed, call, Reply::NotYours) else {
+            let Ok(()) = self.answer(call, Reply::NotYours) else {
                 return Err(Fault::Memory);
             };
             return Err(Fault::NotYours);
@@ -258,10 +269,10 @@ impl Ledger {
     {
         if self.queue.is_empty() {
             if may_come(self.claimed, self.stopped, self.free.len()) {
-                note(&mut self.history, self.claimed, Call::Take, Reply::Empty)?;
+                self.answer(Call::Take, Reply::Empty)?;
                 return Ok(Taken::Empty);
             }
-            note(&mut self.history, self.claimed, Call::Take, Reply::Closed)?;
+            self.answer(Call::Take, Reply::Closed)?;
             return Ok(Taken::Closed);
         }
         self.history.reserve(self.claimed + 1)?;
@@ -285,7 +296,7 @@ impl Ledger {
     {
         let call = Call::Ack(source, outcome);
         if status_at(&self.sources, source) != Status::Taken {
-            let Ok(()) = note(&mut self.history, self.claimed, call, Reply::NotYours) else {
+            let Ok(()) = self.answer(call, Reply::NotYours) else {
                 return Err(Fault::Memory);
             };
             return Err(Fault::NotYours);
