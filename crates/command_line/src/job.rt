@@ -1,7 +1,7 @@
 //! What the program is asked to do.
 
-ghost use Rattle.std.specs.Prelude.{◌≡◌, option_map};
-ghost use Rattle.command_line.specs.Tasks.{question_of, day_from, store_of};
+ghost use Rattle.std.specs.Prelude.{◌≡◌};
+ghost use Rattle.command_line.specs.Tasks.{question_of, day_from};
 
 use program_inputs::Settings;
 
@@ -81,18 +81,4 @@ pub enum Command<'a> {
 pub struct Job<'a> {
     pub settings: Settings<'a>,
     pub command: Command<'a>,
-}
-
-impl<'a> Job<'a> {
-    /// The file of the store, where the command has one.
-    pub fn store(&self) -> Option<&'a str>
-        ensures { option_map (λ path. path.now) result ≡ store_of self.now }
-    {
-        match self.command {
-            Command::Answer(Task::Ask { store, .. })
-            | Command::Build { store, .. }
-            | Command::List { store } => Some(store),
-            Command::Answer(_) => None,
-        }
-    }
 }

@@ -13,6 +13,11 @@ pub matched : {T E : Type 0} (r : Result T E) (P : T → Type 0) (Q : E → Type
 matched (Ok x) P Q ok err = ok
 matched (Err e) P Q ok err = err
 
+-- a refusal is what it is of itself, and what else is so of it
+pub besides : {T E : Type 0} (r : Result T E) (P : T → Type 0) (Q S : E → Type 0) → MatchResult r P Q → IfErr r S → MatchResult r P (λ e. Q e × S e)
+besides (Ok x) P Q S h also = h
+besides (Err e) P Q S h also = (h, also)
+
 module _ {X : Type 0} (text : X → List ℕ) (meant : X → ℕ) (Lines : List ℕ → ℕ → Type 0) (Right : X → Type 0) (Wrong : Fault → Type 0)
     (old new : Option (List ℕ)) (status : ℕ) (lines : (x : X) → Right x → Lines (text x) (meant x)) where
   printed : (r : Result X Fault) → MatchResult r Right Wrong

@@ -6,11 +6,8 @@ use Rattle.command_line.specs.declared.job.Command.TheVariants as commands
 use Rattle.command_line.specs.declared.job.Task.{Task}
 use Rattle.program_inputs.specs.declared.settings.Settings.{Settings}
 use Rattle.feed_basis.specs.Basis.{BasisData}
-use Rattle.store_answers.specs.Builds.{IsBuilt, IsUnbuilt}
-use Rattle.store_answers.specs.Listings.{IsListed, IsUnlisted}
 use Rattle.commands.specs.Errands.{IsErrand}
-use Rattle.commands.specs.Prints.{AreReportLines}
-use Rattle.commands.specs.Runs.{IsCommandRun, IsOverStore, IsTaskRun, Opening, Prints, Run}
+use Rattle.commands.specs.Runs.{IsBuildRun, IsCommandRun, IsListRun, IsOverStore, IsTaskRun, Opening, Run}
 use Rattle.commands.specs.Words.{HasWords}
 use Rattle.commands.specs.declared.errand.Errand.{Errand}
 use Rattle.commands.specs.declared.errand.Errand.TheVariants as errands
@@ -36,17 +33,17 @@ module _ {D : Type 0} (o : Opening D) (settings : Settings) (basis : BasisData) 
   question_run (commands.List store) task leaving moment h is done = absurd h
 
   pub build_run : (command : Command) (path : Bor (List ℕ)) → IsErrand settings.date.now command (errands.Build path)
-      → IsOverStore o path.now (λ old new. Prints (AreReportLines (IsBuilt basis settings.rides old new)) (IsUnbuilt basis settings.rides old new)) run disk
+      → IsOverStore o path.now (IsBuildRun basis settings.rides) run disk
       → IsCommandRun o settings basis command run disk
   build_run (commands.Build store progress) path h done =
-      subst (λ p. IsOverStore o p (λ old new. Prints (AreReportLines (IsBuilt basis settings.rides old new)) (IsUnbuilt basis settings.rides old new)) run disk) h done
+      subst (λ p. IsOverStore o p (IsBuildRun basis settings.rides) run disk) h done
   build_run (commands.Answer task) path h done = absurd h
   build_run (commands.List store) path h done = absurd h
 
   pub list_run : (command : Command) (path : Bor (List ℕ)) → IsErrand settings.date.now command (errands.List path)
-      → IsOverStore o path.now (λ old new. Prints (AreReportLines (IsListed basis settings.rides old new)) (IsUnlisted basis settings.rides old new)) run disk
+      → IsOverStore o path.now (IsListRun basis settings.rides) run disk
       → IsCommandRun o settings basis command run disk
   list_run (commands.List store) path h done =
-      subst (λ p. IsOverStore o p (λ old new. Prints (AreReportLines (IsListed basis settings.rides old new)) (IsUnlisted basis settings.rides old new)) run disk) h done
+      subst (λ p. IsOverStore o p (IsListRun basis settings.rides) run disk) h done
   list_run (commands.Answer task) path h done = absurd h
   list_run (commands.Build store progress) path h done = absurd h

@@ -22,6 +22,7 @@ use Rattle.answering.specs.Refusals.{IsUnanswered, NoneMissing}
 use Rattle.store_answers.specs.Asked.{IsStoredAnswer, IsStoredRefusal}
 use Rattle.store_answers.specs.Builds.{IsBuilt, IsUnbuilt}
 use Rattle.store_answers.specs.Listings.{IsListed, IsUnlisted}
+use Rattle.store_answers.specs.Stores.{OnlyFailing}
 use Rattle.commands.specs.Feeds.{IsGround, IsGroundFault, LeavesAt}
 use Rattle.commands.specs.Prints.{AreAnswerLines, AreReportLines, IsFaulted, IsPrint}
 
@@ -47,14 +48,16 @@ abbrev pub of_file : FileFault → Fault
 of_file files.InUse = faults.StoreInUse
 of_file files.Failed = faults.Store Device
 
--- How a run opens the file of a store: what that may give for a path, whether calls of the disk can be believed, and its states.
+-- How a run opens the file of a store: what that may give for a path, whether calls of the disk can be believed, its states, and how many
+-- of its calls failed.
 pub record Opening (D : Type 0) : Type 1 where
   pub opens : List ℕ → Result D FileFault → Type 0
   pub honest : D → Type 0
   pub state : D → State
+  pub failures : D → ℕ
 
-abbrev pub opening_of : {D : Type 0} → (List ℕ → Result D FileFault → Type 0) → (D → Type 0) → (D → State) → Opening D
-opening_of opens honest state = record { opens = opens; honest = honest; state = state }
+abbrev pub opening_of : {D : Type 0} → (List ℕ → Result D FileFault → Type 0) → (D → Type 0) → (D → State) → (D → ℕ) → Opening D
+opening_of opens honest state failures = record { opens = opens; honest = honest; state = state; failures = failures }
 
 -- the file wasn't opened, which the run told
 pub record IsRefusedFile {D : Type 0} (o : Opening D) (path : List ℕ) (run : Run) (disk : Option D) : Type 0 where
@@ -63,17 +66,21 @@ pub record IsRefusedFile {D : Type 0} (o : Opening D) (path : List ℕ) (run : R
   pub none : disk ≡ None
   pub told : Tells (λ f. f ≡ of_file fault) run
 
--- the file was opened, and the run used its disk
-pub record IsOverDisk {D : Type 0} (o : Opening D) (path : List ℕ) (Uses : State → State → Run → Type 0) (run : Run) (disk : Option D) : Type 0 where
+-- what a run does to a disk, of its states before and after, where only such faults may be told
+abbrev pub Use : Type 1
+Use = State → State → (Fault → Type 0) → Run → Type 0
+
+-- The file was opened, and the run used its disk. A fault that says that a call of the disk failed is told only where one did.
+pub record IsOverDisk {D : Type 0} (o : Opening D) (path : List ℕ) (Uses : Use) (run : Run) (disk : Option D) : Type 0 where
   pub first : D
   pub last : D
   pub opened : o.opens path (Ok first)
   pub given_back : disk ≡ Some last
   pub honest : o.honest first ↔ o.honest last
-  pub uses : o.honest first → Uses (o.state first) (o.state last) run
+  pub uses : o.honest first → Uses (o.state first) (o.state last) (OnlyFailing (o.failures first) (o.failures last)) run
 
 -- a run over the file of that path
-abbrev pub IsOverStore : {D : Type 0} → Opening D → List ℕ → (State → State → Run → Type 0) → Run → Option D → Type 0
+abbrev pub IsOverStore : {D : Type 0} → Opening D → List ℕ → Use → Run → Option D → Type 0
 IsOverStore o path Uses run disk = IsRefusedFile o path run disk ⊎ IsOverDisk o path Uses run disk
 
 -- a question between stops, without a store
@@ -83,9 +90,20 @@ IsStopRun basis moment question Right run =
     (IsUnanswered (stop_alone basis.names) NoneMissing basis.timetable moment question) run
 
 -- a question between places, over a store
-abbrev pub IsAskRun : BasisData → ℕ → Option ℕ → Question → Bool → State → State → Run → Type 0
-IsAskRun basis k moment question legs old new run =
-    Prints (AreAnswerLines (IsStoredAnswer basis k moment question legs old new)) (IsStoredRefusal basis k moment question old new) run
+abbrev pub IsAskRun : BasisData → ℕ → Option ℕ → Question → Bool → Use
+IsAskRun basis k moment question legs old new MayTell run =
+    Prints (AreAnswerLines (IsStoredAnswer basis k moment question legs old new))
+    (λ fault. IsStoredRefusal basis k moment question old new fault × MayTell fault) run
+
+-- a build of what a store lacks
+abbrev pub IsBuildRun : BasisData → ℕ → Use
+IsBuildRun basis k old new MayTell run =
+    Prints (AreReportLines (IsBuilt basis k old new)) (λ fault. IsUnbuilt basis k old new fault × MayTell fault) run
+
+-- a list of what a store has
+abbrev pub IsListRun : BasisData → ℕ → Use
+IsListRun basis k old new MayTell run =
+    Prints (AreReportLines (IsListed basis k old new)) (λ fault. IsUnlisted basis k old new fault × MayTell fault) run
 
 -- a question, over the timetable, at the moment of its words
 abbrev pub IsTaskRun : {D : Type 0} → Opening D → BasisData → ℕ → Option ℕ → Task → Run → Option D → Type 0
@@ -99,11 +117,9 @@ abbrev pub IsCommandRun : {D : Type 0} → Opening D → Settings → BasisData 
 IsCommandRun o settings basis (commands.Answer task) run disk =
     (moment : Option ℕ) × LeavesAt settings task basis moment × IsTaskRun o basis settings.rides moment task run disk
 IsCommandRun o settings basis (commands.Build store progress) run disk =
-    IsOverStore o store.now
-    (λ old new. Prints (AreReportLines (IsBuilt basis settings.rides old new)) (IsUnbuilt basis settings.rides old new)) run disk
+    IsOverStore o store.now (IsBuildRun basis settings.rides) run disk
 IsCommandRun o settings basis (commands.List store) run disk =
-    IsOverStore o store.now
-    (λ old new. Prints (AreReportLines (IsListed basis settings.rides old new)) (IsUnlisted basis settings.rides old new)) run disk
+    IsOverStore o store.now (IsListRun basis settings.rides) run disk
 
 -- What a run leaves, in the order in which faults are looked for: the words, the feed and its days; then the store, and then the question.
 -- The store is opened only where the feed and its days are without fault.

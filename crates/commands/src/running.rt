@@ -36,7 +36,7 @@ fn run_task<D: Disk, S: FnOnce(&str) -> Result<D, FileFault>, W: Write, E: Write
     err: &mut E,
 ) -> (u8, Option<D>)
     requires { S.IsAlwaysCallable open_store }
-    ensures run { IsTaskRun (opening_of (FnOnceReturnsAt S.FnOnce open_store) D.honest D.state) basis.now rides moment task.now
+    ensures run { IsTaskRun (opening_of (FnOnceReturnsAt S.FnOnce open_store) D.honest D.state D.failures) basis.now rides moment task.now
         (run_of (W.contents out.old) (W.contents out.new) result.0) result.1 }
     ensures statuses { Contains statuses result.0 }
 {
@@ -105,7 +105,7 @@ pub fn run<
 ) -> (u8, Option<D>)
     requires { S.IsAlwaysCallable open_store }
     ensures run { (feed : Feed) → AreReaders R.remaining files feed
-        → IsRun (opening_of (FnOnceReturnsAt S.FnOnce open_store) D.honest D.state) feed job.now
+        → IsRun (opening_of (FnOnceReturnsAt S.FnOnce open_store) D.honest D.state D.failures) feed job.now
         (run_of (W.contents out.old) (W.contents out.new) result.0) result.1 }
     ensures statuses { Contains statuses result.0 }
 {

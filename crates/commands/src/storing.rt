@@ -3,10 +3,8 @@
 ghost use Rattle.std.specs.Prelude.{◌≡◌};
 ghost use Rattle.std.specs.Fn.{FnOnceReturnsAt};
 ghost use Rattle.std.specs.List.{Contains};
-ghost use Rattle.commands.specs.Prints.{AreReportLines, statuses};
-ghost use Rattle.commands.specs.Runs.{IsAskRun, IsOverStore, Prints, of_file, opening_of, run_of};
-ghost use Rattle.store_answers.specs.Builds.{IsBuilt, IsUnbuilt};
-ghost use Rattle.store_answers.specs.Listings.{IsListed, IsUnlisted};
+ghost use Rattle.commands.specs.Prints.{statuses};
+ghost use Rattle.commands.specs.Runs.{IsAskRun, IsBuildRun, IsListRun, IsOverStore, of_file, opening_of, run_of};
 
 use crate::printing::{print_answer, print_report, tell_fault};
 use command_line::Question;
@@ -41,8 +39,8 @@ pub fn run_list<D: Disk, S: FnOnce(&str) -> Result<D, FileFault>, W: Write, E: W
     err: &mut E,
 ) -> (u8, Option<D>)
     requires { S.IsAlwaysCallable open_store }
-    ensures run { IsOverStore (opening_of (FnOnceReturnsAt S.FnOnce open_store) D.honest D.state) path.now
-        (λ old new. Prints (AreReportLines (IsListed basis.now rides old new)) (IsUnlisted basis.now rides old new))
+    ensures run { IsOverStore (opening_of (FnOnceReturnsAt S.FnOnce open_store) D.honest D.state D.failures) path.now
+        (IsListRun basis.now rides)
         (run_of (W.contents out.old) (W.contents out.new) result.0) result.1 }
     ensures statuses { Contains statuses result.0 }
 {
@@ -67,8 +65,8 @@ pub fn run_build<D: Disk, S: FnOnce(&str) -> Result<D, FileFault>, P: Progress, 
     err: &mut E,
 ) -> (u8, Option<D>)
     requires { S.IsAlwaysCallable open_store }
-    ensures run { IsOverStore (opening_of (FnOnceReturnsAt S.FnOnce open_store) D.honest D.state) path.now
-        (λ old new. Prints (AreReportLines (IsBuilt basis.now rides old new)) (IsUnbuilt basis.now rides old new))
+    ensures run { IsOverStore (opening_of (FnOnceReturnsAt S.FnOnce open_store) D.honest D.state D.failures) path.now
+        (IsBuildRun basis.now rides)
         (run_of (W.contents out.old) (W.contents out.new) result.0) result.1 }
     ensures statuses { Contains statuses result.0 }
 {
@@ -95,7 +93,7 @@ pub fn run_ask<D: Disk, S: FnOnce(&str) -> Result<D, FileFault>, W: Write, E: Wr
     err: &mut E,
 ) -> (u8, Option<D>)
     requires { S.IsAlwaysCallable open_store }
-    ensures run { IsOverStore (opening_of (FnOnceReturnsAt S.FnOnce open_store) D.honest D.state) path.now
+    ensures run { IsOverStore (opening_of (FnOnceReturnsAt S.FnOnce open_store) D.honest D.state D.failures) path.now
         (IsAskRun basis.now rides moment question.now legs)
         (run_of (W.contents out.old) (W.contents out.new) result.0) result.1 }
     ensures statuses { Contains statuses result.0 }

@@ -1,13 +1,12 @@
 //! What questions are asked of.
 
-ghost use Rattle.std.specs.Prelude.{◌≡◌, ◌∷◌, ◌<◌, ◌↔◌, [], IsTrue, IfOk, IfErr, IfSome, option_map};
+ghost use Rattle.std.specs.Prelude.{◌≡◌, ◌∷◌, ◌<◌, [], IfOk, IfErr, IfSome, option_map};
 ghost use Rattle.std.specs.Arc.{arc_value};
 ghost use Rattle.answer_lines.specs.Moments.{Says};
 ghost use Rattle.feed_basis.specs.Basis.{AreTablesOf, IsBasis, IsSound};
 ghost use Rattle.feed_basis.specs.BasisFaults.{IsBasisFault};
-ghost use Rattle.feed_basis.specs.Ids.{IsKnown, stop_alone};
+ghost use Rattle.feed_basis.specs.Ids.{stop_alone};
 ghost use Rattle.gtfs_tables.specs.Feed.{Feed, AreReaders};
-ghost use Rattle.planner.specs.Places.{stops_at};
 ghost use Rattle.service_days.specs.Answers.{IsMoment};
 ghost use Rattle.timetable.specs.Table.{IsTable, stops_of};
 
@@ -82,13 +81,6 @@ impl Basis {
         ensures stop { IfSome result (λ stop. stop < stops_of self.now.timetable) }
     {
         self.names.stop_named(id)
-    }
-
-    /// Whether an id stands for a stop or a station.
-    pub fn is_place(&self, id: &str) -> bool
-        ensures { IsTrue result ↔ IsKnown (stops_at self.now.names) id.now }
-    {
-        self.names.place(id).is_some()
     }
 
     /// The service day and its time that a moment is.

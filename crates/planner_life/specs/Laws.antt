@@ -7,14 +7,9 @@ use Rattle.pattern_tree.specs.Content.{Content}
 use Rattle.planner.specs.Questions.{AreComplete, IsStored}
 use Rattle.section_store.specs.Going.{IsFront, StandsForFront, IsKept, GoesOn}
 use Rattle.section_store.specs.Sections.{Form}
-use Rattle.planner_life.specs.Board.{AreRight, AreWholeAmong, shown}
+use Rattle.planner_life.specs.Board.{AreWholeAmong, shown}
 
--- where each tree that is shown is right, the trees of any stops are complete, and no path of theirs has more rides than were asked
-abbrev pub RightIsComplete : Type 0
-RightIsComplete =
-    (form : Form) (board : List (Option Content)) (froms : List ℕ) → AreRight form board → AreComplete form.table (shown board) form.rides froms
-
--- so it is where the trees of these stops are there, and each of them is whole
+-- Where the trees of some stops are there, and each of them is whole, they are complete, and no path of theirs has more rides than were asked.
 abbrev pub WholeIsComplete : Type 0
 WholeIsComplete =
     (form : Form) (board : List (Option Content)) (froms : List ℕ)

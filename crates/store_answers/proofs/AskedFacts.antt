@@ -1,8 +1,8 @@
 -- Answers from the trees of a store, and refusals for want of one.
-use Rattle.std.proofs.Common.{Option, Some, ◌≡◌, ℕ, ◌<◌, Bool, List, take, All, Contains, subst}
+use Rattle.std.proofs.Common.{Option, Some, ◌≡◌, ℕ, ◌<◌, Bool, List, take, All, Contains, inl, inr, subst}
 use Rattle.std.proofs.lemmas.List.Elements.{All-take}
 use Rattle.disk_model.specs.Disk.{State}
-use Rattle.timetable.specs.Table.{stops_of}
+use Rattle.timetable.specs.Table.{Table, stops_of}
 use Rattle.pattern_tree.specs.Content.{Content}
 use Rattle.planner.specs.Places.{stops_at}
 use Rattle.planner.specs.Questions.{IsStored}
@@ -18,7 +18,13 @@ use Rattle.feed_basis.proofs.NameFacts.{stops_known}
 use Rattle.answering.specs.Answers.{AreTreePoints, IsAnswered}
 use Rattle.answering.specs.Refusals.{IsMissing, IsUnanswered}
 use Rattle.store_answers.specs.Asked.{IsStoredAnswer, IsUnansweredFrom, IsUnstored}
-use Rattle.store_answers.specs.Stores.{form_over}
+use Rattle.store_answers.specs.Stores.{OnlyFailing, form_over}
+
+-- a question that has no answer tells of no failed call
+pub unanswered_fails : (stops : List ℕ → Option (List ℕ)) (Missing : List ℕ → Type 0) (table : Table) (moment : Option ℕ) (question : Question)
+    (fault : Fault) (before after : ℕ) → IsUnanswered stops Missing table moment question fault → OnlyFailing before after fault
+unanswered_fails stops Missing table moment question fault before after h (inl e) = absurd (subst (IsUnanswered stops Missing table moment question) e h)
+unanswered_fails stops Missing table moment question fault before after h (inr e) = absurd (subst (IsUnanswered stops Missing table moment question) e h)
 
 -- what an opened store shows
 pub record Shows (basis : BasisData) (k : ℕ) (old new : State) (list : List ℕ) (board : List (Option Content)) : Type 0 where

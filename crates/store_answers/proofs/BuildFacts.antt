@@ -1,6 +1,6 @@
 -- What a build leaves of a store.
 use Rattle.std.proofs.Common.{◌≡◌, ◌⊎◌, ◌++◌, ℕ, List, [], append-nil, refl, sym, ◌∙◌, subst, inl, inr, Result, Ok, Err}
-use Rattle.disk_model.specs.Disk.{State}
+use Rattle.disk_model.specs.Disk.{State, Grew}
 use Rattle.timetable.specs.Table.{stops_of}
 use Rattle.pattern_tree.specs.Content.{Content}
 use Rattle.section_store.specs.Going.{GoesOn, HoldsAll, IsKept}
@@ -13,9 +13,11 @@ use Rattle.planner_life.specs.Building.{IsDeviceFault}
 use Rattle.planner_life.specs.Desk.{IsOpening, StandsForSources}
 use Rattle.planner_life.specs.declared.fault.BuildFault.{BuildFault}
 use Rattle.planner_life.specs.declared.fault.BuildFault.TheVariants as ends
+use Rattle.program_inputs.specs.declared.fault.Fault.{Fault}
 use Rattle.program_inputs.specs.declared.fault.Fault.TheVariants as faults
 use Rattle.store_building.specs.Missing.{AddsMissing}
 use Rattle.store_answers.specs.Builds.{IsBuilding, of_build}
+use Rattle.store_answers.specs.Stores.{OnlyFailing, TellsDevice}
 
 -- a file that holds trees at rest stands for them
 holds_stands : (form : Form) (trees : List Content) (place : ℕ) (list : List ℕ) (disk : State) → Holds form trees place list disk → Stands form disk.read trees
@@ -69,6 +71,28 @@ why_ended (ends.NotPut puts.TooLarge) = inl refl
 why_ended (ends.NotPut puts.Failed) = inl refl
 why_ended (ends.NotPut puts.Memory) = inl refl
 why_ended (ends.NotPut puts.OtherTimetable) = inl refl
+
+-- the device failed at a put, where that is told
+device_ended : (fault : BuildFault) → TellsDevice (of_build fault) → fault ≡ ends.NotPut puts.Device
+device_ended (ends.NotPut puts.Device) says = refl
+device_ended ends.UnknownStop (inl e) = cc
+device_ended ends.UnknownStop (inr e) = cc
+device_ended (ends.NotBuilt fault) (inl e) = cc
+device_ended (ends.NotBuilt fault) (inr e) = cc
+device_ended (ends.NotPut puts.AlreadyStored) (inl e) = cc
+device_ended (ends.NotPut puts.AlreadyStored) (inr e) = cc
+device_ended (ends.NotPut puts.TooLarge) (inl e) = cc
+device_ended (ends.NotPut puts.TooLarge) (inr e) = cc
+device_ended (ends.NotPut puts.Failed) (inl e) = cc
+device_ended (ends.NotPut puts.Failed) (inr e) = cc
+device_ended (ends.NotPut puts.Memory) (inl e) = cc
+device_ended (ends.NotPut puts.Memory) (inr e) = cc
+device_ended (ends.NotPut puts.OtherTimetable) (inl e) = cc
+device_ended (ends.NotPut puts.OtherTimetable) (inr e) = cc
+
+pub unbuilt_fails : (why : BuildFault) (fault : Fault) (before after : ℕ) → fault ≡ of_build why
+    → (why ≡ ends.NotPut puts.Device → Grew before after) → OnlyFailing before after fault
+unbuilt_fails why fault before after told failed says = failed (device_ended why (subst TellsDevice told says))
 
 -- a build that is done met no failing device
 pub no_device : (result : Result Unit BuildFault) (done : Unit {0}) → result ≡ Ok done → ¬ IsDeviceFault result

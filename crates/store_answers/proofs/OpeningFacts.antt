@@ -1,15 +1,17 @@
 -- What opening the store of a basis's timetable gives, where the timetable is named as the opening took it.
-use Rattle.std.proofs.Common.{◌≡◌, ◌⊎◌, ℕ, Result, Ok, Err, MatchResult, IfOk, IfErr, subst}
-use Rattle.disk_model.specs.Disk.{State}
+use Rattle.std.proofs.Common.{◌≡◌, ◌⊎◌, ℕ, Result, Ok, Err, MatchResult, IfOk, IfErr, subst, inl, inr}
+use Rattle.disk_model.specs.Disk.{State, Grew}
 use Rattle.timetable.specs.Table.{Table}
 use Rattle.section_store.specs.Sections.{Form, form_of}
 use Rattle.recovery.specs.Recovery.{CauseOf, IsOutside, StandsForNoList}
 use Rattle.recovery.specs.declared.fault.RecoverFault.{RecoverFault}
+use Rattle.recovery.specs.declared.fault.RecoverFault.TheVariants as stores
 use Rattle.planner_life.specs.Desk.{IsOpening}
 use Rattle.program_inputs.specs.Faults.{of_store}
 use Rattle.program_inputs.specs.declared.fault.Fault.{Fault}
+use Rattle.program_inputs.specs.declared.fault.Fault.TheVariants as faults
 use Rattle.feed_basis.specs.Basis.{BasisData}
-use Rattle.store_answers.specs.Stores.{IsUnopened, form_over}
+use Rattle.store_answers.specs.Stores.{IsUnopened, OnlyFailing, TellsDevice, form_over}
 
 -- what is said of a store of the timetable is said of one of the basis
 pub over_basis : (P : Form → Type 0) (basis : BasisData) (k : ℕ) (table : Table) → table ≡ basis.timetable → P (form_of table k) → P (form_over basis k)
@@ -25,6 +27,34 @@ unopened basis k table old new why fault is cause no_list told opening = over_ba
   told = told;
   opening = opening;
 })
+
+-- a store that isn't opened tells of a failed call for no other cause
+device_why : (why : RecoverFault) → TellsDevice (of_store why) → why ≡ stores.Device
+device_why stores.Device says = cc
+device_why stores.Memory (inl e) = cc
+device_why stores.Memory (inr e) = cc
+device_why stores.NotAStore (inl e) = cc
+device_why stores.NotAStore (inr e) = cc
+device_why stores.OtherTimetable (inl e) = cc
+device_why stores.OtherTimetable (inr e) = cc
+device_why stores.OtherRides (inl e) = cc
+device_why stores.OtherRides (inr e) = cc
+device_why (stores.Damaged number) (inl e) = cc
+device_why (stores.Damaged number) (inr e) = cc
+
+pub unopened_fails : (why : RecoverFault) (fault : Fault) (before after : ℕ) → fault ≡ of_store why
+    → (why ≡ stores.Device → Grew before after) → OnlyFailing before after fault
+unopened_fails why fault before after told device says = device (device_why why (subst TellsDevice told says))
+
+-- want of memory tells of no failed call
+pub memory_fails : (before after : ℕ) → OnlyFailing before after faults.Memory
+memory_fails before after (inl e) = cc
+memory_fails before after (inr e) = cc
+
+-- what is so of each refusal, of the refusal there is
+pub of_refusal : {T E : Type 0} (r : Result T E) (P Q : E → Type 0) → ((e : E) → P e → Q e) → IfErr r P → IfErr r Q
+of_refusal (Ok x) P Q f h = h
+of_refusal (Err e) P Q f h = f e h
 
 -- both answers of a result, each from its own clause
 pub either : {T E : Type 0} (r : Result T E) (P P' : T → Type 0) (Q Q' : E → Type 0) → ((x : T) → P x → P' x) → ((e : E) → Q e → Q' e)

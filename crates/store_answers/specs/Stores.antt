@@ -1,14 +1,16 @@
 -- What is found when a store is opened.
 use Rattle.std.specs.Prelude.{◌≡◌, ◌⊎◌, ℕ, List, [], map, slice_index_or}
-use Rattle.disk_model.specs.Disk.{State}
+use Rattle.disk_model.specs.Disk.{State, Grew}
 use Rattle.timetable.specs.NameLists.{NameLists}
 use Rattle.section_store.specs.Sections.{Form, form_of}
 use Rattle.recovery.specs.Recovery.{StandsForNoList, IsOutside, CauseOf}
 use Rattle.recovery.specs.declared.fault.RecoverFault.{RecoverFault}
+use Rattle.recovery.specs.declared.fault.RecoverFault.TheVariants.{Device}
 use Rattle.planner_life.specs.Desk.{IsOpening}
 use Rattle.feed_basis.specs.Basis.{BasisData}
 use Rattle.program_inputs.specs.Faults.{of_store}
 use Rattle.program_inputs.specs.declared.fault.Fault.{Fault}
+use Rattle.program_inputs.specs.declared.fault.Fault.TheVariants as faults
 
 -- what a store of trees over the timetable is for, with journeys of at most k rides
 abbrev pub form_over : BasisData → ℕ → Form
@@ -22,6 +24,14 @@ pub record IsUnopened (form : Form) (old new : State) (fault : Fault) : Type 0 w
   pub no_list : IsOutside why ⊎ StandsForNoList form old.read
   pub told : fault ≡ of_store why
   pub opening : IsOpening form old new
+
+-- the fault says that a call of the disk failed: as the store was opened, or at a put
+abbrev pub TellsDevice : Fault → Type 0
+TellsDevice fault = (fault ≡ faults.Store Device) ⊎ (fault ≡ faults.PutFailed)
+
+-- such a fault comes only where one more call of the disk failed
+abbrev pub OnlyFailing : ℕ → ℕ → Fault → Type 0
+OnlyFailing before after fault = TellsDevice fault → Grew before after
 
 -- the ids of stops, in their order
 abbrev pub ids_of : NameLists → List ℕ → List (List ℕ)

@@ -1,7 +1,8 @@
 //! Answers from stored trees.
 
-ghost use Rattle.std.specs.Prelude.{◌≡◌, ◌↔◌, MatchResult};
+ghost use Rattle.std.specs.Prelude.{◌≡◌, ◌↔◌, IfErr, MatchResult};
 ghost use Rattle.store_answers.specs.Asked.{IsStoredAnswer, IsStoredRefusal};
+ghost use Rattle.store_answers.specs.Stores.{OnlyFailing};
 
 use answer_lines::Answer;
 use answering::ask;
@@ -28,6 +29,7 @@ pub fn ask_stored<'a, D: Disk>(
     ensures answered { D.honest disk → MatchResult result.0
         (IsStoredAnswer basis.now rides moment question.now legs (D.state disk) (D.state result.1))
         (IsStoredRefusal basis.now rides moment question.now (D.state disk) (D.state result.1)) }
+    ensures device { IfErr result.0 (OnlyFailing (D.failures disk) (D.failures result.1)) }
     ensures honest { D.honest disk ↔ D.honest result.1 }
 {
     whole_is_complete();

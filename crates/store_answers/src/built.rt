@@ -1,9 +1,9 @@
 //! The building of the trees that are missing.
 
-ghost use Rattle.std.specs.Prelude.{◌≡◌, ◌↔◌, MatchResult, IfOk, map};
+ghost use Rattle.std.specs.Prelude.{◌≡◌, ◌↔◌, MatchResult, IfOk, IfErr, map};
 ghost use Rattle.timetable.specs.Table.{stops_of};
 ghost use Rattle.store_answers.specs.Builds.{CountsStored, IsBuilt, IsUnbuilt, missing_from, of_build};
-ghost use Rattle.store_answers.specs.Stores.{ids_of};
+ghost use Rattle.store_answers.specs.Stores.{OnlyFailing, ids_of};
 
 use answer_lines::Report;
 use disk_model::Disk;
@@ -78,6 +78,7 @@ pub fn build<'a, D: Disk, P: Progress>(
 ) -> (Result<Report<'a>, Fault<'a>>, D)
     ensures built { D.honest disk → MatchResult result.0 (IsBuilt basis.now rides (D.state disk) (D.state result.1))
         (IsUnbuilt basis.now rides (D.state disk) (D.state result.1)) }
+    ensures device { IfErr result.0 (OnlyFailing (D.failures disk) (D.failures result.1)) }
     ensures honest { D.honest disk ↔ D.honest result.1 }
 {
     goes_on();

@@ -1,7 +1,8 @@
 //! The stops whose trees are stored.
 
-ghost use Rattle.std.specs.Prelude.{◌≡◌, ◌↔◌, MatchResult};
+ghost use Rattle.std.specs.Prelude.{◌≡◌, ◌↔◌, IfErr, MatchResult};
 ghost use Rattle.store_answers.specs.Listings.{IsListed, IsUnlisted};
+ghost use Rattle.store_answers.specs.Stores.{OnlyFailing};
 
 use crate::ids::ids;
 use answer_lines::Report;
@@ -22,6 +23,7 @@ pub fn list<'a, D: Disk>(
 ) -> (Result<Report<'a>, Fault<'a>>, D)
     ensures listed { D.honest disk → MatchResult result.0 (IsListed basis.now rides (D.state disk) (D.state result.1))
         (IsUnlisted basis.now rides (D.state disk) (D.state result.1)) }
+    ensures device { IfErr result.0 (OnlyFailing (D.failures disk) (D.failures result.1)) }
     ensures honest { D.honest disk ↔ D.honest result.1 }
 {
     let desk = match Desk::open(alloc, disk, basis.shared(), rides) {

@@ -1,5 +1,5 @@
-//! Reading a tree. The bytes are from strangers: nothing is reserved by a count before its items are read, and nodes are
-//! read no deeper than 8 levels.
+//! Reading a tree. The bytes are from strangers: no more is reserved by a count than a few nodes, or ends for which there are
+//! bytes, and nodes are read no deeper than 8 levels.
 
 ghost use Rattle.std.specs.Prelude.{None, ℕ, ◌≡◌, ◌≢◌, ◌<◌, ◌≤◌, ◌++◌, ◌-◌, min, List, length, take, MatchResult};
 ghost use Rattle.pattern_tree.specs.Forest.{forest};
@@ -18,6 +18,9 @@ use timetable::{MOST_STOPS, StopId};
 
 /// How many levels of nodes a tree has at most.
 const MOST_LEVELS: u8 = 8;
+
+/// For how many siblings memory is reserved at most before they are read.
+const RESERVED_NODES: u32 = 64;
 
 /// How many nodes and ends may still come.
 #[derive(Drop)]
@@ -63,7 +66,8 @@ fn ends<A: Allocator>(
     ensures { Gives (λ ends. (ends.items, input.new.bytes.now)) result
         (ends_at (byte_count form.width) form.stops count None input.old.bytes.now) }
 {
-    let mut ends = Vec::new(alloc);
+    let there = input.bytes.len() / form.width.byte_count();
+    let mut ends = Vec::with_capacity(alloc, there.min(count as usize))?;
     let mut last = None;
     for _ in 0..count {
         let end = input.stop(form)?;
@@ -132,7 +136,7 @@ fn level<A: Allocator + Clone>(
     ensures { Gives (λ nodes. (forest (branches nodes.items), remaining input.new.bytes.now room.new.nodes room.new.ends)) result
         (level_at (byte_count form.width) form.stops levels count None (remaining input.old.bytes.now room.old.nodes room.old.ends)) }
 {
-    let mut nodes = Vec::new(alloc.clone()?);
+    let mut nodes = Vec::with_capacity(alloc.clone()?, count.min(RESERVED_NODES) as usize)?;
     let mut last = None;
     for _ in 0..count {
         if levels == 0 {

@@ -1,7 +1,8 @@
 use Rattle.std.proofs.Common.{refl, inr}
 use Rattle.std.proofs.lemmas.Fn.{gave_at}
 use Rattle.store_answers.specs.Asked.{IsStoredAnswer, IsStoredRefusal}
-use Rattle.commands.proofs.PrintFacts.{answer_printed}
+use Rattle.store_answers.specs.Stores.{OnlyFailing}
+use Rattle.commands.proofs.PrintFacts.{answer_printed, besides}
 use Rattle.commands.proofs.storing.run_ask.Goals as goal
 
 pub returns-in-Ok-clause-run : goal.returns-in-Ok-clause-run
@@ -12,14 +13,15 @@ returns-in-Ok-clause-run g c =
     let question = c.args.question.now in
     let old = g.D.Disk.state c.in-Ok.disk in
     let new = g.D.Disk.state c.ask_stored-answer.result.1 in
+    let fails = OnlyFailing (g.D.Disk.failures c.in-Ok.disk) (g.D.Disk.failures c.ask_stored-answer.result.1) in
     inr (record {
       first = c.in-Ok.disk;
       last = c.ask_stored-answer.result.1;
       opened = gave_at g.S.FnOnce c.open_store.ensures c.in-Ok.is;
       given_back = refl;
       honest = c.ask_stored-answer.ensures.honest;
-      uses = λ honest. answer_printed c.ask_stored-answer.result.0 (IsStoredAnswer basis k moment question c.args.legs old new)
-          (IsStoredRefusal basis k moment question old new)
+      uses = λ honest. answer_printed c.ask_stored-answer.result.0 (IsStoredAnswer basis k moment question c.args.legs old new) (λ fault. IsStoredRefusal basis k moment question old new fault × fails fault)
           (g.W.Write.contents c.args.out.now) (g.W.Write.contents c.print_answer.new.out) c.print_answer.result
-          (c.ask_stored-answer.ensures.answered honest) c.print_answer.ensures.told;
+          (besides c.ask_stored-answer.result.0 (IsStoredAnswer basis k moment question c.args.legs old new) (IsStoredRefusal basis k moment question old new) fails (c.ask_stored-answer.ensures.answered honest) c.ask_stored-answer.ensures.device)
+          c.print_answer.ensures.told;
     })

@@ -1,7 +1,8 @@
 use Rattle.std.proofs.Common.{refl, inr}
 use Rattle.std.proofs.lemmas.Fn.{gave_at}
 use Rattle.store_answers.specs.Builds.{IsBuilt, IsUnbuilt}
-use Rattle.commands.proofs.PrintFacts.{report_printed}
+use Rattle.store_answers.specs.Stores.{OnlyFailing}
+use Rattle.commands.proofs.PrintFacts.{report_printed, besides}
 use Rattle.commands.proofs.storing.run_build.Goals as goal
 
 pub returns-in-Ok-clause-run : goal.returns-in-Ok-clause-run
@@ -10,13 +11,15 @@ returns-in-Ok-clause-run g c =
     let k = c.args.rides in
     let old = g.D.Disk.state c.in-Ok.disk in
     let new = g.D.Disk.state c.build-report.result.1 in
+    let fails = OnlyFailing (g.D.Disk.failures c.in-Ok.disk) (g.D.Disk.failures c.build-report.result.1) in
     inr (record {
       first = c.in-Ok.disk;
       last = c.build-report.result.1;
       opened = gave_at g.S.FnOnce c.open_store.ensures c.in-Ok.is;
       given_back = refl;
       honest = c.build-report.ensures.honest;
-      uses = λ honest. report_printed c.build-report.result.0 (IsBuilt basis k old new) (IsUnbuilt basis k old new)
+      uses = λ honest. report_printed c.build-report.result.0 (IsBuilt basis k old new) (λ fault. IsUnbuilt basis k old new fault × fails fault)
           (g.W.Write.contents c.args.out.now) (g.W.Write.contents c.print_report.new.out) c.print_report.result
-          (c.build-report.ensures.built honest) c.print_report.ensures.told;
+          (besides c.build-report.result.0 (IsBuilt basis k old new) (IsUnbuilt basis k old new) fails (c.build-report.ensures.built honest) c.build-report.ensures.device)
+          c.print_report.ensures.told;
     })

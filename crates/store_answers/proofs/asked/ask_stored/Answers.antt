@@ -8,9 +8,9 @@ use Rattle.planner_life.specs.Desk.{IsOpening, ShowsWhole, StandsForSources}
 use Rattle.answering.specs.Answers.{AreTreePoints, IsAnswered}
 use Rattle.answering.specs.Refusals.{IsMissing, IsUnanswered}
 use Rattle.store_answers.specs.Asked.{IsStoredAnswer, IsStoredRefusal}
-use Rattle.store_answers.specs.Stores.{form_over}
-use Rattle.store_answers.proofs.AskedFacts.{Shows, stored_answer, unanswered_from}
-use Rattle.store_answers.proofs.OpeningFacts.{either, over_basis, unopened}
+use Rattle.store_answers.specs.Stores.{OnlyFailing, form_over}
+use Rattle.store_answers.proofs.AskedFacts.{Shows, stored_answer, unanswered_fails, unanswered_from}
+use Rattle.store_answers.proofs.OpeningFacts.{either, of_refusal, over_basis, unopened, unopened_fails}
 use Rattle.store_answers.proofs.asked.ask_stored.Goals as goal
 
 pub returns-in-Err-clause-answered : goal.returns-in-Err-clause-answered
@@ -46,3 +46,16 @@ returns-clause-answered g c = λ honest.
     (λ answer right. stored_answer basis k old new desk.stored desk.board is c.args.moment c.args.question.now c.args.legs answer c.whole_is_complete.ensures right)
     (λ fault refused. inr (unanswered_from basis k old new desk.stored desk.board is c.args.moment c.args.question.now fault refused))
     c.ask-answer.ensures.answer c.ask-answer.ensures.refusal
+
+pub returns-in-Err-clause-device : goal.returns-in-Err-clause-device
+returns-in-Err-clause-device g c =
+    unopened_fails c.in-Err.fault c.from.result (g.D.Disk.failures c.args.disk) (g.D.Disk.failures c.in-Err.disk) c.from.ensures c.in-Err.ensures.device
+
+pub returns-clause-device : goal.returns-clause-device
+returns-clause-device g c =
+    let basis = c.args.basis.now in
+    let missing = IsMissing basis (shown c.in-Ok.desk.board) c.args.question.now in
+    of_refusal c.ask-answer.result (IsUnanswered (stops_at basis.names) missing basis.timetable c.args.moment c.args.question.now)
+    (OnlyFailing (g.D.Disk.failures c.args.disk) (g.D.Disk.failures c.into_disk.result))
+    (λ fault. unanswered_fails (stops_at basis.names) missing basis.timetable c.args.moment c.args.question.now fault
+    (g.D.Disk.failures c.args.disk) (g.D.Disk.failures c.into_disk.result)) c.ask-answer.ensures.refusal

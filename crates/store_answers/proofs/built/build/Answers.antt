@@ -1,15 +1,18 @@
-use Rattle.std.proofs.Common.{◌≡◌, ◌⊎◌, ◌++◌, subst, sym, ◌∙◌, ap, refl, inl, inr}
+use Rattle.std.proofs.Common.{◌≡◌, ◌⊎◌, ◌++◌, subst, Err, sym, ◌∙◌, ap, refl, inl, inr}
 use Rattle.std.specs.Arc.{arc_value}
+use Rattle.disk_model.specs.Disk.{Grew}
 use Rattle.timetable.specs.Table.{Table}
 use Rattle.section_store.specs.Sections.{Form, form_of}
+use Rattle.section_store.specs.declared.fault.PutFault.TheVariants as puts
 use Rattle.planner_life.specs.Desk.{IsOpening, StandsForSources}
+use Rattle.planner_life.specs.declared.fault.BuildFault.TheVariants as ends
 use Rattle.program_inputs.specs.declared.fault.Fault.{Fault}
 use Rattle.program_inputs.specs.declared.fault.Fault.TheVariants as faults
 use Rattle.store_building.specs.Missing.{OnlyLargeMissing}
 use Rattle.store_answers.specs.Builds.{IsBuilding}
 use Rattle.store_answers.specs.Stores.{form_over}
-use Rattle.store_answers.proofs.BuildFacts.{is_building, is_done, kept_stands, no_device, why_ended}
-use Rattle.store_answers.proofs.OpeningFacts.{unopened}
+use Rattle.store_answers.proofs.BuildFacts.{is_building, is_done, kept_stands, no_device, unbuilt_fails, why_ended}
+use Rattle.store_answers.proofs.OpeningFacts.{memory_fails, unopened, unopened_fails}
 use Rattle.store_answers.proofs.built.build.Goals.{in-Ok-built+in-Ok-report, in-Ok-built+in-Err-report, in-Err-built}
 use Rattle.store_answers.proofs.built.build.Goals as goal
 
@@ -68,4 +71,22 @@ returns-clause-built g c = λ honest.
         building = building;
         why = subst (λ (f : Fault). (f ≡ faults.Memory) ⊎ (f ≡ faults.PutFailed)) (sym w.build_fault.ensures) (why_ended w.in-Err-built.fault);
       }))
+    ]
+
+pub returns-in-Err-clause-device : goal.returns-in-Err-clause-device
+returns-in-Err-clause-device g c =
+    unopened_fails c.in-Err.fault c.from.result (g.D.Disk.failures c.args.disk) (g.D.Disk.failures c.in-Err.disk) c.from.ensures c.in-Err.ensures.device
+
+pub returns-clause-device : goal.returns-clause-device
+returns-clause-device g c =
+    let before = g.D.Disk.failures c.args.disk in
+    let after = g.D.Disk.failures c.into_disk.result in
+    elim c.match-built.branch [
+      | in-Ok-built+in-Ok-report w ↦ rw w.told-is tt
+      | in-Ok-built+in-Err-report w ↦ rw w.told-is (memory_fails before after)
+      | in-Err-built w ↦
+          let failed : w.in-Err-built.fault ≡ ends.NotPut puts.Device → Grew before after = λ is. subst (λ d. Grew before (g.D.Disk.failures d)) (sym c.into_disk.ensures)
+          (subst (λ n. Grew n (g.D.Disk.failures c.build_missing-built.new.desk.disk)) c.in-Ok.ensures.device
+          (c.build_missing-built.ensures.failed (w.in-Err-built.is ∙ ap Err is))) in
+          rw w.told-is (unbuilt_fails w.in-Err-built.fault w.build_fault.result before after w.build_fault.ensures failed)
     ]

@@ -2,7 +2,7 @@ use Rattle.std.proofs.Common.{subst, sym, refl, ◌∙◌, ap, inl, inr}
 use Rattle.std.specs.Arc.{arc_value}
 use Rattle.planner_life.specs.Desk.{IsOpening, StandsForSources}
 use Rattle.store_answers.specs.Stores.{form_over, ids_of}
-use Rattle.store_answers.proofs.OpeningFacts.{over_basis, unopened}
+use Rattle.store_answers.proofs.OpeningFacts.{memory_fails, over_basis, unopened, unopened_fails}
 use Rattle.store_answers.proofs.listed.list.Goals.{in-Ok-ids, in-Err-ids}
 use Rattle.store_answers.proofs.listed.list.Goals as goal
 
@@ -30,3 +30,13 @@ returns-clause-listed g c = λ honest.
       })
       | in-Err-ids w ↦ rw w.report-is (inr (refl, opening))
     ]
+
+pub returns-in-Err-clause-device : goal.returns-in-Err-clause-device
+returns-in-Err-clause-device g c =
+    unopened_fails c.in-Err.fault c.from.result (g.D.Disk.failures c.args.disk) (g.D.Disk.failures c.in-Err.disk) c.from.ensures c.in-Err.ensures.device
+
+pub returns-clause-device : goal.returns-clause-device
+returns-clause-device g c = elim c.match-ids.branch [
+  | in-Ok-ids w ↦ rw w.report-is tt
+  | in-Err-ids w ↦ rw w.report-is (memory_fails (g.D.Disk.failures c.args.disk) (g.D.Disk.failures c.into_disk.result))
+]

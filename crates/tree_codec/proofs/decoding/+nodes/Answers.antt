@@ -9,7 +9,7 @@ use Rattle.tree_codec.proofs.Loops.{with_nodes, level_starts, node_given, level_
 use Rattle.tree_codec.proofs.decoding.+nodes.Goals as goal
 
 pub level-loop-init : goal.level-loop-init
-level-loop-init g t c = rw c.new-nodes.ensures.items (level_starts (byte_count c.args.form.width) c.args.form.stops c.args.levels c.args.count None _)
+level-loop-init g t c = rw c.in_ok-nodes.ensures.items (level_starts (byte_count c.args.form.width) c.args.form.stops c.args.levels c.args.count None _)
 
 pub level-returns-then-levels-eq0 : goal.level-returns-then-levels-eq0
 level-returns-then-levels-eq0 g t c =

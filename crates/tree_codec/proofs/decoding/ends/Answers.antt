@@ -7,7 +7,7 @@ use Rattle.tree_codec.proofs.decoding.ends.Goals as goal
 
 pub returns-in_err-end : goal.returns-in_err-end
 returns-in_err-end g c =
-    let p = err_from_is_err_and c.from_residual.result c.from_residual.ensures.1 in
+    let p = err_from_is_err_and c.from_residual-in_err-end.result c.from_residual-in_err-end.ensures.1 in
     rw (p.1, p.2) (ends_fail c.in_err-end.field-0.0 c.loop.ends.items (byte_count c.args.form.width) c.args.form.stops c.args.count c.loop.counter c.loop.last c.loop.input.bytes.now (ends_at (byte_count c.args.form.width) c.args.form.stops c.args.count None c.args.input.now.bytes.now) c.loop-test.true c.in_err-end.ensures c.loop.invariant)
 
 pub returns-then-not-end_follows : goal.returns-then-not-end_follows
