@@ -148,6 +148,14 @@ kept_back v frees claims s seat h k was is =
     kept_give v frees claims s seat Dropped v.trees (record { call = GiveBack seat s; reply = Done }) h k was (refl, refl)
     (queued_set v.sources v.trees s Dropped (claimed_others v frees claims s seat k was) k.waiting) k.ours k.room (was, refl) is
 
+-- a tree of a claimed source that is handed in where there is room is queued
+pub handed : (sources : List Status) (trees : List FinishedTree) (stopped : Bool) (room seat : ℕ) (t : FinishedTree) → slice_index_or sources t.tree.source Dropped ≡ Claimed seat → length trees < room
+    → Step room (record { sources = sources; queue = sources_of trees; stopped = stopped }) (HandIn seat t.tree.source true) Done (record { sources = slice_set sources t.tree.source Queued; queue = sources_of (trees ++ t ∷ []); stopped = stopped })
+handed sources trees stopped room seat t was few =
+    let queue : sources_of (trees ++ t ∷ []) ≡ sources_of trees ++ t.tree.source ∷ [] = map-append (λ (d : FinishedTree). d.tree.source) trees (t ∷ []) in
+    let fits : length (sources_of trees) < room = rw (length-map trees (λ (d : FinishedTree). d.tree.source)) few in
+    (refl, was, fits, ap (λ (q : List ℕ). record { sources = slice_set sources t.tree.source Queued; queue = q; stopped = stopped }) queue)
+
 -- a tree is handed in
 pub kept_hand : (v : View) (frees : List ℕ) (claims seat : ℕ) (t : FinishedTree) (h : List Entry) → IsKept v frees claims → slice_index_or v.sources t.tree.source Dropped ≡ Claimed seat → length v.trees < v.room → IsOurs v t → h ≡ v.history ++ record { call = HandIn seat t.tree.source true; reply = Done } ∷ []
     → IsKept (record v { sources = slice_set v.sources t.tree.source Queued; trees = v.trees ++ t ∷ []; history = h }) frees (claims - 1)
@@ -157,10 +165,8 @@ kept_hand v frees claims seat t h k was room mine is =
     let now : slice_index_or (slice_set v.sources t.tree.source Queued) t.tree.source Dropped ≡ Queued = get_or-set_same v.sources t.tree.source Queued Dropped below in
     let waiting = queued_push (slice_set v.sources t.tree.source Queued) v.trees t (queued_set v.sources v.trees t.tree.source Queued others k.waiting) others now in
     let long : length (v.trees ++ t ∷ []) ≤ v.room = omega (arith, length-append v.trees (t ∷ []), room) in
-    let queue : sources_of (v.trees ++ t ∷ []) ≡ sources_of v.trees ++ t.tree.source ∷ [] = map-append (λ (d : FinishedTree). d.tree.source) v.trees (t ∷ []) in
-    let fits : length (sources_of v.trees) < v.room = rw (length-map v.trees (λ (d : FinishedTree). d.tree.source)) room in
     kept_give v frees claims t.tree.source seat Queued (v.trees ++ t ∷ []) (record { call = HandIn seat t.tree.source true; reply = Done }) h k was (refl, refl) waiting (ours_push v.table v.rides v.trees t k.ours mine) long
-    (refl, was, fits, ap (λ (q : List ℕ). record { sources = slice_set v.sources t.tree.source Queued; queue = q; stopped = v.stopped }) queue) is
+    (handed v.sources v.trees v.stopped v.room seat t was room) is
 
 -- no more are given out
 pub kept_stop : (v : View) (frees : List ℕ) (claims : ℕ) (h : List Entry) → IsKept v frees claims → h ≡ v.history ++ record { call = Stop; reply = Done } ∷ []
