@@ -32,8 +32,8 @@ fn tree(alloc: Global, table: &Arc<Timetable>, source: u16) -> Result<Finished, 
     Ok(finish(alloc, table, source, rides, &mut scratch, &mut arena)?)
 }
 
-// A tree with a receipt. Where memory is refused both come back, and it is made once more.
-fn stored(alloc: Global, tree: Finished) -> Result<Stored, AllocError>
+// A tree with a receipt. Where memory is refused both come back, which it prints, and it is made once more.
+fn stored<R: Print>(rt: &R, alloc: Global, tree: Finished) -> Result<Stored, AllocError>
     ensures { IfOk result (λ stored. stored.form ≡ form_of tree.table tree.rides) }
 {
     let receipt = Receipt {
@@ -42,10 +42,10 @@ fn stored(alloc: Global, tree: Finished) -> Result<Stored, AllocError>
     };
     match Stored::new(alloc, tree, receipt) {
         Ok(stored) => Ok(stored),
-        Err((tree, receipt)) => match Stored::new(alloc, tree, receipt) {
-            Ok(stored) => Ok(stored),
-            Err(_) => Err(AllocError),
-        },
+        Err((tree, receipt)) => {
+            let _printed = println!(rt; "memory was refused, and the tree came back");
+            Stored::new(alloc, tree, receipt).map_err(|_| AllocError)
+        }
     }
 }
 
@@ -74,11 +74,11 @@ struct Showing {
 
 impl Showing {
     // Shows one copy more; whether it did.
-    fn show_one<R: Wait>(&mut self, rt: &R, alloc: Global) -> bool {
+    fn show_one<R: Wait + Print>(&mut self, rt: &R, alloc: Global) -> bool {
         let Ok(copy) = self.tree.try_copy(alloc) else {
             return false;
         };
-        let Ok(stored) = stored(alloc, copy) else {
+        let Ok(stored) = stored(rt, alloc, copy) else {
             return false;
         };
         self.writer.publish(rt, stored).is_ok()
@@ -109,13 +109,29 @@ fn opened<R: Wait>(rt: &R, alloc: Global, table: &Arc<Timetable>) -> Result<(Wri
     }
 }
 
+// Looks with each reader; whether each found this.
+fn all_find(
+    alloc: Global,
+    readers: Vec<Reader>,
+    expected: Option<(bool, u64)>,
+) -> Result<(Vec<Reader>, bool), AllocError> {
+    let mut back = Vec::new(alloc);
+    let mut right = true;
+    for reader in readers {
+        let (reader, found) = finds(reader, StopId::default());
+        right = right && found == expected;
+        back.push(reader)?;
+    }
+    Ok((back, right))
+}
+
 #[test]
 fn found_once_told(rt: HostRuntime) -> Result<(), Fail> {
     let alloc = rt.alloc();
     let table = Arc::new(alloc, demo(&rt)?)?;
     let b = tree(alloc, &table, 1)?;
     let source = b.tree().source();
-    let stored = stored(alloc, b)?;
+    let stored = stored(&rt, alloc, b)?;
     let (mut writer, reader) = opened(&rt, alloc, &table)?;
     let (mut reader, before) = finds(reader, source);
     let shown = writer.publish(&rt, stored).is_ok();
@@ -149,5 +165,21 @@ fn each_look_shows_what_was_published(rt: HostRuntime) -> Result<(), Fail> {
     }
     showing.close(&rt);
     assert!(rt; right);
+    Ok(())
+}
+
+// Each of the readers that a board was opened for may look, until it is closed.
+#[test]
+fn each_reader_looks_until_the_end(rt: HostRuntime) -> Result<(), Fail> {
+    let alloc = rt.alloc();
+    let table = Arc::new(alloc, demo(&rt)?)?;
+    for places in [1, 64] {
+        let (writer, readers) = open(alloc, &rt, &table, Rides::new(3), Vec::new(alloc), places)?;
+        let looked = all_find(alloc, readers, Some((false, 0)));
+        writer.close(&rt);
+        let (readers, before) = looked?;
+        let (readers, after) = all_find(alloc, readers, None)?;
+        assert!(rt; before && after && readers.len() == places);
+    }
     Ok(())
 }
