@@ -101,6 +101,52 @@ fn shown_first<R: Wait>(
     Err(AllocError)
 }
 
+// The copies, once these trees are shown, and what they were opened for.
+fn opened_copies<R: Wait>(
+    rt: &R,
+    alloc: Global,
+    table: &Arc<Timetable>,
+    rides: Rides,
+    opened: &Told,
+    trees: &[SharedPatterns],
+    readers: usize,
+) -> Result<(Copies, Snapshot<Origin>), AllocError>
+    requires readers { (0 < readers) × (readers ≤ 64) }
+    requires list { opened.now.list ≡ trees.now }
+    ensures origin { IfOk result (λ r. r.1.value ≡ record { form = form_of (arc_value table.now) rides; opened = opened.now }) }
+    ensures shown { IfOk result (λ r. r.0.desk.shown.value ≡ opened_board r.1.value) }
+    ensures knows { IfOk result (λ r. view r.0.desk.place ≡ Some r.1.value) }
+    ensures idle { IfOk result (λ r. drop r.0.behind r.0.log.items ≡ []) }
+{
+    let first = first_copy(alloc, table, rides, opened, trees)?;
+    let second = first_copy(alloc, table, rides, opened, trees)?;
+    let origin = Snapshot::of(first.origin());
+    let copies = shown_first(rt, alloc, first, second, readers)?;
+    Ok((copies, origin))
+}
+
+// The writer of a board with these trees, before it has readers.
+fn opened_writer<R: Wait>(
+    rt: &R,
+    alloc: Global,
+    table: &Arc<Timetable>,
+    rides: Rides,
+    trees: Vec<PatternTree>,
+    readers: usize,
+) -> Result<Writer, AllocError>
+    requires readers { (0 < readers) × (readers ≤ 64) }
+    ensures form { IfOk result (λ w. w.origin.form ≡ form_of (arc_value table.now) rides) }
+    ensures trees { IfOk result (λ w. AllZip IsSameTree trees.items w.told.list) }
+    ensures opened { IfOk result (λ w. (w.origin.opened ≡ w.told) × (w.halted ≡ false)) }
+{
+    let trees = shared_trees(alloc, trees)?;
+    let Some((history, told)) = list_of(&trees) else {
+        return Err(AllocError);
+    };
+    let (copies, origin) = opened_copies(rt, alloc, table, rides, &told, &trees, readers)?;
+    Ok(Writer::new(copies, history, told, origin))
+}
+
 // So many readers.
 fn seats(alloc: Global, writer: &mut Writer, readers: usize) -> Result<Vec<Reader>, AllocError>
     ensures count { IfOk result (λ seats. length seats.items ≡ readers) }
@@ -133,15 +179,7 @@ pub fn open<R: Wait>(
     ensures count { IfOk result (λ r. length r.1.items ≡ readers) }
     ensures each { IfOk result (λ r. All (λ reader. reader ≡ record { origin = r.0.origin; told = r.0.told }) r.1.items) }
 {
-    let trees = shared_trees(alloc, trees)?;
-    let Some((history, told)) = list_of(&trees) else {
-        return Err(AllocError);
-    };
-    let first = first_copy(alloc, table, rides, &told, &trees)?;
-    let second = first_copy(alloc, table, rides, &told, &trees)?;
-    let origin = Snapshot::of(first.origin());
-    let copies = shown_first(rt, alloc, first, second, readers)?;
-    let mut writer = Writer::new(copies, history, told, origin);
+    let mut writer = opened_writer(rt, alloc, table, rides, trees, readers)?;
     match seats(alloc, &mut writer, readers) {
         Ok(readers) => Ok((writer, readers)),
         Err(fault) => {

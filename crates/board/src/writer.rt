@@ -5,13 +5,16 @@ ghost use Rattle.std.specs.Prelude.{IfOk, IfErr, IfSome, MatchBool, MatchResult}
 ghost use Rattle.left_right.specs.Sides.{view};
 ghost use Rattle.board.specs.Board.{IsBoard};
 ghost use Rattle.board.specs.Change.{changed};
+ghost use Rattle.board.specs.Front.{followed_by};
 ghost use Rattle.board.specs.Rule.{Sees as SeesBoard};
 ghost use Rattle.board.specs.Ties.{IsWriting};
+ghost use Rattle.board.specs.Trees.{IsRight};
 
 use crate::history::{History, Told};
 use crate::origin::Origin;
 use crate::reader::Reader;
 use crate::rule::{Copies, Notes, Sees};
+use crate::shared_patterns::SharedPatterns;
 use crate::shown::Change;
 use crate::stored::Stored;
 use std::alloc::AllocError;
@@ -41,14 +44,13 @@ pub(crate) fn show<R: Wait>(rt: &R, copies: Copies, change: Change) -> (Copies, 
 }
 
 // Puts the copies back from where they were taken.
-fn put_back<R: Wait>(rt: &R, place: &mut Option<Copies>, copies: Copies)
+fn put_back(place: &mut Option<Copies>, copies: Copies)
+    requires { place.old ≡ None }
     ensures { place.new ≡ Some copies }
 {
     match mem::replace(place, Some(copies)) {
         None => {}
-        Some(other) => {
-            let _last = other.take(rt);
-        }
+        Some(_) => unreachable!(),
     }
 }
 
@@ -114,22 +116,37 @@ impl Writer {
         if self.halted {
             return Err(Some(stored));
         }
-        let (form, patterns, receipt) = stored.into_parts();
         let mut told = self.told.again();
-        if !told.add(&self.history, &patterns) {
-            return Err(Some(Stored::from_parts(form, patterns, receipt)));
+        if !told.add(&self.history, stored.patterns()) {
+            return Err(Some(stored));
         }
+        if self.show_next(rt, stored.into_patterns(), told) {
+            Ok(())
+        } else {
+            Err(None)
+        }
+    }
+
+    // Shows a tree, with the list that ends with it; true where it did. Where it didn't, the board takes no more.
+    fn show_next<R: Wait>(&mut self, rt: &R, tree: SharedPatterns, told: Told) -> bool
+        requires going { self.old.halted ≡ false }
+        requires told { told ≡ followed_by self.old.told tree }
+        requires right { IsRight self.old.origin.form tree }
+        ensures { MatchBool result
+            (self.new ≡ record { origin = self.old.origin; told = told; halted = false })
+            (self.new ≡ record { origin = self.old.origin; told = self.old.told; halted = true }) }
+    {
         let Some(copies) = self.copies.take() else {
             unreachable!()
         };
-        let (copies, shown) = show(rt, copies, Change::Shows(patterns, told.again()));
-        put_back(rt, &mut self.copies, copies);
-        if !shown {
+        let (copies, shown) = show(rt, copies, Change::Shows(tree, told.again()));
+        put_back(&mut self.copies, copies);
+        if shown {
+            self.told = told;
+        } else {
             self.halted = true;
-            return Err(None);
         }
-        self.told = told;
-        Ok(())
+        shown
     }
 
     /// The list of the trees that were shown by now, for readers to learn.

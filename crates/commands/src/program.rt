@@ -52,8 +52,8 @@ pub fn run_words<
     requires feed { O.IsAlwaysCallable open_feed }
     requires store { S.IsAlwaysCallable open_store }
     requires progress { M.IsAlwaysCallable progress }
-    ensures { IsProgramRun (opening_of (FnOnceReturnsAt S.FnOnce open_store) D.honest D.state D.failures) (FnOnceReturnsAt O.FnOnce open_feed)
-        (AreReaders R.remaining) (map (λ word. word.now) words.entry.now)
+    ensures { IsProgramRun (opening_of (FnOnceReturnsAt S.FnOnce open_store) D.honest D.state D.failures)
+        (FnOnceReturnsAt O.FnOnce open_feed) (AreReaders R.remaining) (map (λ word. word.now) words.entry.now)
         (run_of (W.contents out.old) (W.contents out.new) result.0) result.1 }
 {
     let mut shown = Vec::new(alloc);
