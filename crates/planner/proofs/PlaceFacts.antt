@@ -50,3 +50,8 @@ stops_known names id (Stop stop) are h = one where
   one k d in' = subst (λ i. get_or (stop ∷ []) i d < length names.stops) (let e : 0 ≡ k = omega (arith, in') in e) lt
 stops_known names id (Station stops) are h =
     subst (λ l. All (λ s. s < length names.stops) l) (sym h.3) (children_known names h.1 are)
+
+-- the place of an id has the id's stops
+pub place_found : (names : NameLists) (id : List ℕ) (place : Option Place) → IsPlaceOf names id place → option_map stops_in place ≡ stops_at names id
+place_found names id None h = sym (no_place names id h)
+place_found names id (Some place) h = sym (place_is names id place h)

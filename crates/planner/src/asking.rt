@@ -6,21 +6,11 @@ ghost use Rattle.planner.specs.Questions.{IsAnswer, IsRefusal};
 ghost use Rattle.planner.specs.Gathered.{IsTo, AddsAsked};
 
 use crate::fault::AskFault;
+use crate::places::stops_of;
 use crate::trees::Trees;
 use direct_connections::Network;
 use pattern_query::{Answer, BestSoFar, Patterns};
-use std::slice;
-use timetable::{Names, Place, StopId};
-
-// The stops of a place.
-fn stops_of<'a>(place: &'a Place<'a>) -> &'a [StopId]
-    ensures { result.now ≡ stops_in place.now }
-{
-    match place {
-        Place::Stop(stop) => slice::from_ref(stop),
-        Place::Station(stops) => stops,
-    }
-}
+use timetable::{Names, StopId};
 
 // Puts in the journeys of the patterns to each of the stops.
 fn search_to(

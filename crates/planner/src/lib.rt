@@ -3,8 +3,10 @@
 
 mod asking;
 mod fault;
+mod places;
 mod trees;
 
 pub use asking::ask_on;
 pub use fault::AskFault;
+pub use places::{place_named, stops_of};
 pub use trees::Trees;

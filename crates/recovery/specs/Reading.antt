@@ -1,13 +1,19 @@
 -- What is known of a file as it is read. Only private clauses cite these words.
-use Rattle.std.specs.Prelude.{◌<◌, ◌≡◌, ◌≢◌, ◌⊎◌, ℕ, ◌+◌, ◌^◌, List, ◌∷◌, ◌++◌, length, take, drop, get_or, Result, MatchResult}
+use Rattle.std.specs.Prelude.{◌<◌, ◌≡◌, ◌≢◌, ◌⊎◌, ℕ, ◌+◌, ◌^◌, Bool, true, List, ◌∷◌, ◌++◌, length, take, drop, get_or, Result, MatchResult}
+use Rattle.std.specs.List.{All}
 use Rattle.std.specs.Int.{to_be_bytes, w32}
 use Rattle.disk_model.specs.Disk.{Grew}
+use Rattle.timetable.specs.Table.{stops_of}
 use Rattle.pattern_tree.specs.Content.{Content}
 use Rattle.section_store.specs.Sections.{Form, IsSection, IsSections, IsNew, sized, sources, open_gate}
+use Rattle.section_store.specs.Sources.{is_among}
 use Rattle.section_store.specs.Store.{Begins}
+use Rattle.recovery.specs.Excerpts.{trees_of}
 use Rattle.recovery.specs.Recovery.{IsTail, IsOutside, CauseOf, StandsForNoList, store_name}
 use Rattle.recovery.specs.declared.fault.RecoverFault.{RecoverFault}
 use Rattle.recovery.specs.declared.fault.RecoverFault.TheVariants.{NotAStore, OtherTimetable, OtherRides, Damaged, Device, Memory}
+use Rattle.recovery.specs.declared.wanted.Wanted.{Wanted}
+use Rattle.recovery.specs.declared.wanted.Wanted.TheVariants as wanted
 
 -- no call of the disk failed; or memory was refused, or a call of the disk failed
 abbrev pub OnlyOutside : {T : Type 0} → Result T RecoverFault → ℕ → ℕ → Type 0
@@ -73,3 +79,21 @@ pub record IsSoFar (form : Form) (read : List ℕ) (trees : List Content) (place
 -- the fault is none of the bytes'; or it has its cause in them, and they stand for no list
 abbrev pub IsRefusal : Form → List ℕ → RecoverFault → Type 0
 IsRefusal form bytes fault = IsOutside fault ⊎ (CauseOf form bytes fault × StandsForNoList form bytes)
+
+-- whether the tree of the source is kept
+abbrev pub wants : Wanted → ℕ → Bool
+wants wanted.All source = true
+wants (wanted.Of stops) source = is_among source stops.now
+
+-- the trees that are kept, in the order of the list
+abbrev pub those : Wanted → List Content → List Content
+those wanted.All trees = trees
+those (wanted.Of stops) trees = trees_of stops.now trees
+
+-- the trees of some list were read, of which so much is known, and those that are wanted were kept
+pub record IsRead (form : Form) (which : Wanted) (kept : List Content) (stored : List ℕ) (Known : List Content → Type 0) : Type 0 where
+  pub trees : List Content
+  pub kept_are : kept ≡ those which trees
+  pub stored_are : stored ≡ sources trees
+  pub stops : All (λ tree. tree.source < stops_of form.table) trees
+  pub known : Known trees

@@ -1,6 +1,7 @@
 //! Opens the file of a store that a crash may have left: the list of trees that its bytes stand for, and the store itself.
 #![tactic(auto)]
 
+mod calls;
 mod canonical;
 mod fault;
 mod header;
@@ -9,7 +10,8 @@ mod reading;
 mod recovered;
 mod section;
 mod sections;
+mod wanted;
 
+pub use calls::{recover, recover_trees_of};
 pub use fault::RecoverFault;
-pub use opening::recover;
 pub use recovered::Recovered;

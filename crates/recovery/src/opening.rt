@@ -10,36 +10,39 @@ ghost use Rattle.section_store.specs.Lasting.{LosesNothing, StaysTrusted, IsTrus
 ghost use Rattle.section_store.specs.Sections.{IsFresh, Stands, form_of, sources};
 ghost use Rattle.section_store.specs.Sources.{IsSetOf};
 ghost use Rattle.section_store.specs.Store.{Holds};
-ghost use Rattle.recovery.specs.Reading.{OnlyCounted, IsSoFar, IsShut, IsRefusal};
+ghost use Rattle.recovery.specs.Reading.{OnlyCounted, IsRead, IsSoFar, IsShut, IsRefusal};
 ghost use Rattle.recovery.specs.Recovery.{IsOutside, StandsAsBefore, StandsForNoList, CauseOf};
 
 use crate::fault::RecoverFault;
 use crate::header::first_gate;
 use crate::recovered::Recovered;
 use crate::sections::{Found, read_sections};
+use crate::wanted::Wanted;
 use disk_model::Disk;
-use section_store::laws::{
-    loses_nothing_in_turn, stands_for_one, syncs_lose_nothing, trusted_trees,
-};
+use section_store::laws::{loses_nothing_in_turn, stands_for_one, syncs_lose_nothing};
 use section_store::{Form, PutFault, SectionStore, Step, begin};
 use std::alloc::Global;
 use std::sync::Arc;
 use timetable::{Rides, Timetable};
 
 // Brings to the disk what it has, and reads the store; none where the file is fresh.
-fn look<D: Disk>(alloc: Global, disk: &mut D, form: &Form) -> Result<Option<Found>, RecoverFault>
+fn look<D: Disk>(
+    alloc: Global,
+    wanted: &Wanted<'_>,
+    disk: &mut D,
+    form: &Form,
+) -> Result<Option<Found>, RecoverFault>
     ensures honest { D.honest disk.old ↔ D.honest disk.new }
     ensures synced { D.honest disk.old → OnOk result (D.state disk.new ≡ after_sync (D.state disk.old)) }
     ensures stays { D.honest disk.old → OnErr result
         ((D.state disk.new ≡ D.state disk.old) ⊎ (D.state disk.new ≡ after_sync (D.state disk.old))) }
-    ensures found { D.honest disk.old → IfOk result (λ found. MatchOption found (IsFresh (D.state disk.old).read)
-        (λ found. (¬ IsFresh (D.state disk.old).read)
-        × IsSoFar form.now (D.state disk.old).read found.trees.items found.place × IsShut (drop found.place (D.state disk.old).read))) }
+    ensures fresh { D.honest disk.old → IfOk result (λ found. MatchOption found (IsFresh (D.state disk.old).read)
+        (λ found. (¬ IsFresh (D.state disk.old).read) × IsShut (drop found.place (D.state disk.old).read))) }
+    ensures found { IfOk result (λ found. IfSome found (λ found. IsRead form.now wanted.now found.trees.items found.stored.items
+        (λ trees. D.honest disk.old → IsSoFar form.now (D.state disk.old).read trees found.place))) }
     ensures refused { D.honest disk.old → IfErr result (IsRefusal form.now (D.state disk.old).read) }
-    ensures stored { IfOk result (λ found. IfSome found (λ found. (found.stored.items ≡ sources found.trees.items)
-        × IsSetOf (stops_of form.now.table) found.present found.stored.items)) }
-    ensures known { IfOk result (λ found. IfSome found (λ found. All (λ tree. tree.source < stops_of form.now.table)
-        found.trees.items)) }
+    ensures present { IfOk result (λ found. IfSome found (λ found.
+        IsSetOf (stops_of form.now.table) found.present found.stored.items)) }
     ensures counted { OnlyCounted result (D.failures disk.old) (D.failures disk.new) }
 {
     let mut piece = Vec::new(alloc);
@@ -54,7 +57,7 @@ fn look<D: Disk>(alloc: Global, disk: &mut D, form: &Form) -> Result<Option<Foun
         Err(fault) => Err(fault),
         Ok(gate) => match gate {
             None => Ok(None),
-            Some(start) => match read_sections(alloc, disk, start, end, form, &mut piece) {
+            Some(start) => match read_sections(alloc, wanted, disk, start, end, form, &mut piece) {
                 Err(fault) => Err(fault),
                 Ok(found) => Ok(Some(found)),
             },
@@ -73,19 +76,18 @@ fn begin_fault(fault: PutFault) -> RecoverFault
     }
 }
 
-/// Opens the store of that timetable, and of journeys of at most `rides` rides, that a file holds. What the disk has is
-/// synced first; then the bytes are read, a section at a time. A fresh file is begun; nothing else is written. The trees are
-/// those of the list that the bytes stand for. The disk comes back with each fault, with the same bytes but where a beginning
-/// failed.
-pub fn recover<D: Disk>(
+/// Brings to the disk what it has, and opens the store; a fresh file is begun. The trees that are wanted are kept. The disk comes back with
+/// each fault.
+pub(crate) fn open<D: Disk>(
     alloc: Global,
+    wanted: &Wanted<'_>,
     disk: D,
     table: &Arc<Timetable>,
     rides: Rides,
 ) -> Result<Recovered<D>, (RecoverFault, D)>
-    ensures stands { D.honest disk → IfOk result (λ r. Stands (form_of (arc_value table.now) rides) (D.state disk).read r.trees.items) }
-    ensures holds { D.honest disk → IfOk result (λ r.
-        Holds (form_of (arc_value table.now) rides) r.trees.items r.store.place r.store.stored.items (D.state r.store.disk)) }
+    ensures read { IfOk result (λ r. IsRead (form_of (arc_value table.now) rides) wanted.now r.trees.items r.store.stored.items
+        (λ trees. D.honest disk → Stands (form_of (arc_value table.now) rides) (D.state disk).read trees
+        × Holds (form_of (arc_value table.now) rides) trees r.store.place r.store.stored.items (D.state r.store.disk))) }
     ensures refused { D.honest disk → IfErr result
         (λ e. IsOutside e.0 ⊎ StandsForNoList (form_of (arc_value table.now) rides) (D.state disk).read) }
     ensures cause { D.honest disk → IfErr result (λ e. CauseOf (form_of (arc_value table.now) rides) (D.state disk).read e.0) }
@@ -100,18 +102,13 @@ pub fn recover<D: Disk>(
     ensures trusted { D.honest disk → MatchResult result
         (λ r. StaysTrusted (form_of (arc_value table.now) rides) (D.state disk) (D.state r.store.disk))
         (λ e. StaysTrusted (form_of (arc_value table.now) rides) (D.state disk) (D.state e.1)) }
-    ensures exact { D.honest disk → IsTrusted (form_of (arc_value table.now) rides) (D.state disk)
-        → IfOk result (λ r. All (IsExact (form_of (arc_value table.now) rides)) r.trees.items) }
     ensures written { D.honest disk → ¬ IsFresh (D.state disk).read → MatchResult result
         (λ r. D.state r.store.disk ≡ after_sync (D.state disk))
         (λ e. (D.state e.1 ≡ D.state disk) ⊎ (D.state e.1 ≡ after_sync (D.state disk))) }
     ensures honest { MatchResult result (λ r. D.honest disk ↔ D.honest r.store.disk) (λ e. D.honest disk ↔ D.honest e.1) }
     ensures ready { IfOk result (λ r. (r.store.next ≡ Step.WriteBody) × (r.store.form ≡ form_of (arc_value table.now) rides)) }
-    ensures stored { IfOk result (λ r. r.store.stored.items ≡ sources r.trees.items) }
-    ensures known { IfOk result (λ r. All (λ tree. tree.source < stops_of (arc_value table.now)) r.trees.items) }
 {
     stands_for_one();
-    trusted_trees();
     syncs_lose_nothing();
     loses_nothing_in_turn();
     let Ok(kept) = Arc::try_clone(table) else {
@@ -119,7 +116,7 @@ pub fn recover<D: Disk>(
     };
     let form = Form::new(kept, rides);
     let mut disk = disk;
-    match look(alloc, &mut disk, &form) {
+    match look(alloc, wanted, &mut disk, &form) {
         Err(fault) => Err((fault, disk)),
         Ok(seen) => match seen {
             None => match begin(alloc, disk, table, rides) {

@@ -2,6 +2,7 @@
 //! again.
 
 mod changes;
+mod excerpts;
 mod opening;
 mod stopping;
 mod whole;
