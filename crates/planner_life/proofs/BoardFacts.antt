@@ -1,5 +1,5 @@
 -- What stands on a board once one tree more is shown.
-use Rattle.std.proofs.Common.{◌≡◌, ◌≢◌, ◌≤◌, ◌||◌, Bool, true, false, is_some, nat_eq, Bor, ℕ, zero, suc, Option, Some, None, List, [], ◌∷◌, ◌++◌, length, slice_set, arith, refl, sym, ◌∙◌, ap, subst, inl, inr, ◌⊎◌, All}
+use Rattle.std.proofs.Common.{◌≡◌, ◌≢◌, ◌≤◌, ◌||◌, Bool, true, false, is_some, nat_eq, Bor, ℕ, zero, suc, Option, Some, None, List, [], ◌∷◌, ◌++◌, length, slice_set, arith, refl, get_or, sym, ◌∙◌, ap, subst, inl, inr, ◌⊎◌, All}
 use Rattle.std.specs.List.{Contains}
 use Rattle.std.specs.Option.{option_copied}
 use Rattle.std.specs.List.Sorted.{IsPermutation}
@@ -7,7 +7,7 @@ use Rattle.std.proofs.lemmas.Bool.{cases_eq, false≢true}
 use Rattle.std.proofs.lemmas.Bool.Decides.{nat_tests}
 use Rattle.std.proofs.lemmas.List.{get_or-set_same, get_or-set_other}
 use Rattle.std.proofs.lemmas.List.Sorted.{Contains-permutation}
-use Rattle.std.proofs.lemmas.List.Elements.{All-cons, All-nil, Contains-append_right}
+use Rattle.std.proofs.lemmas.List.Elements.{All-cons, All-nil, Contains-append_cases, Contains-append_right, at_from_Contains}
 use Rattle.timetable.specs.Journeys.{Reaches, Unbeaten}
 use Rattle.pattern_tree.specs.Completeness.{IsPathOf, IsTreeOf}
 use Rattle.pattern_tree.specs.Content.{Content, longest}
@@ -16,6 +16,9 @@ use Rattle.section_store.specs.Lasting.{IsExact}
 use Rattle.section_store.specs.Sections.{Form, IsNew, Stands, AreTexts}
 use Rattle.section_store.specs.Sources.{is_among}
 use Rattle.planner_life.specs.Board.{shown, IsPlaceOf, IsBoardOf, IsRight, AreRight, IsWhole, IsWholeAmong, AreWholeAmong}
+
+pub in_one : (m s : ℕ) → Contains (m ∷ []) s → s ≡ m
+in_one m s (k, below, is) = let zero' : k ≡ 0 = omega (arith, below) in sym (subst (λ (i : ℕ). get_or (m ∷ []) i s ≡ s) zero' is)
 
 -- whether a stop is among some
 pub among_new : (s : ℕ) (list : List ℕ) → is_among s list ≡ false → IsNew s list
@@ -34,6 +37,16 @@ among_has s (m ∷ list) some = elim (cases_eq m s) [
       Contains-append_right (m ∷ []) list s later
 ]
 
+pub among_is : (s : ℕ) (list : List ℕ) → Contains list s → is_among s list ≡ true
+among_is s [] has = let k = at_from_Contains [] s has in absurd (let b : ⊥ = omega (arith, k.1) in b)
+among_is s (m ∷ list) has = elim (cases_eq m s) [
+  | inl same ↦ let met : is_among s (m ∷ list) ≡ true = grind (arith, nat_tests) in met
+  | inr other ↦ elim (Contains-append_cases (m ∷ []) list s has) [
+    | inl here ↦ absurd (other (sym (in_one m s here)))
+    | inr later ↦ let rest = among_is s list later in let met : is_among s (m ∷ list) ≡ true = grind (arith, nat_tests) in met
+  ]
+]
+
 among_last : (s : ℕ) (list : List ℕ) → is_among s (list ++ s ∷ []) ≡ true
 among_last s [] = grind (arith, nat_tests)
 among_last s (m ∷ list) = let later = among_last s list in grind (arith, nat_tests)
@@ -45,7 +58,7 @@ among_other s m (n ∷ list) other = ap (λ (b : Bool). nat_eq n s || b) (among_
 some_is : (a b : Content) → Some a ≡ Some b → a ≡ b
 some_is a b is = cc
 
-none_some : (a : Content) → None ≡ Some a → ⊥
+pub none_some : (a : Content) → None ≡ Some a → ⊥
 none_some a is = cc
 
 -- a tree in its place

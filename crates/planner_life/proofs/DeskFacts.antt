@@ -1,5 +1,5 @@
 -- What a desk tells of the stops of its timetable.
-use Rattle.std.proofs.Common.{IsTrue, ◌≡◌, ◌<◌, ◌≤◌, ◌↔◌, ◌⊎◌, Bool, true, false, is_some, Bor, ℕ, Option, Some, None, List, [], ◌∷◌, arith, refl, get_or, sym, ◌∙◌, subst, inl, inr, All, IfSome, IsSomeAnd}
+use Rattle.std.proofs.Common.{IsTrue, ◌≡◌, ◌<◌, ◌≤◌, ◌↔◌, ◌⊎◌, Bool, true, false, is_some, Bor, ℕ, Option, Some, None, List, [], ◌∷◌, arith, refl, sym, ◌∙◌, inl, inr, All, IfSome, IsSomeAnd}
 use Rattle.std.specs.List.{Contains}
 use Rattle.std.specs.Option.{option_copied}
 use Rattle.std.proofs.lemmas.Bool.{cases_lt, false≢true}
@@ -9,13 +9,10 @@ use Rattle.timetable.specs.Table.{stops_of}
 use Rattle.pattern_tree.specs.Content.{Content}
 use Rattle.section_store.specs.Sections.{Form, IsNew, sources}
 use Rattle.planner_life.specs.Board.{shown, IsPlaceOf, IsDesk, ShowsList}
-use Rattle.planner_life.proofs.BoardFacts.{among_new, among_has, look_none, look_some}
+use Rattle.planner_life.proofs.BoardFacts.{among_new, among_has, in_one, look_none, look_some}
 
 in_none : (s : ℕ) → Contains [] s → ⊥
 in_none s has = let k = at_from_Contains [] s has in let b : ⊥ = omega (arith, k.1) in b
-
-in_one : (m s : ℕ) → Contains (m ∷ []) s → s ≡ m
-in_one m s (k, below, is) = let zero' : k ≡ 0 = omega (arith, below) in sym (subst (λ (i : ℕ). get_or (m ∷ []) i s ≡ s) zero' is)
 
 -- what is new isn't there
 pub new_lacks : (s : ℕ) (list : List ℕ) → IsNew s list → Contains list s → ⊥
@@ -33,11 +30,11 @@ past_new stops s (n ∷ list) all past = (
   past_new stops s list (All-tail (λ m. m < stops) n list all) past,
 )
 
-place_held : (list : List ℕ) (s : ℕ) (place : Option Content) → IsPlaceOf list s place → IsSomeAnd place (λ tree. tree.source ≡ s) ↔ Contains list s
+pub place_held : (list : List ℕ) (s : ℕ) (place : Option Content) → IsPlaceOf list s place → IsSomeAnd place (λ tree. tree.source ≡ s) ↔ Contains list s
 place_held list s None is = (λ held. absurd held, λ has. absurd (new_lacks s list (among_new s list (sym is.there)) has))
 place_held list s (Some tree) is = (λ held. among_has s list (sym is.there), λ has. is.own tree refl)
 
-place_missing : (list : List ℕ) (s : ℕ) (place : Option Content) → IsPlaceOf list s place → (place ≡ None) ↔ IsNew s list
+pub place_missing : (list : List ℕ) (s : ℕ) (place : Option Content) → IsPlaceOf list s place → (place ≡ None) ↔ IsNew s list
 place_missing list s None is = (λ none. among_new s list (sym is.there), λ new. refl)
 place_missing list s (Some tree) is = (λ none. absurd cc, λ new. absurd (new_lacks s list new (among_has s list (sym is.there))))
 

@@ -21,6 +21,10 @@ pub record IsPlaceOf (list : List ℕ) (s : ℕ) (place : Option Content) : Type
 abbrev pub IsBoardOf : ℕ → List ℕ → List (Option Content) → Type 0
 IsBoardOf stops list board = (s : ℕ) → s < stops → IsPlaceOf list s (shown board s)
 
+-- a tree that is there stands in the place of its own source
+abbrev pub AreOwn : List (Option Content) → Type 0
+AreOwn board = (s : ℕ) (tree : Content) → shown board s ≡ Some tree → tree.source ≡ s
+
 -- the board of the trees of these sources, all of them stops of the timetable that the tools are for
 pub record IsDesk (tools form : Form) (list : List ℕ) (board : List (Option Content)) : Type 0 where
   pub same : tools ≡ form
@@ -32,6 +36,11 @@ pub record IsDesk (tools form : Form) (list : List ℕ) (board : List (Option Co
 pub record ShowsList (stops : ℕ) (list : List ℕ) (board : List (Option Content)) : Type 0 where
   pub held : (s : ℕ) → s < stops → IsStored (shown board) s ↔ Contains list s
   pub missing : (s : ℕ) → s < stops → (shown board s ≡ None) ↔ IsNew s list
+
+-- so it does of each of these stops
+pub record ShowsAmong (stops : ℕ) (froms list : List ℕ) (board : List (Option Content)) : Type 0 where
+  pub held : (s : ℕ) → s < stops → Contains froms s → IsStored (shown board) s ↔ Contains list s
+  pub missing : (s : ℕ) → s < stops → Contains froms s → (shown board s ≡ None) ↔ IsNew s list
 
 -- the tree has the patterns of all best journeys from its source, and no others
 abbrev pub IsRight : Form → Content → Type 0

@@ -1,4 +1,4 @@
--- What contracts see of a desk.
+-- What contracts see of a desk, or of an excerpt.
 use Rattle.std.specs.Prelude.{ℕ, List, Option}
 use Rattle.pattern_tree.specs.Content.{Content}
 use Rattle.section_store.specs.Sections.{Form}

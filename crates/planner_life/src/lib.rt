@@ -7,6 +7,7 @@ mod asking;
 mod board;
 mod building;
 mod desk;
+mod excerpt;
 mod fault;
 pub mod laws;
 mod life;
@@ -16,6 +17,7 @@ mod order;
 mod tools;
 
 pub use desk::Desk;
+pub use excerpt::Excerpt;
 pub use fault::BuildFault;
 pub use life::{Life, run_life};
 pub use order::{End, Order, Reply};

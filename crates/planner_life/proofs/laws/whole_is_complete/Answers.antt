@@ -1,4 +1,4 @@
-use Rattle.std.proofs.Common.{◌≡◌, ℕ, Option, Some, List, All, Contains, IsSomeAnd, get_or, sym, subst}
+use Rattle.std.proofs.Common.{◌≡◌, ℕ, Option, List, All, Contains, IsSomeAnd, sym, subst}
 use Rattle.pattern_tree.specs.Content.{Content}
 use Rattle.planner.specs.Questions.{IsStored}
 use Rattle.planner_life.specs.Board.{shown}
