@@ -1,12 +1,12 @@
 -- Answers from the trees of a store, and refusals for want of one.
-use Rattle.std.proofs.Common.{Option, Some, ◌≡◌, ℕ, ◌<◌, Bool, List, take, All, Contains, inl, inr, subst}
-use Rattle.std.proofs.lemmas.List.Elements.{All-take}
+use Rattle.std.proofs.Common.{Option, Some, ◌≡◌, ℕ, ◌<◌, Bool, List, take, All, Contains, inl, inr, sym, subst}
+use Rattle.std.proofs.lemmas.List.Elements.{All-contains_itself, All-take}
 use Rattle.disk_model.specs.Disk.{State}
 use Rattle.timetable.specs.Table.{Table, stops_of}
 use Rattle.pattern_tree.specs.Content.{Content}
 use Rattle.planner.specs.Places.{stops_at}
 use Rattle.planner.specs.Questions.{IsStored}
-use Rattle.planner_life.specs.Board.{ShowsList, shown}
+use Rattle.planner_life.specs.Board.{ShowsAmong, shown}
 use Rattle.planner_life.specs.Desk.{IsOpening, ShowsWhole, StandsForSources}
 use Rattle.planner_life.specs.Laws.{WholeIsComplete}
 use Rattle.command_line.specs.declared.job.Question.{Question}
@@ -26,27 +26,34 @@ pub unanswered_fails : (stops : List ℕ → Option (List ℕ)) (Missing : List 
 unanswered_fails stops Missing table moment question fault before after h (inl e) = absurd (subst (IsUnanswered stops Missing table moment question) e h)
 unanswered_fails stops Missing table moment question fault before after h (inr e) = absurd (subst (IsUnanswered stops Missing table moment question) e h)
 
--- what an opened store shows
-pub record Shows (basis : BasisData) (k : ℕ) (old new : State) (list : List ℕ) (board : List (Option Content)) : Type 0 where
+-- what an opened store shows of the stops to leave from
+pub record Shows (basis : BasisData) (k : ℕ) (old new : State) (question : Question) (list : List ℕ) (board : List (Option Content)) : Type 0 where
   pub sound : IsSound basis
   pub stands : StandsForSources (form_over basis k) list old.read
   pub opening : IsOpening (form_over basis k) old new
-  pub shows : ShowsList (stops_of basis.timetable) list board
+  pub kept : List ℕ
+  pub are_kept : (froms : List ℕ) → stops_at basis.names question.from.now ≡ Some froms → kept ≡ froms
+  pub shows : ShowsAmong (stops_of basis.timetable) kept list board
   pub whole : ShowsWhole (form_over basis k) old list board
 
-module _ (basis : BasisData) (k : ℕ) (old new : State) (list : List ℕ) (board : List (Option Content)) (is : Shows basis k old new list board) where
-  -- the stops of an id are stops of the timetable
-  known : (id : List ℕ) (stops : List ℕ) → stops_at basis.names id ≡ Some stops → All (λ s. s < stops_of basis.timetable) stops
-  known id stops e = subst (λ n. All (λ s. s < n) stops) is.sound.stops (stops_known basis.names id stops is.sound.names e)
+module _ (basis : BasisData) (k : ℕ) (old new : State) (question : Question) (list : List ℕ) (board : List (Option Content))
+    (is : Shows basis k old new question list board) where
+  -- the stops to leave from are stops of the timetable, whose trees were kept
+  known : (froms : List ℕ) → stops_at basis.names question.from.now ≡ Some froms → All (λ s. s < stops_of basis.timetable) froms
+  known froms e = subst (λ n. All (λ s. s < n) froms) is.sound.stops (stops_known basis.names question.from.now froms is.sound.names e)
 
-  -- those whose trees are shown are those of the list
-  stored_in : (stops : List ℕ) → All (λ s. s < stops_of basis.timetable) stops → All (IsStored (shown board)) stops → All (Contains list) stops
-  stored_in stops below stored i d lt = (is.shows.held _ (below i d lt)).0 (stored i d lt)
+  kept_of : (froms : List ℕ) → stops_at basis.names question.from.now ≡ Some froms → All (Contains is.kept) froms
+  kept_of froms e = subst (λ (l : List ℕ). All (Contains l) froms) (sym (is.are_kept froms e)) (All-contains_itself froms)
 
-  pub stored_answer : (moment : Option ℕ) (question : Question) (legs : Bool) (answer : Answer) → WholeIsComplete
+  -- of them those whose trees are shown are those of the list
+  stored_in : (stops : List ℕ) → All (λ s. s < stops_of basis.timetable) stops → All (Contains is.kept) stops → All (IsStored (shown board)) stops
+      → All (Contains list) stops
+  stored_in stops below kept stored i d lt = (is.shows.held _ (below i d lt) (kept i d lt)).0 (stored i d lt)
+
+  pub stored_answer : (moment : Option ℕ) (legs : Bool) (answer : Answer) → WholeIsComplete
       → IsAnswered (stops_at basis.names) (AreTreePoints basis (shown board) legs) basis.timetable moment question answer
       → IsStoredAnswer basis k moment question legs old new answer
-  stored_answer moment question legs answer complete h = record {
+  stored_answer moment legs answer complete h = record {
     trees = is.whole.trees;
     stands = is.whole.stands;
     answered = (
@@ -55,7 +62,7 @@ module _ (basis : BasisData) (k : ℕ) (old new : State) (list : List ℕ) (boar
       h.2,
       h.3,
       record {
-        stored = subst (λ (l : List ℕ). All (Contains l) h.0) is.whole.are (stored_in h.0 (known question.from.now h.0 h.3.leaves) h.4.stored);
+        stored = subst (λ (l : List ℕ). All (Contains l) h.0) is.whole.are (stored_in h.0 (known h.0 h.3.leaves) (kept_of h.0 h.3.leaves) h.4.stored);
         front = h.4.front;
         journeys = h.4.journeys;
         shown = h.4.shown;
@@ -67,11 +74,13 @@ module _ (basis : BasisData) (k : ℕ) (old new : State) (list : List ℕ) (boar
   }
 
   -- the first stop whose tree isn't shown is the first that isn't in the list
-  unstored : (question : Question) (id : List ℕ) → IsMissing basis (shown board) question id → IsUnstored basis list question id
-  unstored question id h =
-      let below = known question.from.now h.0 h.2 in
+  unstored : (id : List ℕ) → IsMissing basis (shown board) question id → IsUnstored basis list question id
+  unstored id h =
+      let below = known h.0 h.2 in
+      let kept = kept_of h.0 h.2 in
       let first = h.3 in
-      let s_below : h.1 < stops_of basis.timetable = subst (λ s. s < stops_of basis.timetable) first.here (below first.index h.1 first.within) in (
+      let s_below : h.1 < stops_of basis.timetable = subst (λ s. s < stops_of basis.timetable) first.here (below first.index h.1 first.within) in
+      let s_kept : Contains is.kept h.1 = subst (Contains is.kept) first.here (kept first.index h.1 first.within) in (
         h.0,
         h.1,
         h.2,
@@ -79,29 +88,30 @@ module _ (basis : BasisData) (k : ℕ) (old new : State) (list : List ℕ) (boar
           index = first.index;
           within = first.within;
           here = first.here;
-          new = (is.shows.missing h.1 s_below).0 first.missing;
-          before = stored_in (take first.index h.0) (All-take (λ s. s < stops_of basis.timetable) first.index h.0 below) first.before;
+          new = (is.shows.missing h.1 s_below s_kept).0 first.missing;
+          before = stored_in (take first.index h.0) (All-take (λ s. s < stops_of basis.timetable) first.index h.0 below)
+              (All-take (Contains is.kept) first.index h.0 kept) first.before;
         },
         h.4,
       )
 
-  why : (moment : Option ℕ) (question : Question) (fault : Fault)
+  why : (moment : Option ℕ) (fault : Fault)
       → IsUnanswered (stops_at basis.names) (IsMissing basis (shown board) question) basis.timetable moment question fault
       → IsUnanswered (stops_at basis.names) (IsUnstored basis list question) basis.timetable moment question fault
-  why moment question (faults.UnknownStop id) h = h
-  why moment question faults.NotCovered h = h
-  why moment question (faults.NotStored id) h = (h.0, h.1, unstored question id.now h.2)
-  why moment question faults.Memory h = tt
-  why moment question faults.BadDate h = absurd h
-  why moment question faults.BadTime h = absurd h
-  why moment question (faults.Feed f) h = absurd h
-  why moment question (faults.Days f) h = absurd h
-  why moment question (faults.Store f) h = absurd h
-  why moment question faults.StoreInUse h = absurd h
-  why moment question faults.PutFailed h = absurd h
-  why moment question faults.TooLarge h = absurd h
+  why moment (faults.UnknownStop id) h = h
+  why moment faults.NotCovered h = h
+  why moment (faults.NotStored id) h = (h.0, h.1, unstored id.now h.2)
+  why moment faults.Memory h = tt
+  why moment faults.BadDate h = absurd h
+  why moment faults.BadTime h = absurd h
+  why moment (faults.Feed f) h = absurd h
+  why moment (faults.Days f) h = absurd h
+  why moment (faults.Store f) h = absurd h
+  why moment faults.StoreInUse h = absurd h
+  why moment faults.PutFailed h = absurd h
+  why moment faults.TooLarge h = absurd h
 
-  pub unanswered_from : (moment : Option ℕ) (question : Question) (fault : Fault)
+  pub unanswered_from : (moment : Option ℕ) (fault : Fault)
       → IsUnanswered (stops_at basis.names) (IsMissing basis (shown board) question) basis.timetable moment question fault
       → IsUnansweredFrom basis k moment question old new fault
-  unanswered_from moment question fault h = record { list = list; stands = is.stands; why = why moment question fault h; opening = is.opening }
+  unanswered_from moment fault h = record { list = list; stands = is.stands; why = why moment fault h; opening = is.opening }
