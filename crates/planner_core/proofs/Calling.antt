@@ -1,5 +1,5 @@
 -- What the disk of an open store holds after each call of a put.
-use Rattle.std.proofs.Common.{◌≡◌, ◌≢◌, ℕ, ◌+◌, Bool, true, false, not, is_ok, Result, Ok, Err, OnOk, MatchResult, MatchBool, List, [], ◌∷◌, ◌++◌, All, refl, sym, ap, ◌∙◌, subst, inl, inr}
+use Rattle.std.proofs.Common.{◌≡◌, ℕ, ◌+◌, Bool, true, false, not, is_ok, Result, Ok, Err, OnOk, MatchResult, MatchBool, List, [], ◌∷◌, ◌++◌, refl, sym, ap, ◌∙◌, subst, inl}
 use Rattle.std.specs.List.{Contains}
 use Rattle.std.proofs.lemmas.List.{append_cancel_left}
 use Rattle.std.proofs.lemmas.List.Elements.{All-push, All-weaker, Contains-append_left, Contains-push}
@@ -17,15 +17,12 @@ use Rattle.section_store.specs.Store.{IsRest, IsBody, IsDurable, IsOpened, Wrote
 use Rattle.section_store.specs.declared.store.Receipt.{Receipt}
 use Rattle.section_store.specs.declared.step.Step.{Step}
 use Rattle.section_store.specs.declared.step.Step.TheVariants as N
-use Rattle.planner_core.specs.Archive.{IsAt, IsPutting, IsResting, IsStage, IsArchive}
+use Rattle.planner_core.specs.Archive.{IsPutting, IsResting, IsStage, IsArchive}
 use Rattle.planner_core.specs.Calls.{OpensGate, WritesSection, extent_of}
 use Rattle.planner_core.specs.Views.{ArchiveView}
 use Rattle.planner_core.proofs.Files.{rest_leaves, source_more}
 
 module _ (form : Form) (trees : List Content) where
-  before : List ℕ → Type 0
-  before bytes = IsSections form bytes trees
-
   -- the section was written
   pub written : (storing more : List ℕ) (tree : Content) (source place end extent : ℕ) (old new : State) → IsResting form trees storing place old
       → IsBody form trees tree end extent new → LeavesOnly old new (λ bytes. IsSections form bytes trees) → IsExact form tree → tree.source ≡ source → more ≡ storing ++ tree.source ∷ []
@@ -47,23 +44,6 @@ module _ (form : Form) (trees : List Content) where
     storing_are = are ∙ ap (λ (l : List ℕ). l ++ tree.source ∷ []) rest.storing_are;
     at = λ bytes left. inl (leaves_last old new (λ b. IsSections form b trees) moments (rest_leaves form trees place old rest.rest) bytes left);
   }
-
-  -- the open gate wasn't brought to the disk
-  pub not_settled : (storing : List ℕ) (source other place end extent size : ℕ) (old new : State) → (is : IsPutting N.SyncGate form trees storing source place extent old)
-      → LeavesOnly old new (λ bytes. IsSections form bytes (trees ++ is.tree ∷ [])) → IsPutting N.Failed form trees storing other end size new
-  not_settled storing source other place end extent size old new is moments =
-      let both : LeavesOnly old new (IsBeforeOrAfter form trees is.tree) = record {
-        since = moments.since;
-        are = moments.are;
-        each = All-weaker (Leaves (λ bytes. IsSections form bytes (trees ++ is.tree ∷ []))) (Leaves (IsBeforeOrAfter form trees is.tree))
-            (λ image leaves. λ bytes left. inr (leaves bytes left)) moments.since moments.each;
-      } in
-      record {
-        tree = is.tree;
-        exact = is.exact;
-        storing_are = is.storing_are;
-        at = leaves_last old new (IsBeforeOrAfter form trees is.tree) both is.at.2;
-      }
 
 -- What a call leaves, by its answer. The call before it told the disk to fail, or did nothing; then the store is as it was.
 module _ (form : Form) (trees : List Content) (storing : List ℕ) (source place extent : ℕ) (old : State) where

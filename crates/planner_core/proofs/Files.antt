@@ -1,21 +1,21 @@
 -- What the disk of an open store holds.
-use Rattle.std.proofs.Common.{◌≡◌, ◌≢◌, ℕ, ◌+◌, List, [], ◌∷◌, ◌++◌, All, refl, sym, ap, ◌∙◌, subst, inl, inr}
+use Rattle.std.proofs.Common.{◌≡◌, ℕ, List, [], ◌∷◌, ◌++◌, All, sym, ◌∙◌, subst, inl, inr}
 use Rattle.std.specs.List.{Contains}
 use Rattle.std.proofs.lemmas.List.{append-nil, map-append}
 use Rattle.std.proofs.lemmas.List.Elements.{All-push, All-weaker, Contains-append_left}
 use Rattle.disk_model.specs.Image.{Image, IsOutcome, settled_image}
 use Rattle.disk_model.specs.Disk.{State}
-use Rattle.disk_model.specs.Moments.{Leaves, LeavesOnly}
-use Rattle.disk_model.proofs.Moments.{leaves_last, only_settled}
+use Rattle.disk_model.specs.Moments.{Leaves}
+use Rattle.disk_model.proofs.Moments.{only_settled}
 use Rattle.pattern_tree.specs.Content.{Content}
 use Rattle.section_store.specs.Going.{IsFront}
 use Rattle.section_store.specs.Lasting.{IsExact, IsTrusted}
 use Rattle.section_store.specs.Laws.{StandsForOne}
 use Rattle.section_store.specs.Sections.{Form, Stands, IsSections, IsBeforeOrAfter, sources}
-use Rattle.section_store.specs.Store.{IsRest, IsBody, IsDurable, IsOpened}
+use Rattle.section_store.specs.Store.{IsRest}
 use Rattle.section_store.specs.declared.step.Step.{Step}
 use Rattle.section_store.specs.declared.step.Step.TheVariants as N
-use Rattle.planner_core.specs.Archive.{IsAt, IsPutting, IsResting, IsStage, IsArchive}
+use Rattle.planner_core.specs.Archive.{IsStage, IsArchive}
 use Rattle.planner_core.specs.Safety.{IsSafeFile, IsSafeDisk}
 
 -- a store at rest stands for its trees

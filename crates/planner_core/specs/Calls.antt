@@ -1,5 +1,5 @@
 -- The four calls of the disk by which a tree is put, each done or failed.
-use Rattle.std.specs.Prelude.{◌≡◌, ℕ, ◌+◌, Bool, true, false, List, [], ◌∷◌, ◌++◌}
+use Rattle.std.specs.Prelude.{◌≡◌, ℕ, ◌+◌, Bool, true, false, [], ◌∷◌, ◌++◌}
 use Rattle.disk_model.specs.Disk.{State, after_sync, after_write, WriteFailed}
 use Rattle.pattern_tree.specs.Finished.{FinishedTree}
 use Rattle.section_store.specs.Sections.{open_gate}

@@ -1,4 +1,4 @@
-use Rattle.std.proofs.Common.{◌≡◌, ◌<◌, ◌∙◌, List, All, refl, sym, ap, subst, inl, inr}
+use Rattle.std.proofs.Common.{◌≡◌, ◌<◌, ◌∙◌, List, All, refl, sym, subst, inl, inr}
 use Rattle.std.specs.Arc.{arc_value}
 use Rattle.std.specs.List.{Contains}
 use Rattle.std.proofs.lemmas.List.Elements.{All-contains_itself}
@@ -7,7 +7,7 @@ use Rattle.disk_model.specs.MemDisk.{state_of}
 use Rattle.timetable.specs.Table.{stops_of}
 use Rattle.pattern_tree.specs.Content.{Content}
 use Rattle.section_store.specs.Lasting.{IsExact, IsTrusted}
-use Rattle.section_store.specs.Sections.{Form, Stands, form_of, sources}
+use Rattle.section_store.specs.Sections.{Form, Stands, form_of}
 use Rattle.planner_core.specs.Cores.{running_of}
 use Rattle.planner_core.specs.Steps.{Begins}
 use Rattle.planner_core.proofs.Starting.{begin_sound}

@@ -5,7 +5,7 @@ use Rattle.section_store.specs.Sections.{open_gate}
 use Rattle.section_store.specs.declared.step.Step.{Step}
 use Rattle.section_store.specs.declared.step.Step.TheVariants as N
 use Rattle.planner_core.specs.Archive.{IsStage}
-use Rattle.planner_core.specs.Calls.{OpensGate, extent_of}
+use Rattle.planner_core.specs.Calls.{extent_of}
 use Rattle.planner_core.specs.Views.{ArchiveView}
 use Rattle.planner_core.proofs.Calling.{after_open_gate, gate_case, still_archive}
 use Rattle.planner_core.proofs.archive.Archive.open_gate.Goals as goal

@@ -1,4 +1,4 @@
-use Rattle.std.proofs.Common.{◌≡◌, ◌∙◌, ◌++◌, [], ◌∷◌, ap, subst, sym, not, refl, Bool, true, false}
+use Rattle.std.proofs.Common.{◌≡◌, ◌∙◌, ◌++◌, [], ◌∷◌, ap, subst, sym, not, true, false}
 use Rattle.disk_model.specs.MemDisk.{state_of}
 use Rattle.pattern_tree.specs.Content.{Content}
 use Rattle.section_store.specs.Fault.{CauseOf, IsTooLarge}
@@ -7,9 +7,7 @@ use Rattle.section_store.specs.Sections.{Form}
 use Rattle.section_store.specs.Store.{Holds, WroteBody, BodyFailed}
 use Rattle.section_store.specs.declared.step.Step.{Step}
 use Rattle.section_store.specs.declared.step.Step.TheVariants as N
-use Rattle.section_store.specs.declared.fault.PutFault.TheVariants as F
 use Rattle.planner_core.specs.Archive.{IsStage}
-use Rattle.planner_core.specs.Calls.{extent_of}
 use Rattle.planner_core.specs.Views.{ArchiveView}
 use Rattle.planner_core.proofs.Calling.{written, not_written, still_archive, section_made, section_failed}
 use Rattle.planner_core.proofs.archive.Archive.write_body.Goals as goal
