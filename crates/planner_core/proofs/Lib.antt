@@ -1,0 +1,10 @@
+pub mod Starting
+pub mod Calling
+pub mod Files
+pub mod Hands
+pub mod Lifts
+pub mod Runs
+pub mod Sound
+pub mod SoundCalls
+pub mod Statuses
+pub mod Stepping

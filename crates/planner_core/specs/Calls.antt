@@ -1,0 +1,60 @@
+-- The four calls of the disk by which a tree is put, each done or failed.
+use Rattle.std.specs.Prelude.{◌≡◌, ℕ, ◌+◌, Bool, true, false, [], ◌∷◌, ◌++◌}
+use Rattle.disk_model.specs.Disk.{State, after_sync, after_write, WriteFailed}
+use Rattle.pattern_tree.specs.Finished.{FinishedTree}
+use Rattle.section_store.specs.Sections.{open_gate}
+use Rattle.section_store.specs.Store.{WroteBody, BodyFailed}
+use Rattle.section_store.specs.declared.step.Step.{Step}
+use Rattle.section_store.specs.declared.step.Step.TheVariants.{WriteBody, SyncBody, OpenGate, SyncGate, Failed}
+use Rattle.planner_core.specs.Views.{ArchiveView}
+
+-- how long the section is that was written, while its gate isn't open for good
+abbrev pub extent_of : Step → ℕ → ℕ
+extent_of WriteBody extent = 0
+extent_of SyncBody extent = extent
+extent_of OpenGate extent = extent
+extent_of SyncGate extent = extent
+extent_of Failed extent = 0
+
+-- after a call that failed none comes any more, and the disk is as the call left it
+abbrev pub after_failure : State → ArchiveView → ArchiveView
+after_failure disk a = record a { extent = 0; next = Failed; disk = disk }
+
+-- after a call that was done: the disk, and the call that comes next
+abbrev pub after_call : Step → State → ArchiveView → ArchiveView
+after_call next disk a = record a { next = next; disk = disk }
+
+-- the put of a source has begun
+abbrev pub with_put : ℕ → ArchiveView → ArchiveView
+with_put source a = record a { storing = a.storing ++ source ∷ [] }
+
+-- the section of a tree is written behind the closed gate
+abbrev pub WritesSection : Bool → FinishedTree → ArchiveView → ArchiveView → Type 0
+WritesSection true t old new =
+    (disk : State) × BodyFailed t old.place old.disk disk × (new ≡ after_failure disk (with_put t.tree.source old))
+WritesSection false t old new =
+    (size : ℕ) × (disk : State) × WroteBody t old.place size old.disk disk
+    × (new ≡ record old { extent = size; next = SyncBody; disk = disk; storing = old.storing ++ t.tree.source ∷ [] })
+
+-- it is brought to the disk
+abbrev pub SyncsSection : Bool → ArchiveView → ArchiveView → Type 0
+SyncsSection true old new = new ≡ after_failure old.disk old
+SyncsSection false old new = new ≡ after_call OpenGate (after_sync old.disk) old
+
+-- the gate before it is opened
+abbrev pub OpensGate : Bool → ArchiveView → ArchiveView → Type 0
+OpensGate true old new = (disk : State) × WriteFailed old.place 1 old.disk disk × (new ≡ after_failure disk old)
+OpensGate false old new = new ≡ after_call SyncGate (after_write old.place (open_gate ∷ []) old.disk) old
+
+-- that is brought to the disk, and then the source has its receipt: its tree is stored, and the closed gate stands behind it
+abbrev pub SyncsGate : Bool → ℕ → ArchiveView → ArchiveView → Type 0
+SyncsGate true source old new = new ≡ after_failure old.disk old
+SyncsGate false source old new =
+    new ≡ record old {
+      stored = old.stored ++ source ∷ [];
+      place = old.place + old.extent;
+      extent = 0;
+      next = WriteBody;
+      disk = after_sync old.disk;
+      acknowledged = old.acknowledged ++ source ∷ [];
+    }
