@@ -10,7 +10,7 @@ use std::sync::{Arc, Wait};
 use std::thread;
 use std::thread::Threads;
 use timetable::Timetable;
-use work_ledger::{Entry, Ledger};
+use work_ledger::{Call, Entry, Ledger};
 
 /// The number of the ninth seat, which stores.
 pub const STORER: u8 = 8;
@@ -62,6 +62,45 @@ pub fn history<B: Basis, R: Wait>(
     Ok(history)
 }
 
+// How often one looks for what others are to do.
+const LONG: u32 = 10_000_000;
+
+/// Looks until the history has so many entries; whether it came to that.
+pub fn comes_to<B: Basis, R: Wait>(
+    rt: &R,
+    shared: &Shared<B>,
+    seat: &Seat,
+    entries: usize,
+) -> bool {
+    for _ in 0..LONG {
+        if shared.entries(rt, seat) >= entries {
+            return true;
+        }
+        thread::yield_now();
+    }
+    false
+}
+
+// Whether the ledger was told to stop.
+fn is_stopped<B: Basis, R: Wait>(rt: &R, shared: &Shared<B>, seat: &Seat) -> bool {
+    for number in 0..shared.entries(rt, seat) {
+        if let Some(entry) = shared.entry(rt, seat, number)
+            && entry.call == Call::Stop
+        {
+            return true;
+        }
+    }
+    false
+}
+
+/// Closes the ledger, and once more where memory was refused for the entry.
+pub fn close<B: Basis, R: Wait>(rt: &R, shared: &Shared<B>, seat: &Seat) {
+    shared.close(rt, seat);
+    if !is_stopped(rt, shared, seat) {
+        shared.close(rt, seat);
+    }
+}
+
 // Works at a seat to the end, or to where memory is refused twice. The seat of number `storer` stores too.
 fn work<B: Basis, R: Wait>(
     rt: &R,
@@ -79,20 +118,24 @@ fn work<B: Basis, R: Wait>(
     worker.leave()
 }
 
-// Stores until no tree comes.
+// Stores until no tree comes. None where no call comes either, as no thread could be made; then the ledger is closed.
 fn store_all<B: Basis, R: Wait>(
     rt: &R,
     alloc: Global,
     shared: &Shared<B>,
     seat: Seat,
-) -> Vec<Entry> {
+) -> Option<Vec<Entry>> {
+    if !comes_to(rt, shared, &seat, 1) {
+        close(rt, shared, &seat);
+        return None;
+    }
     let mut worker = Worker::new(rt, alloc, shared, seat);
     for _ in 0..u32::MAX {
         if !worker.store() {
             break;
         }
     }
-    worker.leave()
+    Some(worker.leave())
 }
 
 // Two seats at once.
@@ -155,7 +198,7 @@ fn eight_and_one<B: Basis + Send + Sync, R: Threads + Wait + Sync>(
     table: &Arc<Timetable>,
     workers: ([Seat; 4], [Seat; 4]),
     storer: Seat,
-) -> (([Vec<Entry>; 4], [Vec<Entry>; 4]), Vec<Entry>) {
+) -> (([Vec<Entry>; 4], [Vec<Entry>; 4]), Option<Vec<Entry>>) {
     thread::join(
         rt,
         || eight(rt, alloc, shared, table, STORER, workers),
@@ -190,13 +233,13 @@ pub fn four_seats<B: Basis + Send + Sync, R: Threads + Wait + Sync>(
     })
 }
 
-/// Eight seats work at once, and a ninth stores.
+/// Eight seats work at once, and a ninth stores. None where no thread could be made.
 pub fn nine_seats<B: Basis + Send + Sync, R: Threads + Wait + Sync>(
     rt: &R,
     alloc: Global,
     table: &Arc<Timetable>,
     ledger: Ledger,
-) -> Result<Course, AllocError>
+) -> Result<Option<Course>, AllocError>
     requires table { ledger.table ≡ B.table }
     requires rides { ledger.rides ≡ B.rides }
 {
@@ -208,13 +251,14 @@ pub fn nine_seats<B: Basis + Send + Sync, R: Threads + Wait + Sync>(
         return Err(AllocError);
     };
     let ((first, second), last) = eight_and_one(rt, alloc, &shared, table, (first, second), last);
+    let Some(last) = last else {
+        return Ok(None);
+    };
     let mut told = Vec::from_array(alloc, first)?;
     for entries in second {
         told.push(entries)?;
     }
     told.push(last)?;
-    Ok(Course {
-        told,
-        history: history(rt, alloc, &shared, &reader)?,
-    })
+    let history = history(rt, alloc, &shared, &reader)?;
+    Ok(Some(Course { told, history }))
 }

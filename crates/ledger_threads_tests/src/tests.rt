@@ -100,7 +100,13 @@ fn each_source_once(rt: HostRuntime) -> Result<(), Fail> {
     let alloc = rt.alloc();
     let table = bare_stops(&rt, 10_000)?;
     for _ in 0..10_u32 {
-        let course = nine_seats::<Brand, _>(&rt, alloc, &table, ledger(alloc, &table, 1)?)?;
+        let course = match nine_seats::<Brand, _>(&rt, alloc, &table, ledger(alloc, &table, 1)?)? {
+            None => nine_seats::<Brand, _>(&rt, alloc, &table, ledger(alloc, &table, 1)?)?,
+            course => course,
+        };
+        let Some(course) = course else {
+            return Err(Fail::new("no threads"));
+        };
         assert!(rt; counts(alloc, &course, usize::from(STORER), 10_000)?);
     }
     Ok(())

@@ -2,7 +2,7 @@
 
 ghost use Rattle.std.specs.Prelude.{◌≡◌};
 
-use crate::meeting::{history, opened};
+use crate::meeting::{close, comes_to, history, opened};
 use crate::setting::{Workshop, bare_stops, ledger};
 use crate::working::Worker;
 use shared_ledger::{Basis, Seat, Shared};
@@ -13,41 +13,7 @@ use std::test::Fail;
 use std::thread;
 use std::thread::Threads;
 use timetable::{StopId, Timetable};
-use work_ledger::{Call, Claimed, Entry, Ledger, Reply};
-
-// How often one looks for what others are to do.
-const LONG: u32 = 10_000_000;
-
-// Looks until the history has so many entries; whether it came to that.
-fn comes_to<B: Basis, R: Wait>(rt: &R, shared: &Shared<B>, seat: &Seat, entries: usize) -> bool {
-    for _ in 0..LONG {
-        if shared.entries(rt, seat) >= entries {
-            return true;
-        }
-        thread::yield_now();
-    }
-    false
-}
-
-// Whether the ledger was told to stop.
-fn is_stopped<B: Basis, R: Wait>(rt: &R, shared: &Shared<B>, seat: &Seat) -> bool {
-    for number in 0..shared.entries(rt, seat) {
-        if let Some(entry) = shared.entry(rt, seat, number)
-            && entry.call == Call::Stop
-        {
-            return true;
-        }
-    }
-    false
-}
-
-// Closes the ledger, and once more where memory was refused for the entry.
-fn close<B: Basis, R: Wait>(rt: &R, shared: &Shared<B>, seat: &Seat) {
-    shared.close(rt, seat);
-    if !is_stopped(rt, shared, seat) {
-        shared.close(rt, seat);
-    }
-}
+use work_ledger::{Call, Entry, Ledger, Reply};
 
 // What a seat met that handed in one tree: what it was told, and the source of the tree that came back.
 #[derive(Drop)]
@@ -80,12 +46,11 @@ fn entry(call: Call, reply: Reply) -> Entry {
     Entry { call, reply }
 }
 
-// Two that waited for room, the history, and whether both waited before the ledger was closed.
+// Two that waited for room, and the history.
 #[derive(Drop)]
 struct Crowd {
     one: Met,
     other: Met,
-    waited: bool,
     history: Vec<Entry>,
 }
 
@@ -105,13 +70,14 @@ fn both<B: Basis + Send + Sync, R: Threads + Wait + Sync>(
     )
 }
 
-// A tree fills the queue, two wait with theirs, and the last seat closes the ledger.
+// A tree fills the queue, two wait with theirs, and the last seat closes the ledger. None where they don't come to wait, as no thread could
+// be made.
 fn fill_and_close<B: Basis + Send + Sync, R: Threads + Wait + Sync>(
     rt: &R,
     alloc: Global,
     table: &Arc<Timetable>,
     ledger: Ledger,
-) -> Result<Crowd, AllocError>
+) -> Result<Option<Crowd>, AllocError>
     requires table { ledger.table ≡ B.table }
     requires rides { ledger.rides ≡ B.rides }
 {
@@ -135,12 +101,15 @@ fn fill_and_close<B: Basis + Send + Sync, R: Threads + Wait + Sync>(
             waited
         },
     );
-    Ok(Crowd {
+    if !waited {
+        return Ok(None);
+    }
+    let history = history(rt, alloc, shared, &closer)?;
+    Ok(Some(Crowd {
         one,
         other,
-        waited,
-        history: history(rt, alloc, shared, &closer)?,
-    })
+        history,
+    }))
 }
 
 // How often an entry stands there.
@@ -171,8 +140,13 @@ fn has_its_tree_back(met: &Met, seat: u8, before: &[Entry], since: &[Entry]) -> 
 fn closed_at_a_full_queue(rt: HostRuntime) -> Result<(), Fail> {
     let alloc = rt.alloc();
     let table = bare_stops(&rt, 5)?;
-    let crowd = fill_and_close::<Brand, _>(&rt, alloc, &table, ledger(alloc, &table, 1)?)?;
-    assert!(rt; crowd.waited);
+    let crowd = match fill_and_close::<Brand, _>(&rt, alloc, &table, ledger(alloc, &table, 1)?)? {
+        None => fill_and_close::<Brand, _>(&rt, alloc, &table, ledger(alloc, &table, 1)?)?,
+        crowd => crowd,
+    };
+    let Some(crowd) = crowd else {
+        return Err(Fail::new("nobody waits"));
+    };
     assert_eq!(rt; crowd.history.len(), 9);
     let (before, since) = crowd.history.split_at(6);
     assert!(rt; since[0] == entry(Call::Stop, Reply::Done));
@@ -189,21 +163,21 @@ fn none_comes<B: Basis, R: Wait>(rt: &R, shared: &Shared<B>, seat: &Seat) -> boo
     }
 }
 
-// What came of a take that waited: whether no tree was to come, whether it waited before that was so, and the history.
+// What came of a take that waited: whether it was told that no tree will come, and the history.
 #[derive(Drop)]
 struct Lone {
     none: bool,
-    waited: bool,
     history: Vec<Entry>,
 }
 
-// A take waits for the tree of a source that is claimed, if one `is_claimed`. Then the ledger is closed, and the source given back.
+// A take waits for the tree of a source that is claimed, if one `is_claimed`. Then the ledger is closed, and the source given back. None
+// where the take doesn't come to wait, as no thread could be made.
 fn closed_while_empty<B: Basis + Send + Sync, R: Threads + Wait + Sync>(
     rt: &R,
     alloc: Global,
     ledger: Ledger,
     is_claimed: bool,
-) -> Result<Lone, AllocError>
+) -> Result<Option<Lone>, AllocError>
     requires table { ledger.table ≡ B.table }
     requires rides { ledger.rides ≡ B.rides }
 {
@@ -226,45 +200,73 @@ fn closed_while_empty<B: Basis + Send + Sync, R: Threads + Wait + Sync>(
             waited
         },
     );
+    if !waited {
+        return Ok(None);
+    }
     let history = history(rt, alloc, shared, &closer)?;
-    Ok(Lone {
-        none,
-        waited,
-        history,
-    })
+    Ok(Some(Lone { none, history }))
 }
 
-#[test]
-fn closed_at_an_empty_queue(rt: HostRuntime) -> Result<(), Fail> {
-    let alloc = rt.alloc();
-    let table = bare_stops(&rt, 5)?;
-    let lone = closed_while_empty::<Brand, _>(&rt, alloc, ledger(alloc, &table, 1)?, false)?;
-    assert!(rt; lone.none && lone.waited);
-    let wanted = [
-        entry(Call::Take, Reply::Empty),
-        entry(Call::Stop, Reply::Done),
-        entry(Call::Take, Reply::Closed),
-    ];
-    assert!(rt; lone.history.as_slice() == wanted.as_slice());
-    let lone = closed_while_empty::<Brand, _>(&rt, alloc, ledger(alloc, &table, 1)?, true)?;
-    assert!(rt; lone.none && lone.waited);
+// Whether the take was told that no tree will come, behind just these calls: it asked once before the ledger was closed, and once when no
+// source was claimed any longer.
+fn waits_for_the_last(lone: &Lone, is_claimed: bool) -> bool {
+    let history = lone.history.as_slice();
+    if !is_claimed {
+        return lone.none
+            && history
+                == [
+                    entry(Call::Take, Reply::Empty),
+                    entry(Call::Stop, Reply::Done),
+                    entry(Call::Take, Reply::Closed),
+                ]
+                .as_slice();
+    }
     let Some(
         Entry {
             reply: Reply::Source(source),
             ..
         },
-    ) = lone.history.first()
+    ) = history.first()
     else {
-        return Err(Fail::new("no source"));
+        return false;
     };
-    let wanted = [
-        entry(Call::Claim(1), Reply::Source(*source)),
-        entry(Call::Take, Reply::Empty),
-        entry(Call::Stop, Reply::Done),
-        entry(Call::GiveBack(1, *source), Reply::Done),
-        entry(Call::Take, Reply::Closed),
-    ];
-    assert!(rt; lone.history.as_slice() == wanted.as_slice());
+    lone.none
+        && history
+            == [
+                entry(Call::Claim(1), Reply::Source(*source)),
+                entry(Call::Take, Reply::Empty),
+                entry(Call::Stop, Reply::Done),
+                entry(Call::GiveBack(1, *source), Reply::Done),
+                entry(Call::Take, Reply::Closed),
+            ]
+            .as_slice()
+}
+
+// A take that waits is told that no tree will come once the ledger is closed, and no source is claimed.
+#[test]
+fn closed_at_an_empty_queue(rt: HostRuntime) -> Result<(), Fail> {
+    let alloc = rt.alloc();
+    let table = bare_stops(&rt, 5)?;
+    for is_claimed in [false, true] {
+        let lone = match closed_while_empty::<Brand, _>(
+            &rt,
+            alloc,
+            ledger(alloc, &table, 1)?,
+            is_claimed,
+        )? {
+            None => closed_while_empty::<Brand, _>(
+                &rt,
+                alloc,
+                ledger(alloc, &table, 1)?,
+                is_claimed,
+            )?,
+            lone => lone,
+        };
+        let Some(lone) = lone else {
+            return Err(Fail::new("nobody waits"));
+        };
+        assert!(rt; waits_for_the_last(&lone, is_claimed));
+    }
     Ok(())
 }
 
@@ -273,13 +275,13 @@ fn end_early<B: Basis, R: Wait>(mut worker: Worker<'_, B, R>) -> Option<StopId> 
     worker.claim()
 }
 
-// A take waits, and all other seats are left: by a worker that ends without a word, by one that is let go, and by a
-// call.
+// A take waits, and all other seats are left: by a worker that ends without a word, by one that is let go, and by a call. None where the
+// take doesn't come to wait, as no thread could be made.
 fn all_left<B: Basis + Send + Sync, R: Threads + Wait + Sync>(
     rt: &R,
     alloc: Global,
     ledger: Ledger,
-) -> Result<Lone, AllocError>
+) -> Result<Option<Lone>, AllocError>
     requires table { ledger.table ≡ B.table }
     requires rides { ledger.rides ≡ B.rides }
 {
@@ -304,34 +306,47 @@ fn all_left<B: Basis + Send + Sync, R: Threads + Wait + Sync>(
             waited
         },
     );
+    if !waited {
+        return Ok(None);
+    }
     let history = history(rt, alloc, shared, &taker)?;
-    Ok(Lone {
-        none,
-        waited,
-        history,
-    })
+    Ok(Some(Lone { none, history }))
 }
 
-#[test]
-fn left_by_all_others(rt: HostRuntime) -> Result<(), Fail> {
-    let alloc = rt.alloc();
-    let table = bare_stops(&rt, 5)?;
-    let lone = all_left::<Brand, _>(&rt, alloc, ledger(alloc, &table, 1)?)?;
-    assert!(rt; lone.none && lone.waited);
+// Whether the take was told that no tree will come, though a source is claimed: it asked once before the others left, and once when all had.
+fn waits_for_all(lone: &Lone) -> bool {
+    let history = lone.history.as_slice();
     let Some(
         Entry {
             reply: Reply::Source(source),
             ..
         },
-    ) = lone.history.get(1)
+    ) = history.get(1)
     else {
-        return Err(Fail::new("no source"));
+        return false;
     };
-    let wanted = [
-        entry(Call::Take, Reply::Empty),
-        entry(Call::Claim(1), Reply::Source(*source)),
-        entry(Call::Take, Reply::Empty),
-    ];
-    assert!(rt; lone.history.as_slice() == wanted.as_slice());
+    lone.none
+        && history
+            == [
+                entry(Call::Take, Reply::Empty),
+                entry(Call::Claim(1), Reply::Source(*source)),
+                entry(Call::Take, Reply::Empty),
+            ]
+            .as_slice()
+}
+
+// A take that waits is told that no tree will come once all others have left, however they did.
+#[test]
+fn left_by_all_others(rt: HostRuntime) -> Result<(), Fail> {
+    let alloc = rt.alloc();
+    let table = bare_stops(&rt, 5)?;
+    let lone = match all_left::<Brand, _>(&rt, alloc, ledger(alloc, &table, 1)?)? {
+        None => all_left::<Brand, _>(&rt, alloc, ledger(alloc, &table, 1)?)?,
+        lone => lone,
+    };
+    let Some(lone) = lone else {
+        return Err(Fail::new("nobody waits"));
+    };
+    assert!(rt; waits_for_all(&lone));
     Ok(())
 }
