@@ -18,10 +18,19 @@ pub const STORER: u8 = 8;
 // How many trees each seat hands in at most.
 const HANDED_IN: u32 = 15;
 
-/// What each seat was told, from the first on, and the history that was made meanwhile.
+/// What four seats were told, and the history that was made meanwhile.
 #[derive(Drop)]
-pub struct Course {
-    pub told: Vec<Vec<Entry>>,
+pub struct FourAtWork {
+    pub told: [Vec<Entry>; 4],
+    pub history: Vec<Entry>,
+}
+
+/// What eight seats were told, what a ninth that stores was told, and the history that was made meanwhile.
+#[derive(Drop)]
+pub struct NineAtWork {
+    pub first: [Vec<Entry>; 4],
+    pub second: [Vec<Entry>; 4],
+    pub last: Vec<Entry>,
     pub history: Vec<Entry>,
 }
 
@@ -218,7 +227,7 @@ pub fn four_seats<B: Basis + Send + Sync, R: Threads + Wait + Sync>(
     alloc: Global,
     table: &Arc<Timetable>,
     ledger: Ledger,
-) -> Result<Course, AllocError>
+) -> Result<FourAtWork, AllocError>
     requires table { ledger.table ≡ B.table }
     requires rides { ledger.rides ≡ B.rides }
 {
@@ -227,10 +236,8 @@ pub fn four_seats<B: Basis + Send + Sync, R: Threads + Wait + Sync>(
         return Err(AllocError);
     };
     let told = four(rt, alloc, &shared, table, 0, workers);
-    Ok(Course {
-        told: Vec::from_array(alloc, told)?,
-        history: history(rt, alloc, &shared, &reader)?,
-    })
+    let history = history(rt, alloc, &shared, &reader)?;
+    Ok(FourAtWork { told, history })
 }
 
 /// Eight seats work at once, and a ninth stores. None where no thread could be made.
@@ -239,26 +246,28 @@ pub fn nine_seats<B: Basis + Send + Sync, R: Threads + Wait + Sync>(
     alloc: Global,
     table: &Arc<Timetable>,
     ledger: Ledger,
-) -> Result<Option<Course>, AllocError>
+) -> Result<Option<NineAtWork>, AllocError>
     requires table { ledger.table ≡ B.table }
     requires rides { ledger.rides ≡ B.rides }
 {
     let (shared, mut seats) = opened::<B>(alloc, ledger, 10)?;
-    let (Some(reader), Some(last)) = (seats.pop(), seats.pop()) else {
-        return Err(AllocError);
-    };
-    let (Some(second), Some(first)) = (next_four(&mut seats), next_four(&mut seats)) else {
+    let (Some(reader), Some(last), Some(second), Some(first)) = (
+        seats.pop(),
+        seats.pop(),
+        next_four(&mut seats),
+        next_four(&mut seats),
+    ) else {
         return Err(AllocError);
     };
     let ((first, second), last) = eight_and_one(rt, alloc, &shared, table, (first, second), last);
-    let Some(last) = last else {
-        return Ok(None);
-    };
-    let mut told = Vec::from_array(alloc, first)?;
-    for entries in second {
-        told.push(entries)?;
-    }
-    told.push(last)?;
     let history = history(rt, alloc, &shared, &reader)?;
-    Ok(Some(Course { told, history }))
+    match last {
+        None => Ok(None),
+        Some(last) => Ok(Some(NineAtWork {
+            first,
+            second,
+            last,
+            history,
+        })),
+    }
 }

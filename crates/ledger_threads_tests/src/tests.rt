@@ -1,10 +1,13 @@
 //! Many seats at once: what each was told, beside the history.
 
-use crate::meeting::{Course, STORER, four_seats, nine_seats};
+use crate::meeting::{NineAtWork, four_seats, nine_seats};
 use crate::setting::{bare_stops, ledger};
 use std::alloc::{AllocError, Global};
 use std::marker::Brand;
+use std::sync::{Arc, Wait};
 use std::test::Fail;
+use std::thread::Threads;
+use timetable::Timetable;
 use work_ledger::{Call, Entry, Reply};
 
 // The seat whose call it is, where only the seat `storer` takes and acknowledges.
@@ -21,12 +24,9 @@ fn waits(entry: &Entry) -> bool {
 }
 
 // Whether the replies that the seat got are just its entries in the history, in their order, but for those at which it waited.
-fn is_told(course: &Course, seat: usize, storer: usize) -> bool {
-    let Some(told) = course.told.get(seat) else {
-        return false;
-    };
+fn is_history(history: &[Entry], seat: usize, storer: usize, told: &[Entry]) -> bool {
     let mut told = told.iter();
-    for entry in &course.history {
+    for entry in history {
         if seat_of(entry, storer) == seat && !waits(entry) && told.next() != Some(entry) {
             return false;
         }
@@ -59,55 +59,105 @@ fn are_right(told: &[Entry]) -> bool {
     true
 }
 
-// Whether each of so many sources was given out just once.
-fn each_once(alloc: Global, history: &[Entry], stops: usize) -> Result<bool, AllocError> {
-    let mut given = vec![in alloc; false; stops]?;
+// The numbers of the sources that were given out.
+fn given_out(alloc: Global, history: &[Entry]) -> Result<Vec<usize>, AllocError> {
+    let mut given = Vec::new(alloc);
     for entry in history {
         if let Reply::Source(source) = entry.reply {
-            match given.get_mut(source.number()) {
-                Some(given) if !*given => *given = true,
-                _ => return Ok(false),
-            }
+            given.push(source.number())?;
         }
     }
-    Ok(given.iter().all(|given| *given))
+    Ok(given)
 }
 
-// Whether what the seats were told is right, and just the history, in which each of so many sources is given out once.
-fn counts(alloc: Global, course: &Course, storer: usize, stops: usize) -> Result<bool, AllocError> {
-    for seat in 0..course.told.len() {
-        if !is_told(course, seat, storer) || !are_right(&course.told[seat]) {
-            return Ok(false);
+// Whether each of so many sources was given out just once.
+fn each_once(alloc: Global, history: &[Entry], stops: usize) -> Result<bool, AllocError> {
+    let mut given = given_out(alloc, history)?;
+    given.sort_unstable();
+    Ok(
+        given.len() == stops
+            && given
+                .iter()
+                .zip(0..stops)
+                .all(|(source, stop)| *source == stop),
+    )
+}
+
+// Whether what seats were told, of the numbers from `first` on, is right and just the history.
+fn count(history: &[Entry], first: usize, storer: usize, told: &[Vec<Entry>]) -> bool {
+    for number in 0..told.len() {
+        let told = &told[number];
+        let seat = first.saturating_add(number);
+        if !are_right(told) || !is_history(history, seat, storer, told) {
+            return false;
         }
     }
-    each_once(alloc, &course.history, stops)
+    true
 }
 
-// Four seats over 120 sources, of which the first takes a tree each time it handed one in; so no call waits.
+// Four seats, of which the first takes a tree each time it handed one in, so that no call waits: whether all that they were told is right and
+// just the history, in which each of so many sources is given out once.
+fn four_count<R: Threads + Wait + Sync>(
+    rt: &R,
+    alloc: Global,
+    table: &Arc<Timetable>,
+    stops: usize,
+) -> Result<bool, AllocError> {
+    let seats = four_seats::<Brand, _>(rt, alloc, table, ledger(alloc, table, 256)?)?;
+    let history = seats.history.as_slice();
+    let agree = count(history, 0, 0, &seats.told) && !history.iter().any(waits);
+    Ok(each_once(alloc, history, stops)? && agree)
+}
+
 #[test]
 fn shared_counts(rt: HostRuntime) -> Result<(), Fail> {
     let alloc = rt.alloc();
     let table = bare_stops(&rt, 120)?;
-    let course = four_seats::<Brand, _>(&rt, alloc, &table, ledger(alloc, &table, 256)?)?;
-    assert!(rt; counts(alloc, &course, 0, 120)?);
-    assert!(rt; !course.history.iter().any(|entry| waits(entry)));
+    assert!(rt; four_count(&rt, alloc, &table, 120)?);
     Ok(())
 }
 
-// Ten times eight seats over 10,000 sources, beside a ninth that stores, with room for one tree.
+// Eight seats, beside a ninth that stores, with room for one tree. It is tried once more where no thread could be made.
+fn nine<R: Threads + Wait + Sync>(
+    rt: &R,
+    alloc: Global,
+    table: &Arc<Timetable>,
+) -> Result<NineAtWork, AllocError> {
+    match nine_seats::<Brand, _>(rt, alloc, table, ledger(alloc, table, 1)?)? {
+        None => {
+            nine_seats::<Brand, _>(rt, alloc, table, ledger(alloc, table, 1)?)?.ok_or(AllocError)
+        }
+        Some(seats) => Ok(seats),
+    }
+}
+
+// Whether all that the nine seats were told is right and just the history.
+fn nine_agree(seats: &NineAtWork) -> bool {
+    let history = seats.history.as_slice();
+    count(history, 0, 8, &seats.first)
+        && count(history, 4, 8, &seats.second)
+        && are_right(&seats.last)
+        && is_history(history, 8, 8, &seats.last)
+}
+
+// Whether they agree, and each of so many sources is given out once.
+fn nine_count<R: Threads + Wait + Sync>(
+    rt: &R,
+    alloc: Global,
+    table: &Arc<Timetable>,
+    stops: usize,
+) -> Result<bool, AllocError> {
+    let seats = nine(rt, alloc, table)?;
+    Ok(each_once(alloc, &seats.history, stops)? && nine_agree(&seats))
+}
+
+// Ten times over 10,000 sources.
 #[test]
 fn each_source_once(rt: HostRuntime) -> Result<(), Fail> {
     let alloc = rt.alloc();
     let table = bare_stops(&rt, 10_000)?;
     for _ in 0..10_u32 {
-        let course = match nine_seats::<Brand, _>(&rt, alloc, &table, ledger(alloc, &table, 1)?)? {
-            None => nine_seats::<Brand, _>(&rt, alloc, &table, ledger(alloc, &table, 1)?)?,
-            course => course,
-        };
-        let Some(course) = course else {
-            return Err(Fail::new("no threads"));
-        };
-        assert!(rt; counts(alloc, &course, usize::from(STORER), 10_000)?);
+        assert!(rt; nine_count(&rt, alloc, &table, 10_000)?);
     }
     Ok(())
 }

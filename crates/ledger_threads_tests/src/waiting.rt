@@ -135,21 +135,29 @@ fn has_its_tree_back(met: &Met, seat: u8, before: &[Entry], since: &[Entry]) -> 
         && count(since, &full) == 1
 }
 
+// The same, tried once more where no thread could be made.
+fn wait_for_room<R: Threads + Wait + Sync>(
+    rt: &R,
+    alloc: Global,
+    table: &Arc<Timetable>,
+) -> Result<Crowd, AllocError> {
+    match fill_and_close::<Brand, _>(rt, alloc, table, ledger(alloc, table, 1)?)? {
+        None => fill_and_close::<Brand, _>(rt, alloc, table, ledger(alloc, table, 1)?)?.ok_or(
+            AllocError,
+        ),
+        Some(crowd) => Ok(crowd),
+    }
+}
+
 // One tree fills the queue, and two seats wait with theirs, when a fourth closes the ledger. Both go on with their trees.
 #[test]
 fn closed_at_a_full_queue(rt: HostRuntime) -> Result<(), Fail> {
     let alloc = rt.alloc();
     let table = bare_stops(&rt, 5)?;
-    let crowd = match fill_and_close::<Brand, _>(&rt, alloc, &table, ledger(alloc, &table, 1)?)? {
-        None => fill_and_close::<Brand, _>(&rt, alloc, &table, ledger(alloc, &table, 1)?)?,
-        crowd => crowd,
-    };
-    let Some(crowd) = crowd else {
-        return Err(Fail::new("nobody waits"));
-    };
+    let crowd = wait_for_room(&rt, alloc, &table)?;
     assert_eq!(rt; crowd.history.len(), 9);
     let (before, since) = crowd.history.split_at(6);
-    assert!(rt; since[0] == entry(Call::Stop, Reply::Done));
+    assert!(rt; count(since, &entry(Call::Stop, Reply::Done)) == 1);
     assert!(rt; has_its_tree_back(&crowd.one, 1, before, since));
     assert!(rt; has_its_tree_back(&crowd.other, 2, before, since));
     Ok(())
@@ -242,29 +250,31 @@ fn waits_for_the_last(lone: &Lone, is_claimed: bool) -> bool {
             .as_slice()
 }
 
+// Closes it; tried once more where no thread could be made.
+fn wait_for_the_last<R: Threads + Wait + Sync>(
+    rt: &R,
+    alloc: Global,
+    table: &Arc<Timetable>,
+    is_claimed: bool,
+) -> Result<Lone, AllocError> {
+    match closed_while_empty::<Brand, _>(rt, alloc, ledger(alloc, table, 1)?, is_claimed)? {
+        None => closed_while_empty::<Brand, _>(
+            rt,
+            alloc,
+            ledger(alloc, table, 1)?,
+            is_claimed,
+        )?.ok_or(AllocError),
+        Some(lone) => Ok(lone),
+    }
+}
+
 // A take that waits is told that no tree will come once the ledger is closed, and no source is claimed.
 #[test]
 fn closed_at_an_empty_queue(rt: HostRuntime) -> Result<(), Fail> {
     let alloc = rt.alloc();
     let table = bare_stops(&rt, 5)?;
     for is_claimed in [false, true] {
-        let lone = match closed_while_empty::<Brand, _>(
-            &rt,
-            alloc,
-            ledger(alloc, &table, 1)?,
-            is_claimed,
-        )? {
-            None => closed_while_empty::<Brand, _>(
-                &rt,
-                alloc,
-                ledger(alloc, &table, 1)?,
-                is_claimed,
-            )?,
-            lone => lone,
-        };
-        let Some(lone) = lone else {
-            return Err(Fail::new("nobody waits"));
-        };
+        let lone = wait_for_the_last(&rt, alloc, &table, is_claimed)?;
         assert!(rt; waits_for_the_last(&lone, is_claimed));
     }
     Ok(())
@@ -335,18 +345,24 @@ fn waits_for_all(lone: &Lone) -> bool {
             .as_slice()
 }
 
+// All leave; tried once more where no thread could be made.
+fn wait_for_all<R: Threads + Wait + Sync>(
+    rt: &R,
+    alloc: Global,
+    table: &Arc<Timetable>,
+) -> Result<Lone, AllocError> {
+    match all_left::<Brand, _>(rt, alloc, ledger(alloc, table, 1)?)? {
+        None => all_left::<Brand, _>(rt, alloc, ledger(alloc, table, 1)?)?.ok_or(AllocError),
+        Some(lone) => Ok(lone),
+    }
+}
+
 // A take that waits is told that no tree will come once all others have left, however they did.
 #[test]
 fn left_by_all_others(rt: HostRuntime) -> Result<(), Fail> {
     let alloc = rt.alloc();
     let table = bare_stops(&rt, 5)?;
-    let lone = match all_left::<Brand, _>(&rt, alloc, ledger(alloc, &table, 1)?)? {
-        None => all_left::<Brand, _>(&rt, alloc, ledger(alloc, &table, 1)?)?,
-        lone => lone,
-    };
-    let Some(lone) = lone else {
-        return Err(Fail::new("nobody waits"));
-    };
+    let lone = wait_for_all(&rt, alloc, &table)?;
     assert!(rt; waits_for_all(&lone));
     Ok(())
 }
