@@ -12,8 +12,8 @@ use std::thread::Threads;
 use timetable::Timetable;
 use work_ledger::{Call, Entry, Ledger};
 
-/// The number of the ninth seat, which stores.
-pub const STORER: u8 = 8;
+// The number of the ninth seat, which stores.
+const STORER: u8 = 8;
 
 // How many trees each seat hands in at most.
 const HANDED_IN: u32 = 15;

@@ -83,6 +83,11 @@ fn each_once(alloc: Global, history: &[Entry], stops: usize) -> Result<bool, All
     )
 }
 
+// Whether no other seat has an entry than so many, from the first on.
+fn are_of(history: &[Entry], seats: usize) -> bool {
+    history.iter().all(|entry| seat_of(entry, 0) < seats)
+}
+
 // Whether what seats were told, of the numbers from `first` on, is right and just the history.
 fn count(history: &[Entry], first: usize, storer: usize, told: &[Vec<Entry>]) -> bool {
     for number in 0..told.len() {
@@ -95,8 +100,8 @@ fn count(history: &[Entry], first: usize, storer: usize, told: &[Vec<Entry>]) ->
     true
 }
 
-// Four seats, of which the first takes a tree each time it handed one in, so that no call waits: whether all that they were told is right and
-// just the history, in which each of so many sources is given out once.
+// Four seats, of which the first takes a tree each time it handed one in, so that no call waits: whether all that they were told is right
+// and just the history, in which each of so many sources is given out once.
 fn four_count<R: Threads + Wait + Sync>(
     rt: &R,
     alloc: Global,
@@ -105,7 +110,9 @@ fn four_count<R: Threads + Wait + Sync>(
 ) -> Result<bool, AllocError> {
     let seats = four_seats::<Brand, _>(rt, alloc, table, ledger(alloc, table, 256)?)?;
     let history = seats.history.as_slice();
-    let agree = count(history, 0, 0, &seats.told) && !history.iter().any(waits);
+    let agree = count(history, 0, 0, &seats.told)
+        && are_of(history, 4)
+        && !history.iter().any(waits);
     each_once(alloc, history, stops).map(|once| once && agree)
 }
 
@@ -138,6 +145,7 @@ fn nine_agree(seats: &NineAtWork) -> bool {
         && count(history, 4, 8, &seats.second)
         && are_right(&seats.last)
         && is_history(history, 8, 8, &seats.last)
+        && are_of(history, 9)
 }
 
 // Whether they agree, and each of so many sources is given out once.

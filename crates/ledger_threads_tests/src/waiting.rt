@@ -70,8 +70,8 @@ fn both<B: Basis + Send + Sync, R: Threads + Wait + Sync>(
     )
 }
 
-// A tree fills the queue, two wait with theirs, and the last seat closes the ledger. None where they don't come to wait, as no thread could
-// be made.
+// A tree fills the queue, two wait with theirs, and the last seat closes the ledger. None where they don't come to wait, as no thread
+// could be made.
 fn fill_and_close<B: Basis + Send + Sync, R: Threads + Wait + Sync>(
     rt: &R,
     alloc: Global,
@@ -323,7 +323,7 @@ fn all_left<B: Basis + Send + Sync, R: Threads + Wait + Sync>(
     Ok(Some(Lone { none, history }))
 }
 
-// Whether the take was told that no tree will come, though a source is claimed: it asked once before the others left, and once when all had.
+// Whether the take was told that no tree will come, though a source is claimed: it asked once before the others left, and once since.
 fn waits_for_all(lone: &Lone) -> bool {
     let history = lone.history.as_slice();
     let Some(

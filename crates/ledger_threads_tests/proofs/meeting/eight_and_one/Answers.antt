@@ -10,7 +10,6 @@ use Rattle.std.specs.contracts.sync.Arc as arc
 use Rattle.timetable.specs.contracts.table.Timetable as table
 use Rattle.shared_ledger.specs.contracts.shared.Shared as shared
 use Rattle.shared_ledger.specs.contracts.seat.Seat as seat
-use Rattle.shared_ledger.proofs.seat.Seat.TheSendSync as seats
 use Rattle.ledger_threads_tests.proofs.Sending.{closure_sends, heap_goes, ledger_goes, seats_go, table_goes}
 use Rattle.ledger_threads_tests.proofs.meeting.eight_and_one.Goals as goal
 
