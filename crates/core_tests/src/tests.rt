@@ -143,8 +143,6 @@ fn replies_so(rt: &HostRuntime, rows: &[(Event, Wanted)]) -> Result<bool, Fail> 
 
 const ANY: [u8; 61] = [0xA5; 61];
 
-const NONE: [u8; 0] = [];
-
 const OPEN: [u8; 1] = [0xA5];
 
 const SHUT: [u8; 1] = [0x5A];
