@@ -19,7 +19,7 @@ use jiff::civil::Date;
 use lines::Lines;
 use pattern_query::Patterns;
 use pattern_tree::Arena;
-use program_inputs::{Fault, NO_KEYS, Settings, open_feed};
+use program_inputs::{Fault, Settings, open_feed};
 use rounds::{Rides, Scratch};
 use service_days::Cover;
 use std::alloc::{AllocError, Global};
@@ -33,7 +33,7 @@ use timetable::{StopId, Timetable, assemble};
 fn read(rt: &HostRuntime, folder: &str) -> Result<Tables, Fault<'static>> {
     let alloc = rt.alloc();
     let Ok(keys) = RandomState::new(rt) else {
-        return Err(Fault::Feed(NO_KEYS));
+        return Err(Fault::NoRandomness);
     };
     let Ok(files) = open_feed(rt, alloc, folder) else {
         return Err(Fault::Memory);

@@ -1,7 +1,7 @@
 -- All lines together.
 use Rattle.std.proofs.Common.{◌≡◌, ℕ, zero, suc, ◌+◌, ◌-◌, ◌<◌, ◌≤◌, inl, inr, List, [], ◌∷◌, ◌++◌, length, get_or, take, drop, map, refl, sym, ◌∙◌, ap, subst, arith, length-append, append_assoc, IsPermutation}
 use Rattle.std.specs.List.{All, AllPairs, Contains, concat}
-use Rattle.std.proofs.lemmas.Bool.{cases_lt, cases_order}
+use Rattle.std.proofs.lemmas.Bool.{cases_lt}
 use Rattle.std.proofs.lemmas.List.{append-nil, map-append, length-map, get_or-map, get_or_append_left, get_or-append_right, get_or_default, take_all, take_more, length-take, get_or-take}
 use Rattle.std.proofs.lemmas.List.Elements.{All-append, All-map, All-push, Contains-get_or}
 use Rattle.std.proofs.lemmas.List.Sorted.{IsPermutation-refl, IsPermutation-sym, IsPermutation-append, Contains-permutation}
@@ -10,8 +10,8 @@ use Rattle.timetable.proofs.Legs.{calls_are}
 use Rattle.lines.specs.declared.line.Halt.{Halt}
 use Rattle.lines.specs.Lines.{LineData, IsLine, IsChain, AreApart, SomeOvertake, halt_of, halts_of}
 use Rattle.lines.specs.Places.{IsPlain}
-use Rattle.lines.specs.Order.{AreInOrder, IsGroup}
-use Rattle.lines.specs.Chains.{IsSorted, AreChains, Adds}
+use Rattle.lines.specs.Order.{fingerprint, fingerprint_of, AreInOrder, IsGroup}
+use Rattle.lines.specs.Chains.{halts_along, ChainsApart, AreChains, Adds}
 use Rattle.lines.proofs.ChainFacts.{concat_append, concat_has}
 use Rattle.lines.proofs.GroupFacts.{IsCut, cut_none, cut_more, part_at, length_part}
 
@@ -20,39 +20,6 @@ abbrev pub members_of : List LineData → List (List ℕ)
 members_of lines = map (λ line. line.members) lines
 
 -- ---- the lines of one group
-
--- instances of a group have the same stops and flags
-alike_any : (table : Table) (group : List ℕ) → IsSorted table group → (m n : ℕ) → Contains group m → Contains group n → halts_of table m ≡ halts_of table n
-alike_any table group sorted m n first second =
-    let i = first.0 in
-    let il = first.1 in
-    let im = first.2 in
-    let j = second.0 in
-    let jl = second.1 in
-    let jn = second.2 in
-    let one : get_or group i m ≡ get_or group i 0 = get_or_default group i m 0 il in
-    let two : get_or group j n ≡ get_or group j 0 = get_or_default group j n 0 jl in
-    let both : halts_of table (get_or group i 0) ≡ halts_of table (get_or group j 0) =
-    elim (cases_order i j) [
-      | inl e ↦ ap (λ k. halts_of table (get_or group k 0)) e
-      | inr ne ↦ elim ne [ inl lt ↦ sorted.alike i j 0 lt jl | inr gt ↦ sym (sorted.alike j i 0 gt il) ]
-    ] in
-    ap (halts_of table) (sym im ∙ one) ∙ (both ∙ ap (halts_of table) (sym two ∙ jn))
-
--- a chain of its instances
-pub chain_is : (table : Table) (group : List ℕ) (chains : List (List ℕ)) → IsSorted table group → AreChains table group chains
-    → (k : ℕ) (d : List ℕ) → k < length chains → IsChain table (halts_of table (get_or (get_or chains k d) 0 0)) (get_or chains k d)
-chain_is table group chains sorted are k d h =
-    let chain = get_or chains k d in
-    let is = are.each k d h in
-    let among : (n : ℕ) → Contains chain n → Contains group n =
-    λ n has. Contains-permutation (concat chains) group n (IsPermutation-sym group (concat chains) are.once) (concat_has chains k d n h has) in
-    record {
-      some = is.some;
-      alike = λ j e jl. alike_any table group sorted (get_or chain j e) (get_or chain 0 0)
-          (among (get_or chain j e) (Contains-get_or chain j e jl)) (among (get_or chain 0 0) (Contains-get_or chain 0 0 is.some));
-      ordered = is.ordered;
-    }
 
 -- the lines, and then lines of the chains before this one
 pub record AddsTo (table : Table) (chains : List (List ℕ)) (i : ℕ) (old new : List LineData) : Type 0 where
@@ -166,7 +133,7 @@ module _ (table : Table) (order : List ℕ) (start end : ℕ) (sorted : AreInOrd
       let one : get_or order fk.0 0 ≡ first.0 = get_or_default order fk.0 0 first.0 (omega arith) ∙ (sym (get_or-take start order fk.0 first.0 low) ∙ fk.2) in
       let two : get_or order (start + sk.0) 0 ≡ second.0 = get_or_default order (start + sk.0) 0 second.0 (omega arith) ∙ (sym (part_at order start end sk.0 second.0 high) ∙ sk.2) in
       absurd (are.cut fk.0 (start + sk.0) low (omega arith) (omega arith)
-      (ap (halts_of table) one ∙ (first.2 ∙ (same ∙ (sym second.2 ∙ sym (ap (halts_of table) two))))))
+      (ap (fingerprint_of table) one ∙ (ap fingerprint (first.2 ∙ (same ∙ sym second.2)) ∙ sym (ap (fingerprint_of table) two))))
 
   -- the lines of one more group
   pub lines_more : AreLinesTo table order end new
@@ -182,14 +149,20 @@ module _ (table : Table) (order : List ℕ) (start end : ℕ) (sorted : AreInOrd
             (subst (λ ys. IsPermutation (take start order ++ part) ys)
             (sym (ap concat (map-append (λ (line : LineData). line.members) old more) ∙ concat_append (members_of old) (members_of more)))
             (IsPermutation-append (take start order) (concat (members_of old)) part (concat (members_of more)) are.once adds.2.chains.once));
-        apart = all_pairs_append (AreApart table) old more are.apart (apart_in more adds.2.chains.apart) across;
+        apart = all_pairs_append (AreApart table) old more are.apart (apart_in more adds.2.each adds.2.chains.apart) across;
       })
     where
-      apart_in : (more : List LineData) → AllPairs (SomeOvertake table) (members_of more) → AllPairs (AreApart table) more
-      apart_in more h i j d ij jl same =
+      apart_in : (more : List LineData) → All (IsLine table) more → AllPairs (ChainsApart table) (members_of more) → AllPairs (AreApart table) more
+      apart_in more each h i j d ij jl same =
+          let a : LineData = get_or more i d in
+          let b : LineData = get_or more j d in
           let long : j < length (members_of more) = omega (arith, length-map more (λ (line : LineData). line.members)) in
-          subst (λ ms. SomeOvertake table ms (get_or more j d).members) (get_or-map (λ (line : LineData). line.members) more i d [] (omega arith))
-          (subst (λ ns. SomeOvertake table (get_or (members_of more) i []) ns) (get_or-map (λ (line : LineData). line.members) more j d [] jl) (h i j [] ij long))
+          let first = (each i d (omega arith)).chain in
+          let second = (each j d jl).chain in
+          let apart : ChainsApart table a.members b.members =
+          subst (λ ms. ChainsApart table ms b.members) (get_or-map (λ (line : LineData). line.members) more i d [] (omega arith))
+          (subst (λ ns. ChainsApart table (get_or (members_of more) i []) ns) (get_or-map (λ (line : LineData). line.members) more j d [] jl) (h i j [] ij long)) in
+          apart (first.alike 0 0 first.some ∙ (same ∙ sym (second.alike 0 0 second.some)))
 
 pub lines_all : (table : Table) (order : List ℕ) (at : ℕ) (lines : List LineData) → length order ≤ at → AreLinesTo table order at lines
     → IsPermutation order (concat (members_of lines))

@@ -35,7 +35,7 @@ pub record IsMadeFor (scratch : Scratch) (table : Table) : Type 0 where
   pub lines : AreLines table scratch.lines
   pub layers : length scratch.layers.items ≡ suc (rides_of scratch)
   pub sized : All (IsSized (stops_of table)) scratch.layers.items
-  pub earliest : length scratch.earliest.items ≡ length scratch.lines.lines
+  pub noted : length scratch.noted ≡ length scratch.lines.lines
   pub count : length scratch.rounds.items ≡ rides_of scratch
   pub few : rides_of scratch ≤ 8
   pub sizes : All (λ row. length row.marks ≡ stops_of table) scratch.rounds.items

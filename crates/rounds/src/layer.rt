@@ -10,6 +10,7 @@ ghost use Rattle.rounds.specs.Row.{arrivals_of, settled_of};
 ghost use Rattle.rounds.specs.Layers.{IsSized, IsBegunNext, Begins, Stepped, Ridden};
 
 use crate::label::Label;
+use crate::noted::Noted;
 use crate::row::{Row, join};
 use crate::serving::ride_lines;
 use crate::walking::{Stay, walk_from, walk_on};
@@ -69,7 +70,7 @@ pub fn ride_on(
     known: &Row,
     before: &Layer,
     after: &mut Layer,
-    earliest: &mut [u16],
+    noted: &mut Noted,
     round: &mut Row,
 )
     requires valid { IsTable table.now }
@@ -77,7 +78,7 @@ pub fn ride_on(
     requires known { length known.now.marks ≡ stops_of table.now }
     requires before { IsSized (stops_of table.now) before.now }
     requires after { IsSized (stops_of table.now) after.old }
-    requires earliest { length earliest.old ≡ length lines.now.lines }
+    requires noted { length noted.old ≡ length lines.now.lines }
     requires round { length round.old.marks ≡ stops_of table.now }
     requires short { AllShort 7 before.now.ready.marks }
     requires early { AllEarly 4_000_000_000 before.now.rode.marks }
@@ -86,17 +87,11 @@ pub fn ride_on(
     requires next { IsBegunNext table.now before.now after.old }
     requires linked { Stepped (link table.now) (settled_of after.old.rode) after.old.ready.marks }
     requires walked { Stepped (foot table.now) (settled_of after.old.rode) round.old.marks }
-    ensures { Ridden table.now before.now after.old after.new round.old round.new }
+    ensures ridden { Ridden table.now before.now after.old after.new round.old round.new }
+    ensures same { length noted.new ≡ length noted.old }
 {
     join(&before.rode, &mut after.rode);
-    ride_lines(
-        table,
-        lines,
-        &before.ready,
-        known,
-        earliest,
-        &mut after.rode,
-    );
+    ride_lines(table, lines, &before.ready, known, noted, &mut after.rode);
     walk_on(table, Stay::Free, &after.rode, round);
     walk_on(table, Stay::Change, &after.rode, &mut after.ready);
 }

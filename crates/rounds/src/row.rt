@@ -8,7 +8,8 @@ ghost use Rattle.rounds.specs.Moves.{ridden_to};
 ghost use Rattle.rounds.specs.Row.{SameRow, arrivals_of, settled_of, lowered_in, when};
 ghost use Rattle.rounds.specs.Layers.{Joined, IsBelow};
 
-use crate::label::{Label, is_by};
+use crate::label::Label;
+use crate::labels::{Labels, clear_moments, no_moments};
 use std::alloc::{AllocError, Global};
 use std::marker::Model;
 use timetable::StopId;
@@ -17,7 +18,7 @@ use timetable::StopId;
 /// were lowered since then. Once it is made it takes no memory.
 #[derive(Debug, Drop)]
 pub struct Row {
-    labels: Vec<Option<Label>>,
+    labels: Labels,
     settled: Vec<Option<u32>>,
     lowered: Vec<StopId>,
 }
@@ -28,26 +29,16 @@ impl Model for Row {
 
     ghost Value = { RowData };
 
-    ghost view = { λ a. record { marks = a.labels.items; settled = a.settled.items } };
+    ghost view = { λ a. record { marks = a.labels; settled = a.settled.items } };
 
-    ghost invariant = { λ a. IsRow a.labels.items a.settled.items a.lowered.items (vec_capacity a.lowered) };
+    ghost invariant = { λ a. IsRow a.labels a.settled.items a.lowered.items (vec_capacity a.lowered) };
 }
 
-// When one is there by the label.
-fn arrival(label: &Option<Label>) -> Option<u32>
-    ensures { result ≡ arrival_of label.now }
+// Whether this moment is sooner than the one that was settled.
+fn is_sooner(moment: Option<u32>, settled: Option<u32>) -> bool
+    ensures { IsTrue result ↔ IsSooner moment settled }
 {
-    match label {
-        Some(here) => Some(here.arrival()),
-        None => None,
-    }
-}
-
-// Whether the label is sooner than it was settled.
-fn is_lowered(label: &Option<Label>, settled: Option<u32>) -> bool
-    ensures { IsTrue result ↔ IsSooner (arrival_of label.now) settled }
-{
-    match (arrival(label), settled) {
+    match (moment, settled) {
         (Some(now), Some(before)) => now < before,
         (Some(_), None) => true,
         (None, _) => false,
@@ -64,54 +55,14 @@ fn list(stop: StopId, listed: &mut Vec<StopId>)
     pushed.unwrap();
 }
 
-// No labels, at so many stops.
-fn no_labels(alloc: Global, stops: usize) -> Result<Vec<Option<Label>>, AllocError>
-    ensures { IfOk result (λ labels. labels.items ≡ replicate {A = Option Mark} stops None) }
-{
-    let mut labels = Vec::with_capacity(alloc, stops)?;
-    for _ in 0..stops {
-        labels.push(None)?;
-    }
-    Ok(labels)
-}
-
-// No moments, at so many stops.
-fn no_moments(alloc: Global, stops: usize) -> Result<Vec<Option<u32>>, AllocError>
-    ensures { IfOk result (λ moments. moments.items ≡ replicate {A = Option ℕ} stops None) }
-{
-    let mut moments = Vec::with_capacity(alloc, stops)?;
-    for _ in 0..stops {
-        moments.push(None)?;
-    }
-    Ok(moments)
-}
-
-// Takes all moments away.
-fn clear_moments(moments: &mut [Option<u32>])
-    ensures { (stop : ℕ) → when moments.new stop ≡ None }
-{
-    for moment in moments.iter_mut() {
-        *moment = None;
-    }
-}
-
-// Takes all labels away.
-fn clear(labels: &mut [Option<Label>])
-    ensures { (stop : ℕ) → at labels.new stop ≡ None }
-{
-    for label in labels.iter_mut() {
-        *label = None;
-    }
-}
-
 // Settles the stops that are listed.
-fn settle(labels: &[Option<Label>], listed: &[StopId], settled: &mut [Option<u32>])
+fn settle(labels: &Labels, listed: &[StopId], settled: &mut [Option<u32>])
     requires size { length settled.old ≡ length labels.now }
     requires known { (p : ℕ) → Contains listed.now p → p < length labels.now }
     ensures { (p : ℕ) → (when settled.new p ≡ arrival_of (at labels.now p)) ⊎ (¬ Contains listed.now p × (when settled.new p ≡ when settled.old p)) }
 {
     for stop in listed {
-        settled[stop.number()] = arrival(&labels[stop.number()]);
+        settled[stop.number()] = labels.arrival(stop.number());
     }
 }
 
@@ -123,7 +74,7 @@ impl Row {
         ensures fresh { IfOk result (λ row. (stop : ℕ) → settled_of row stop ≡ None) }
     {
         Ok(Row {
-            labels: no_labels(alloc, stops)?,
+            labels: Labels::empty(alloc, stops)?,
             settled: no_moments(alloc, stops)?,
             lowered: Vec::with_capacity(alloc, stops)?,
         })
@@ -134,7 +85,7 @@ impl Row {
         ensures size { length self.new.marks ≡ length self.old.marks }
         ensures none { (stop : ℕ) → at self.new.marks stop ≡ None }
     {
-        clear(&mut self.labels);
+        self.labels.forget();
         clear_moments(&mut self.settled);
         self.lowered.clear();
     }
@@ -153,11 +104,14 @@ impl Row {
         ensures none { IsNone result ↔ (at self.now.marks stop ≡ None) }
         ensures some { IfSome result (λ label. at self.now.marks stop ≡ Some label.now) }
     {
-        if stop.number() < self.labels.len() {
-            self.labels[stop.number()].as_ref()
-        } else {
-            None
-        }
+        self.labels.label(stop.number())
+    }
+
+    /// When one is at the stop; none where there is no such stop.
+    pub fn arrival(&self, stop: StopId) -> Option<u32>
+        ensures { result ≡ arrivals_of self.now stop }
+    {
+        self.labels.arrival(stop.number())
     }
 
     /// When one was at the stop as the row was last settled.
@@ -185,7 +139,10 @@ impl Row {
         ensures value { result ≡ is_by (at self.now.marks stop) moment }
         ensures by { IsTrue result ↔ By (at self.now.marks stop) moment }
     {
-        is_by(&self.labels[stop.number()], moment)
+        match self.arrival(stop) {
+            Some(arrival) => arrival <= moment,
+            None => false,
+        }
     }
 
     // Puts the label at the stop, where none is as early.
@@ -196,10 +153,10 @@ impl Row {
         ensures settled { self.new.settled ≡ self.old.settled }
     {
         let number = stop.number();
-        if !is_lowered(&self.labels[number], self.settled[number]) {
+        if !is_sooner(self.labels.arrival(number), self.settled[number]) {
             list(stop, &mut self.lowered);
         }
-        self.labels[number] = Some(label);
+        self.labels.put(number, label);
     }
 
     /// Puts the label at the stop, unless one there is as early. Nothing is copied where one is.

@@ -18,6 +18,7 @@ ghost use Rattle.rounds.specs.Scratch.{IsMadeFor, IsAlike, MayGoOn, GoesOn, Tell
 use crate::best::points;
 use crate::events::departures;
 use crate::layer::{Layer, ride_on};
+use crate::noted::Noted;
 use crate::row::Row;
 use crate::view::RoundView;
 use arrayvec::ArrayVec;
@@ -31,8 +32,8 @@ pub struct Scratch {
     rides: Rides,
     lines: Lines,
     layers: Vec<Layer>,
-    // Room for what a run notes of each line meanwhile.
-    earliest: Vec<u16>,
+    // The lines that a run notes meanwhile.
+    noted: Noted,
     source: StopId,
     rounds: Vec<Row>,
 }
@@ -127,17 +128,18 @@ fn ride_from(
     depart: u32,
     index: usize,
     layers: &mut [Layer],
-    earliest: &mut [u16],
+    noted: &mut Noted,
     rounds: &mut [Row],
 )
     requires lines { AreLines table.now lines.now }
     requires valid { IsTable table.now }
-    requires earliest { length earliest.old ≡ length lines.now.lines }
+    requires noted { length noted.old ≡ length lines.now.lines }
     requires few { index < 8 }
     requires index { index < length rounds.old }
     requires done { DoneTo table.now source depart index layers.old rounds.old }
     ensures done { DoneTo table.now source depart (index + 1) layers.new rounds.new }
     ensures settled { (r : ℕ) → (round_at rounds.new r).settled ≡ (round_at rounds.old r).settled }
+    ensures same { length noted.new ≡ length noted.old }
 {
     let (front, back) = layers.split_at_mut(index + 1);
     let front: &[Layer] = front;
@@ -147,7 +149,7 @@ fn ride_from(
         known(front, index),
         &front[index],
         &mut back[0],
-        earliest,
+        noted,
         &mut rounds[index],
     );
 }
@@ -159,21 +161,20 @@ fn ride_layers(
     source: StopId,
     depart: u32,
     layers: &mut [Layer],
-    earliest: &mut [u16],
+    noted: &mut Noted,
     rounds: &mut [Row],
 )
     requires lines { AreLines table.now lines.now }
     requires valid { IsTable table.now }
-    requires earliest { length earliest.old ≡ length lines.now.lines }
+    requires noted { length noted.old ≡ length lines.now.lines }
     requires few { length rounds.old ≤ 8 }
     requires begun { DoneTo table.now source depart 0 layers.old rounds.old }
     ensures done { DoneTo table.now source depart (length rounds.old) layers.new rounds.new }
     ensures settled { (r : ℕ) → (round_at rounds.new r).settled ≡ (round_at rounds.old r).settled }
+    ensures same { length noted.new ≡ length noted.old }
 {
     for index in 0..rounds.len() {
-        ride_from(
-            table, lines, source, depart, index, layers, earliest, rounds,
-        );
+        ride_from(table, lines, source, depart, index, layers, noted, rounds);
     }
 }
 
@@ -184,23 +185,24 @@ fn run_layers(
     source: StopId,
     depart: u32,
     layers: &mut [Layer],
-    earliest: &mut [u16],
+    noted: &mut Noted,
     rounds: &mut [Row],
 )
     requires lines { AreLines table.now lines.now }
     requires source { source < stops_of table.now }
     requires early { depart ≤ 4_000_000_000 }
-    requires earliest { length earliest.old ≡ length lines.now.lines }
+    requires noted { length noted.old ≡ length lines.now.lines }
     requires few { length rounds.old ≤ 8 }
     requires count { length layers.old ≡ suc (length rounds.old) }
     requires sized { All (IsSized (stops_of table.now)) layers.old }
     requires kept { IsTable table.now → AreKept table.now source depart layers.old rounds.old }
     ensures done { DoneTo table.now source depart (length rounds.old) layers.new rounds.new }
     ensures settled { (r : ℕ) → r < length rounds.old → (stop : ℕ) → settled_of (round_at rounds.new r) stop ≡ arrivals_of (round_at rounds.old r) stop }
+    ensures same { length noted.new ≡ length noted.old }
 {
     settle_rounds(rounds);
     begin_layers(table, source, depart, layers);
-    ride_layers(table, lines, source, depart, layers, earliest, rounds);
+    ride_layers(table, lines, source, depart, layers, noted, rounds);
 }
 
 impl Scratch {
@@ -212,12 +214,12 @@ impl Scratch {
     {
         let stops = table.stops();
         let lines = Lines::of(alloc, table)?;
-        let earliest = vec![in alloc; 0_u16; lines.lines().len()]?;
+        let noted = Noted::none(alloc, lines.lines().len())?;
         Ok(Scratch {
             rides,
             lines,
             layers: no_layers(alloc, stops, rides)?,
-            earliest,
+            noted,
             source: StopId::new(0),
             rounds: no_rounds(alloc, stops, rides)?,
         })
@@ -271,7 +273,7 @@ impl Scratch {
             self.source,
             depart,
             &mut self.layers,
-            &mut self.earliest,
+            &mut self.noted,
             &mut self.rounds,
         );
     }

@@ -5,16 +5,12 @@ use Rattle.std.proofs.lemmas.List.{get_or-set_same, get_or-set_other}
 use Rattle.rounds.specs.Mark.{Mark, at, arrival_of}
 use Rattle.rounds.specs.Row.{when}
 use Rattle.rounds.proofs.LayerSteps.{SeenIn, seen_next}
-use Rattle.rounds.proofs.RideSteps.{mark_same}
 use Rattle.rounds.proofs.row.settle.Goals as goal
 
 -- the stop that is settled now
 inside : (labels : List (Option Mark)) (listed : List ℕ) (n stop number : ℕ) → ((p : ℕ) → Contains listed p → p < length labels)
     → n < length listed → stop ≡ get_or listed n stop → number ≡ stop → number < length labels
 inside labels listed n stop number known lt is same = subst (λ k. k < length labels) (sym same) (known stop (n, lt, sym is))
-
-pub bounds-labels-number : goal.bounds-labels-number
-bounds-labels-number c = inside c.args.labels.now c.args.listed.now c.loop-stop.stop-index c.stop-item.result c.number.result c.requires.known c.loop-stop-test.true c.stop-item.is c.number.ensures.value
 
 pub bounds-settled-number : goal.bounds-settled-number
 bounds-settled-number c =
@@ -45,7 +41,6 @@ loop-stop-preserved c =
     let a = c.number.ensures.value in
     let b = c.number-in-loop-stop.ensures.value in
     let known = inside labels listed c.loop-stop.stop-index stop c.number.result c.requires.known c.loop-stop-test.true c.stop-item.is a in
-    let mark = mark_same labels c.number.result stop c.index-labels-number.result a (subst (λ k. k < length labels) a known) c.index-labels-number.is in
     rw b (settled_more labels listed c.args.settled.now c.loop-stop.settled c.loop-stop.stop-index stop c.arrival.result c.loop-stop-test.true c.stop-item.is
     (let k = subst (λ k. k < length labels) a known in let z : stop < length c.loop-stop.settled = omega (arith, k) in z)
-    (c.arrival.ensures ∙ ap arrival_of (sym mark)) c.loop-stop.invariant)
+    (c.arrival.ensures ∙ ap (λ k. arrival_of (at labels k)) a) c.loop-stop.invariant)

@@ -90,7 +90,7 @@ returns-clause-done c =
     let here = second_read layers back n c.index-back-0.result (c.split_at_mut-front.ensures.by_index.1 0 c.index-back-0.result) in' in
     let ends = round_read rounds n c.index-rounds-index.result lt in
     let parts = part_set layers front back n x c.split_at_mut-front.ensures.value c.split_at_mut-front.ensures.front_len in
-    let ridden : Ridden T c.index-front-index.result (get_or back 0 c.index-back-0.result) x (get_or rounds n c.index-rounds-index.result) round = c.ride_on.ensures in
+    let ridden : Ridden T c.index-front-index.result (get_or back 0 c.index-back-0.result) x (get_or rounds n c.index-rounds-index.result) round = c.ride_on.ensures.ridden in
     let ridden' : Ridden T (layer_at layers n) (layer_at layers (suc n)) x (round_at rounds n) round =
     subst (λ (y : Layer). Ridden T y (layer_at layers (suc n)) x (round_at rounds n) round) under
     (subst (λ (y : Layer). Ridden T c.index-front-index.result y x (round_at rounds n) round) here

@@ -1,4 +1,4 @@
-use Rattle.std.proofs.Common.{◌+◌, arith, sym}
+use Rattle.std.proofs.Common.{◌+◌, arith, sym, ◌∙◌}
 use Rattle.rounds.specs.Row.{settled_of}
 use Rattle.rounds.proofs.RowSteps.{sooner_within}
 use Rattle.rounds.proofs.LayerSteps.{SeenIn, seen_next}
@@ -15,17 +15,23 @@ note-requires-clause-known c =
     omega (arith, in', c.requires.readies)
 
 pub loop-stop-init : goal.loop-stop-init
-loop-stop-init c = noted_none c.args.lines.now.lines c.args.ready.now c.args.before.now.marks c.lowered-stop-items.result.now c.fill.new.self
+loop-stop-init c = record {
+  noted = noted_none c.args.lines.now.lines c.args.ready.now c.args.before.now.marks c.lowered-stop-items.result.now c.clear.new.self;
+  size = c.clear.ensures;
+}
 
 pub loop-stop-preserved : goal.loop-stop-preserved
 loop-stop-preserved c =
     let listed = c.lowered-stop-items.result.now in
     let n = c.loop-stop.stop-index in
     let stop = c.stop-item.result in
-    noted_more c.args.lines.now.lines c.args.ready.now c.args.before.now.marks (SeenIn listed n) (SeenIn listed (n + 1)) c.loop-stop.earliest c.note.new.earliest stop
-    (λ p seen. seen_next listed n stop p c.loop-stop-test.true c.stop-item.is seen) c.note.ensures.lower c.note.ensures.noted c.loop-stop.invariant
+    record {
+      noted = noted_more c.args.lines.now.lines c.args.ready.now c.args.before.now.marks (SeenIn listed n) (SeenIn listed (n + 1)) c.loop-stop.noted c.note.new.noted stop
+          (λ p seen. seen_next listed n stop p c.loop-stop-test.true c.stop-item.is seen) c.note.ensures.lower c.note.ensures.noted c.loop-stop.invariant.noted;
+      size = c.note.ensures.same ∙ c.loop-stop.invariant.size;
+    }
 
-pub returns : goal.returns
-returns c =
-    noted_all c.args.lines.now.lines c.args.ready.now c.args.before.now.marks c.lowered-stop-items.result.now c.loop-stop.earliest c.loop-stop.stop-index
-    (omega arith) c.lowered-stop-items.ensures.others c.loop-stop.invariant
+pub returns-clause-noted : goal.returns-clause-noted
+returns-clause-noted c =
+    noted_all c.args.lines.now.lines c.args.ready.now c.args.before.now.marks c.lowered-stop-items.result.now c.loop-stop.noted c.loop-stop.stop-index
+    (omega arith) c.lowered-stop-items.ensures.others c.loop-stop.invariant.noted

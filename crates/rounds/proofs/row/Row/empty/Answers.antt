@@ -9,9 +9,9 @@ use Rattle.rounds.proofs.row.Row.empty.Goals as goal
 pub invariant_of-result : goal.invariant_of-result
 invariant_of-result c =
     let n = c.args.stops in
-    let marks = c.in_ok-no_labels.field-0.items in
+    let marks = c.in_ok-empty.field-0 in
     let settled = c.in_ok-no_moments.field-0.items in
-    let e : marks ≡ replicate {A = Option Mark} n None = c.in_ok-no_labels.ensures in
+    let e : marks ≡ replicate {A = Option Mark} n None = c.in_ok-empty.ensures in
     let f : settled ≡ replicate {A = Option ℕ} n None = c.in_ok-no_moments.ensures in
     let long : length marks ≡ n = ap (length {A = Option Mark}) e ∙ length-replicate {A = Option Mark} n None in
     let long' : length settled ≡ n = ap (length {A = Option ℕ}) f ∙ length-replicate {A = Option ℕ} n None in

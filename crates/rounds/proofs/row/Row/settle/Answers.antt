@@ -9,16 +9,15 @@ use Rattle.rounds.proofs.row.Row.settle.Goals as goal
 pub settle-requires-clause-known : goal.settle-requires-clause-known
 settle-requires-clause-known c = λ p has.
     let i = c.self.inside in
-    subst (λ (ms : List (Option Mark)). p < length ms) (sym c.deref.ensures.value)
-    (listed_within i.labels.items i.settled.items i.lowered.items _ c.self.invariant p (subst (λ (xs : List ℕ). Contains xs p) c.deref-2.ensures.value has))
+    listed_within i.labels i.settled.items i.lowered.items _ c.self.invariant p (subst (λ (xs : List ℕ). Contains xs p) c.deref.ensures.value has)
 
 -- what was listed is settled, and the others were
-all_settled : (marks labels : List (Option Mark)) (was now : List (Option ℕ)) (lowered listed : List ℕ) (capacity : ℕ) (old : List (Option ℕ)) → IsRow marks was lowered capacity → labels ≡ marks
+all_settled : (marks : List (Option Mark)) (was now : List (Option ℕ)) (lowered listed : List ℕ) (capacity : ℕ) (old : List (Option ℕ)) → IsRow marks was lowered capacity
     → listed ≡ lowered → old ≡ was
-    → ((p : ℕ) → (when now p ≡ arrival_of (at labels p)) ⊎ (¬ Contains listed p × (when now p ≡ when old p)))
+    → ((p : ℕ) → (when now p ≡ arrival_of (at marks p)) ⊎ (¬ Contains listed p × (when now p ≡ when old p)))
     → (p : ℕ) → when now p ≡ arrival_of (at marks p)
-all_settled marks labels was now lowered listed capacity old is e f g each p = elim (each p) [
-  | inl done ↦ done ∙ ap (λ (ms : List (Option Mark)). arrival_of (at ms p)) e
+all_settled marks was now lowered listed capacity old is f g each p = elim (each p) [
+  | inl done ↦ done
   | inr rest ↦ elim (is.others p) [
     | inl has ↦ absurd (rest.0 (subst (λ (xs : List ℕ). Contains xs p) (sym f) has))
     | inr same ↦ rest.1 ∙ (ap (λ (ms : List (Option ℕ)). when ms p) g ∙ sym same)
@@ -33,7 +32,7 @@ invariant_of-self c =
     let is = c.self.invariant in
     let fits = is.room in
     let same = c.clear.ensures.capacity in
-    settled_row i.labels.items _ _ _ c.clear.ensures.items
+    settled_row i.labels _ _ _ c.clear.ensures.items
     (ap size w ∙ (c.settle.auto.settled ∙ (ap size c.deref_mut.ensures.value ∙ is.size))) (omega (arith, fits, same))
     (λ p. sym (ap (λ (ms : List (Option ℕ)). when ms p) w
-    ∙ all_settled i.labels.items c.deref.result.now i.settled.items c.settle.new.settled i.lowered.items c.deref-2.result.now _ c.deref_mut.result.now is c.deref.ensures.value c.deref-2.ensures.value c.deref_mut.ensures.value c.settle.ensures p))
+    ∙ all_settled i.labels i.settled.items c.settle.new.settled i.lowered.items c.deref.result.now _ c.deref_mut.result.now is c.deref.ensures.value c.deref_mut.ensures.value c.settle.ensures p))

@@ -16,13 +16,12 @@ returns-clause-on c =
     let size = length {A = Layer} in
     let size' = length {A = RowData} in
     let e1 = c.deref_mut.ensures.value in
-    let e3 = c.deref_mut-3.ensures.value in
+    let e3 = c.deref_mut-2.ensures.value in
     let layers = c.run_layers.new.layers in
     let rounds = c.run_layers.new.rounds in
-    let n = length c.deref_mut-3.result.now in
+    let n = length c.deref_mut-2.result.now in
     let w = whole_of old.layers.len layers old.layers.items c.deref_mut.result.now e1 c.deref_mut.ensures.len c.run_layers.auto.layers in
-    let w2 = whole_of old.earliest.len c.run_layers.new.earliest old.earliest.items c.deref_mut-2.result.now c.deref_mut-2.ensures.value c.deref_mut-2.ensures.len c.run_layers.auto.earliest in
-    let w3 = whole_of old.rounds.len rounds old.rounds.items c.deref_mut-3.result.now e3 c.deref_mut-3.ensures.len c.run_layers.auto.rounds in
+    let w3 = whole_of old.rounds.len rounds old.rounds.items c.deref_mut-2.result.now e3 c.deref_mut-2.ensures.len c.run_layers.auto.rounds in
     let all : n ≡ length rounds = sym c.run_layers.auto.rounds in
     let done = c.run_layers.ensures.done in
     let sized = layers_sized T old.source c.args.depart n layers rounds all done in
@@ -31,7 +30,7 @@ returns-clause-on c =
       same = alike_of old _ refl refl
           (ap size w ∙ (c.run_layers.auto.layers ∙ ap size e1))
           (λ stops every some. sized_moved (stops_of T) stops _ layers (same_stops (stops_of T) stops old.layers.items some is.sized every) w sized)
-          (ap (length {A = ℕ}) w2 ∙ (c.run_layers.auto.earliest ∙ ap (length {A = ℕ}) c.deref_mut-2.ensures.value))
+          c.run_layers.ensures.same
           (ap size' w3 ∙ (c.run_layers.auto.rounds ∙ ap size' e3))
           (λ stops some every _. sizes_moved (stops_of T) stops _ rounds (same_stops (stops_of T) stops old.layers.items some is.sized every) w3 sizes);
       source = refl;
@@ -45,8 +44,8 @@ pub returns-clause-before : goal.returns-clause-before
 returns-clause-before c = λ rides t.
     let old = c.args.self.now in
     let rounds = c.run_layers.new.rounds in
-    let e3 = c.deref_mut-3.ensures.value in
-    let w3 = whole_of old.rounds.len rounds old.rounds.items c.deref_mut-3.result.now e3 c.deref_mut-3.ensures.len c.run_layers.auto.rounds in
+    let e3 = c.deref_mut-2.ensures.value in
+    let w3 = whole_of old.rounds.len rounds old.rounds.items c.deref_mut-2.result.now e3 c.deref_mut-2.ensures.len c.run_layers.auto.rounds in
     ap (λ (xs : List RowData). moment_in (map (λ (row : RowData). row.settled) xs) rides t) w3
-    ∙ (told c.deref_mut-3.result.now rounds c.run_layers.auto.rounds c.run_layers.ensures.settled rides t
+    ∙ (told c.deref_mut-2.result.now rounds c.run_layers.auto.rounds c.run_layers.ensures.settled rides t
     ∙ ap (λ (xs : List RowData). arrival_in (marks_in xs) rides t) e3)

@@ -1,0 +1,110 @@
+//! The labels of all stops.
+
+ghost use Rattle.std.specs.Prelude.{◌≡◌, ℕ, ◌<◌, ◌↔◌, IfOk, IfSome, IsNone, length, replicate, slice_set, Option, Some, None};
+ghost use Rattle.rounds.specs.Mark.{Mark, at, arrival_of};
+ghost use Rattle.rounds.specs.Row.{when};
+
+use crate::label::Label;
+use std::alloc::{AllocError, Global};
+use std::marker::Model;
+
+/// A label of each stop, or none. When one is at each stop stands in a list of its own too, since that is looked at far more
+/// often than the rides; a stop without a moment there has no label, whatever stands in its place. Once it is made it takes no memory.
+#[derive(Debug, Drop)]
+pub struct Labels {
+    arrivals: Vec<Option<u32>>,
+    labels: Vec<Option<Label>>,
+}
+
+impl Model for Labels {
+    ghost use Rattle.std.specs.Prelude.{List, Option};
+    ghost use Rattle.rounds.specs.Mark.{Mark};
+    ghost use Rattle.rounds.specs.Labels.{AreAgreed, with_moments};
+
+    ghost Value = { List (Option Mark) };
+
+    ghost view = { λ a. with_moments a.arrivals.items a.labels.items };
+
+    ghost invariant = { λ a. AreAgreed a.arrivals.items a.labels.items };
+}
+
+// No labels, at so many stops.
+fn no_labels(alloc: Global, stops: usize) -> Result<Vec<Option<Label>>, AllocError>
+    ensures { IfOk result (λ labels. labels.items ≡ replicate {A = Option Mark} stops None) }
+{
+    let mut labels = Vec::with_capacity(alloc, stops)?;
+    for _ in 0..stops {
+        labels.push(None)?;
+    }
+    Ok(labels)
+}
+
+/// No moments, at so many stops.
+pub fn no_moments(alloc: Global, stops: usize) -> Result<Vec<Option<u32>>, AllocError>
+    ensures { IfOk result (λ moments. moments.items ≡ replicate {A = Option ℕ} stops None) }
+{
+    let mut moments = Vec::with_capacity(alloc, stops)?;
+    for _ in 0..stops {
+        moments.push(None)?;
+    }
+    Ok(moments)
+}
+
+/// Takes all moments away.
+pub fn clear_moments(moments: &mut [Option<u32>])
+    ensures { (stop : ℕ) → when moments.new stop ≡ None }
+{
+    for moment in moments.iter_mut() {
+        *moment = None;
+    }
+}
+
+impl Labels {
+    /// No labels, at so many stops.
+    pub fn empty(alloc: Global, stops: usize) -> Result<Self, AllocError>
+        ensures { IfOk result (λ labels. labels ≡ replicate {A = Option Mark} stops None) }
+    {
+        Ok(Labels {
+            arrivals: no_moments(alloc, stops)?,
+            labels: no_labels(alloc, stops)?,
+        })
+    }
+
+    /// Forgets all.
+    pub fn forget(&mut self)
+        ensures size { length self.new ≡ length self.old }
+        ensures none { (stop : ℕ) → at self.new stop ≡ None }
+    {
+        clear_moments(&mut self.arrivals);
+    }
+
+    /// The label of the stop of this number; none where there is no such stop.
+    pub fn label(&self, stop: usize) -> Option<&Label>
+        ensures none { IsNone result ↔ (at self.now stop ≡ None) }
+        ensures some { IfSome result (λ label. at self.now stop ≡ Some label.now) }
+    {
+        match self.arrival(stop) {
+            Some(_) => self.labels[stop].as_ref(),
+            None => None,
+        }
+    }
+
+    /// When one is at the stop of this number; none where there is no such stop.
+    pub fn arrival(&self, stop: usize) -> Option<u32>
+        ensures { result ≡ arrival_of (at self.now stop) }
+    {
+        match self.arrivals.get(stop) {
+            Some(moment) => *moment,
+            None => None,
+        }
+    }
+
+    /// Puts the label at the stop of this number.
+    pub fn put(&mut self, stop: usize, label: Label)
+        requires { stop < length self.old }
+        ensures { self.new ≡ slice_set self.old stop (Some label) }
+    {
+        self.arrivals[stop] = Some(label.arrival());
+        self.labels[stop] = Some(label);
+    }
+}
