@@ -1,6 +1,6 @@
 //! What every disk promises.
 
-ghost use Rattle.std.specs.Prelude.{◌≡◌, ◌≤◌, ◌↔◌, ℕ, length, IfOk};
+ghost use Rattle.std.specs.Prelude.{◌≡◌, ◌≤◌, ◌↔◌, ℕ, length, IfOk, IsErr};
 ghost use Rattle.disk_model.specs.Image.{IsOutcome};
 ghost use Rattle.disk_model.specs.Disk.{State, Writes, Cuts, Syncs, Gives, Counts};
 
@@ -9,7 +9,8 @@ use crate::fault::DiskFault;
 /// One file, read and written by places, which are counted in bytes from 0. A crash may come at any moment, inside a
 /// call too.
 ///
-/// What a call does is promised of a disk that is honest. On any disk a call that failed is counted, and no other.
+/// What a call does is promised of a disk that is honest. On any disk a call that failed is counted, and no other, and one
+/// that is told to fail fails.
 pub trait Disk {
     /// What reads give, and what a crash may leave, now and at each earlier moment.
     ghost state: { Self → State };
@@ -20,9 +21,13 @@ pub trait Disk {
     /// How many calls have failed.
     ghost failures: { Self → ℕ };
 
+    /// The next call is told to fail.
+    ghost told_to_fail: { Self → Type 0 };
+
     /// The length of the file, in bytes. A fault changes nothing.
     fn len(&mut self) -> Result<u64, DiskFault>
         ensures counted { Counts result (failures self.old) (failures self.new) }
+        ensures told { told_to_fail self.old → IsErr result }
         ensures honest { honest self.old ↔ honest self.new }
         ensures same { honest self.old → state self.new ≡ state self.old }
         ensures length { honest self.old → IfOk result (λ n. n ≡ length (state self.old).read) };
@@ -32,6 +37,7 @@ pub trait Disk {
     /// after a fault the whole buffer, and the file is as before.
     fn read_at(&mut self, pos: u64, buf: &mut [u8]) -> Result<usize, DiskFault>
         ensures counted { Counts result (failures self.old) (failures self.new) }
+        ensures told { told_to_fail self.old → IsErr result }
         ensures honest { honest self.old ↔ honest self.new }
         ensures fits { IfOk result (λ n. n ≤ length buf.old) }
         ensures same { honest self.old → state self.new ≡ state self.old }
@@ -43,6 +49,7 @@ pub trait Disk {
     fn write_at(&mut self, pos: u64, bytes: &[u8]) -> Result<(), DiskFault>
         requires { honest self.old → pos ≤ length (state self.old).read }
         ensures counted { Counts result (failures self.old) (failures self.new) }
+        ensures told { told_to_fail self.old → IsErr result }
         ensures honest { honest self.old ↔ honest self.new }
         ensures written { honest self.old → Writes pos bytes.now result (state self.old) (state self.new) };
 
@@ -50,6 +57,7 @@ pub trait Disk {
     /// A fault changes nothing.
     fn sync(&mut self) -> Result<(), DiskFault>
         ensures counted { Counts result (failures self.old) (failures self.new) }
+        ensures told { told_to_fail self.old → IsErr result }
         ensures honest { honest self.old ↔ honest self.new }
         ensures synced { honest self.old → Syncs result (state self.old) (state self.new) };
 
@@ -58,6 +66,7 @@ pub trait Disk {
     fn cut(&mut self, len: u64) -> Result<(), DiskFault>
         requires { honest self.old → len ≤ length (state self.old).read }
         ensures counted { Counts result (failures self.old) (failures self.new) }
+        ensures told { told_to_fail self.old → IsErr result }
         ensures honest { honest self.old ↔ honest self.new }
         ensures cut { honest self.old → Cuts len result (state self.old) (state self.new) };
 

@@ -89,6 +89,8 @@ impl Disk for FileDisk {
 
     ghost failures = { failures_in };
 
+    ghost told_to_fail = { λ _. ⊥ };
+
     ghost may_stay = { λ disk h. absurd h };
 
     fn len(&mut self) -> Result<u64, DiskFault> {

@@ -244,6 +244,8 @@ impl Disk for MemDisk {
 
     ghost failures = { failures_of };
 
+    ghost told_to_fail = { λ disk. is_told disk 1 ≡ true };
+
     ghost may_stay = { λ disk h. disk.sound };
 
     // It fails only where it is told to.

@@ -5,4 +5,4 @@ mod layout;
 mod sample;
 
 pub use layout::{A, B, C, D, E, TEXTS, file_of, header_of, put_section};
-pub use sample::{Sample, bytes_of, new_file, new_store, tree_of};
+pub use sample::{Sample, bytes_of, is_first, new_file, new_store, old_file, tree_of};

@@ -4,14 +4,18 @@ ghost use Rattle.std.specs.Prelude.{◌≡◌, ◌<◌, IfOk};
 ghost use Rattle.std.specs.Arc.{arc_value};
 ghost use Rattle.timetable.specs.Table.{stops_of};
 ghost use Rattle.disk_model.specs.MemDisk.{state_of};
+ghost use Rattle.section_store.specs.Lasting.{IsTrusted};
+ghost use Rattle.section_store.specs.Sections.{Form};
 ghost use Rattle.section_store.specs.Store.{IsFreshRest};
 
 use crate::layout::header_of;
-use disk_model::{MemDisk, read_up_to};
+use disk_model::laws::leaves_the_reads;
+use disk_model::{Disk, MemDisk, read_up_to};
 use pattern_building::finish;
 use pattern_tree::{Arena, Finished};
 use rounds::Scratch;
 use sample_feed::demo;
+use section_store::laws::fresh_is_trusted;
 use section_store::{SectionStore, begin};
 use std::alloc::Global;
 use std::sync::Arc;
@@ -75,6 +79,20 @@ pub fn new_file(alloc: Global) -> MemDisk
     MemDisk::new(alloc)
 }
 
+/// A file of 300 bytes, none of them a store's, whose first is a closed gate.
+pub fn old_file(alloc: Global) -> Result<MemDisk, Fail>
+    ensures fresh { IfOk result (λ disk. IsFreshRest (state_of disk)) }
+    ensures trusted { IfOk result (λ disk. (form : Form) → IsTrusted form (state_of disk)) }
+{
+    leaves_the_reads();
+    fresh_is_trusted();
+    let mut disk = MemDisk::new(alloc);
+    disk.write_at(0, &[0])?;
+    disk.write_at(1, &[7; 299])?;
+    disk.sync()?;
+    Ok(disk)
+}
+
 /// A store that was begun in an empty file.
 pub fn new_store(alloc: Global, sample: &Sample) -> Result<SectionStore<MemDisk>, Fail> {
     match begin(alloc, new_file(alloc), &sample.table, Rides::new(3)) {
@@ -88,4 +106,11 @@ pub fn bytes_of(alloc: Global, disk: &mut MemDisk) -> Result<Vec<u8>, Fail> {
     let mut bytes = Vec::new(alloc);
     read_up_to(disk, 0, 1_000, &mut bytes)?;
     Ok(bytes)
+}
+
+/// Whether these are the first stops, in their order.
+pub fn is_first(list: &[StopId]) -> bool {
+    list.iter()
+        .enumerate()
+        .all(|(place, stop)| stop.number() == place)
 }

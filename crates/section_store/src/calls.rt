@@ -1,7 +1,8 @@
 //! The four calls of the disk by which a tree is put, in this order: its section is written, and synced; the gate before it
-//! is opened, and that is synced. After a fault of one of them none comes any more. Each function makes just its one call.
+//! is opened, and that is synced. After a fault of one of them none comes any more. Each function makes just its one call, and
+//! fails where that is told to fail.
 
-ghost use Rattle.std.specs.Prelude.{◌≡◌, ◌↔◌, ◌+◌, ◌++◌, [], ◌∷◌, List, length, OnOk, IfOk, IfErr, MatchResult};
+ghost use Rattle.std.specs.Prelude.{◌≡◌, ◌↔◌, ◌+◌, ◌++◌, [], ◌∷◌, List, length, OnOk, IfOk, IfErr, IsErr, MatchResult};
 ghost use Rattle.disk_model.specs.Disk.{Writes, Syncs, after_sync};
 ghost use Rattle.disk_model.specs.Moments.{LeavesOnly};
 ghost use Rattle.pattern_tree.specs.Content.{Content};
@@ -40,6 +41,7 @@ impl<D: Disk> SectionStore<D> {
         ensures lasting { (trees : List Content) → D.honest self.old.disk
             → IsRest self.old.form trees self.old.place (D.state self.old.disk)
             → LosesNothing self.old.form (D.state self.old.disk) (D.state self.new.disk) }
+        ensures told { D.told_to_fail self.old.disk → IsErr result }
         ensures honest { D.honest self.old.disk ↔ D.honest self.new.disk }
         ensures cause { HasCause result (self.old.next ≡ Step.WriteBody)
             ((tree.now.table ≡ self.old.form.table) × (tree.now.rides ≡ self.old.form.rides))
@@ -102,6 +104,7 @@ impl<D: Disk> SectionStore<D> {
             → IsBody form trees tree self.old.place self.old.extent (D.state self.old.disk)
             → LeavesOnly (D.state self.old.disk) (D.state self.new.disk) (λ bytes. IsSections form bytes trees) }
         ensures lasting { (form : Form) → D.honest self.old.disk → LosesNothing form (D.state self.old.disk) (D.state self.new.disk) }
+        ensures told { D.told_to_fail self.old.disk → IsErr result }
         ensures honest { D.honest self.old.disk ↔ D.honest self.new.disk }
         ensures device { OnlyDevice result (D.failures self.old.disk) (D.failures self.new.disk) }
         ensures next { MatchResult result (λ _. self.new.next ≡ Step.OpenGate) (λ _. self.new.next ≡ Step.Failed) }
@@ -137,6 +140,7 @@ impl<D: Disk> SectionStore<D> {
         ensures lasting { (form : Form) (trees : List Content) (tree : Content) → D.honest self.old.disk
             → IsBody form trees tree self.old.place self.old.extent (D.state self.old.disk) → IsDurable (D.state self.old.disk)
             → LosesNothing form (D.state self.old.disk) (D.state self.new.disk) }
+        ensures told { D.told_to_fail self.old.disk → IsErr result }
         ensures honest { D.honest self.old.disk ↔ D.honest self.new.disk }
         ensures device { OnlyDevice result (D.failures self.old.disk) (D.failures self.new.disk) }
         ensures next { MatchResult result (λ _. self.new.next ≡ Step.SyncGate) (λ _. self.new.next ≡ Step.Failed) }
@@ -171,6 +175,7 @@ impl<D: Disk> SectionStore<D> {
             → IsOpened form trees (self.old.place + self.old.extent) (D.state self.old.disk)
             → LeavesOnly (D.state self.old.disk) (D.state self.new.disk) (λ bytes. IsSections form bytes trees) }
         ensures lasting { (form : Form) → D.honest self.old.disk → LosesNothing form (D.state self.old.disk) (D.state self.new.disk) }
+        ensures told { D.told_to_fail self.old.disk → IsErr result }
         ensures honest { D.honest self.old.disk ↔ D.honest self.new.disk }
         ensures device { OnlyDevice result (D.failures self.old.disk) (D.failures self.new.disk) }
         ensures next { MatchResult result (λ _. self.new.next ≡ Step.WriteBody) (λ _. self.new.next ≡ Step.Failed) }

@@ -131,6 +131,7 @@ impl SectionStore<MemDisk> {
         ensures failures { failures_of self.new.disk ≡ failures_of self.old.disk }
         ensures told { (k : ℕ) → is_told self.new.disk k ≡ (k == n) }
         ensures same { (self.new.place ≡ self.old.place) × (self.new.next ≡ self.old.next) × (self.new.form ≡ self.old.form) }
+        ensures section { (self.new.extent ≡ self.old.extent) × (self.new.source ≡ self.old.source) }
         ensures stored { self.new.stored ≡ self.old.stored }
     {
         self.disk.fail_at(n);

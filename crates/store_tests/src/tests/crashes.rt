@@ -5,8 +5,8 @@ ghost use Rattle.disk_model.specs.MemDisk.{state_of};
 ghost use Rattle.section_store.specs.Store.{IsFreshRest};
 
 use super::layout::list_in;
-use disk_model::{Disk, MemDisk};
-use sample_store::{Sample, bytes_of, new_file};
+use disk_model::MemDisk;
+use sample_store::{Sample, bytes_of, new_file, old_file};
 use section_store::{PutFault, begin};
 use std::alloc::Global;
 use std::test::Fail;
@@ -31,17 +31,6 @@ enum Before {
 struct Ended {
     disk: MemDisk,
     receipts: usize,
-}
-
-// A file of 300 bytes whose first is a closed gate.
-fn old_file(alloc: Global) -> Result<MemDisk, Fail>
-    ensures { IfOk result (λ disk. IsFreshRest (state_of disk)) }
-{
-    let mut disk = MemDisk::new(alloc);
-    disk.write_at(0, &[0])?;
-    disk.write_at(1, &[7; 299])?;
-    disk.sync()?;
-    Ok(disk)
 }
 
 // The file before the store is begun, told when to fail.

@@ -1,71 +1,101 @@
-use Rattle.std.proofs.Common.{◌≡◌, ◌∙◌, ◌++◌, [], ◌∷◌, ap, subst, sym, not, true, false}
+use Rattle.std.proofs.Common.{◌≡◌, ◌∙◌, ◌++◌, [], ◌∷◌, ap, inl, inr, refl, subst, sym, not, true, false}
 use Rattle.disk_model.specs.MemDisk.{state_of}
 use Rattle.pattern_tree.specs.Content.{Content}
 use Rattle.section_store.specs.Fault.{CauseOf, IsTooLarge}
 use Rattle.section_store.specs.Lasting.{IsExact}
 use Rattle.section_store.specs.Sections.{Form}
-use Rattle.section_store.specs.Store.{Holds, WroteBody, BodyFailed}
-use Rattle.section_store.specs.declared.step.Step.{Step}
+use Rattle.section_store.specs.Store.{WroteBody, BodyFailed}
 use Rattle.section_store.specs.declared.step.Step.TheVariants as N
-use Rattle.planner_core.specs.Archive.{IsStage}
 use Rattle.planner_core.specs.Views.{ArchiveView}
-use Rattle.planner_core.proofs.Calling.{written, not_written, still_archive, section_made, section_failed}
+use Rattle.planner_core.proofs.Calling.{after_write_body, as_before, still_archive, section_made, section_failed}
 use Rattle.planner_core.proofs.archive.Archive.write_body.Goals as goal
 use Rattle.planner_core.proofs.archive.Archive.write_body.Goals.{in-Ok, in-Err-Device}
 
-pub invariant_of-archive : goal.invariant_of-archive
-invariant_of-archive c =
+pub invariant_of-self-in-Err-TooLarge : goal.invariant_of-self-in-Err-TooLarge
+invariant_of-self-in-Err-TooLarge c =
     let at = c.self.inside in
     let store = at.store in
-    let mid = c.tell.new.store in
+    let told = c.tell.new.store in
     let new = c.write_body.new.self in
     let same = c.tell.ensures.same in
-    let is = c.self.invariant in
-    let next : store.next ≡ N.WriteBody = ap (λ (a : ArchiveView). a.next) c.self.view_is ∙ c.requires.ready in
-    let kept = c.in-Err-TooLarge.ensures.same (λ device. cc (device, c.in-Err-TooLarge.field-0-is)) in
-    let state : state_of new.disk ≡ state_of store.disk = ap (λ d. state_of d) kept.0 ∙ c.tell.ensures.state in
-    let after : new.next ≡ N.WriteBody = kept.2 ∙ same.1 ∙ next in
-    let place : new.place ≡ store.place = c.write_body.ensures.place ∙ same.0 in
-    let resting = subst (λ (n : Step). IsStage n store.form is.trees at.storing.items store.source store.place store.extent (state_of store.disk)) next is.stage in
-    still_archive store.form new.form store.stored.items new.stored.items at.storing.items c.reserve.new.self.items at.acknowledged.items store.next new.next
-    store.source new.source store.place new.place store.extent new.extent (state_of store.disk) (state_of new.disk) is
-    (c.write_body.ensures.form ∙ same.2) (c.write_body.ensures.stored ∙ ap (λ v. v.items) c.tell.ensures.stored)
-    (rw (after, place, state, c.reserve.ensures.items) resting)
-
-pub invariant_of-archive-2 : goal.invariant_of-archive-2
-invariant_of-archive-2 c =
-    let at = c.self.inside in
-    let store = at.store in
-    let mid = c.tell.new.store in
-    let new = c.write_body.new.self in
-    let tree = c.args.tree.now.tree in
-    let same = c.tell.ensures.same in
-    let state = c.tell.ensures.state in
+    let section = c.tell.ensures.section in
     let stored = ap (λ v. v.items) c.tell.ensures.stored in
-    let is = c.self.invariant in
     let next : store.next ≡ N.WriteBody = ap (λ (a : ArchiveView). a.next) c.self.view_is ∙ c.requires.ready in
-    let resting = subst (λ (n : Step). IsStage n store.form is.trees at.storing.items store.source store.place store.extent (state_of store.disk)) next is.stage in
-    let rest = subst (λ (f : Form). Holds f is.trees mid.place mid.stored.items (state_of mid.disk)) (sym same.2) (rw (same.0, stored, state) (record { rest = resting.rest; stored_are = is.stored_are })) in
+    let is = as_before same.2 stored refl refl (sym next) section.1 same.0 section.0 c.tell.ensures.state c.self.invariant in
+    let kept = c.in-Err-TooLarge.ensures.same (λ device. cc (device, c.in-Err-TooLarge.field-0-is)) in
+    let after : new.next ≡ N.WriteBody = kept.2 ∙ same.1 ∙ next in
+    still_archive is c.write_body.ensures.form c.write_body.ensures.stored
+    (rw (after, c.write_body.ensures.place, ap (λ d. state_of d) kept.0, c.reserve.ensures.items) is.stage)
+
+pub invariant_of-self-in-Err-Memory : goal.invariant_of-self-in-Err-Memory
+invariant_of-self-in-Err-Memory c =
+    let at = c.self.inside in
+    let store = at.store in
+    let told = c.tell.new.store in
+    let new = c.write_body.new.self in
+    let same = c.tell.ensures.same in
+    let section = c.tell.ensures.section in
+    let stored = ap (λ v. v.items) c.tell.ensures.stored in
+    let next : store.next ≡ N.WriteBody = ap (λ (a : ArchiveView). a.next) c.self.view_is ∙ c.requires.ready in
+    let is = as_before same.2 stored refl refl (sym next) section.1 same.0 section.0 c.tell.ensures.state c.self.invariant in
+    let kept = c.in-Err-Memory.ensures.same (λ device. cc (device, c.in-Err-Memory.field-0-is)) in
+    let after : new.next ≡ N.WriteBody = kept.2 ∙ same.1 ∙ next in
+    still_archive is c.write_body.ensures.form c.write_body.ensures.stored
+    (rw (after, c.write_body.ensures.place, ap (λ d. state_of d) kept.0, c.reserve.ensures.items) is.stage)
+
+pub invariant_of-self-in_err-as_told : goal.invariant_of-self-in_err-as_told
+invariant_of-self-in_err-as_told c =
+    let at = c.self.inside in
+    let store = at.store in
+    let told = c.tell.new.store in
+    let new = c.write_body.new.self in
+    let same = c.tell.ensures.same in
+    let section = c.tell.ensures.section in
+    let stored = ap (λ v. v.items) c.tell.ensures.stored in
+    let next : store.next ≡ N.WriteBody = ap (λ (a : ArchiveView). a.next) c.self.view_is ∙ c.requires.ready in
+    let is = as_before same.2 stored refl refl (sym next) section.1 same.0 section.0 c.tell.ensures.state c.self.invariant in
+    let tree = c.args.tree.now.tree in
     let more : c.push_reserved.new.self.items ≡ at.storing.items ++ tree.source ∷ [] =
     c.push_reserved.ensures.items ∙ ap (λ l. l ++ c.source.result ∷ []) c.reserve.ensures.items ∙ ap (λ n. at.storing.items ++ n ∷ []) (c.source.ensures ∙ ap (λ (t : Content). t.source) c.tree.ensures.value) in
-    let moments = rw state at (rw same.2 at (c.write_body.ensures.moments is.trees tt rest.rest)) in
     let finished = c.tree.ensures.finished in
-    let table = c.requires.table ∙ ap (λ (a : ArchiveView). a.form.table) (sym c.self.view_is) in
-    let rides = c.requires.rides ∙ ap (λ (a : ArchiveView). a.form.rides) (sym c.self.view_is) in
-    let exact : IsExact store.form tree = record { complete = rw (← table, ← rides) finished.complete; earned = rw (← table, ← rides) finished.earned } in
-    let stage : IsStage new.next store.form is.trees c.push_reserved.new.self.items new.source new.place new.extent (state_of new.disk) =
-    elim c.match-write_body.branch [
-      | in-Ok w ↦
-          let body = rw same.2 at (w.in-Ok.ensures.body is.trees tt rest) in
-          rw w.in-Ok.ensures.next (written store.form is.trees at.storing.items c.push_reserved.new.self.items tree new.source store.place new.place new.extent (state_of store.disk) (state_of new.disk)
-          resting body moments exact (sym w.in-Ok.ensures.source) more)
-      | in-Err-Device w ↦
-          rw (w.in-Err-Device.ensures.failed w.in-Err-Device.field-0-is) (not_written store.form is.trees at.storing.items c.push_reserved.new.self.items tree new.source store.place new.place new.extent (state_of store.disk) (state_of new.disk)
-          resting moments exact more)
-    ] in
-    still_archive store.form new.form store.stored.items new.stored.items at.storing.items c.push_reserved.new.self.items at.acknowledged.items store.next new.next
-    store.source new.source store.place new.place store.extent new.extent (state_of store.disk) (state_of new.disk) is
-    (c.write_body.ensures.form ∙ same.2) (c.write_body.ensures.stored ∙ stored) stage
+    let form = same.2 ∙ ap (λ (a : ArchiveView). a.form) c.self.view_is in
+    let table : c.args.tree.now.table ≡ told.form.table = c.requires.table ∙ sym (ap (λ (f : Form). f.table) form) in
+    let rides : c.args.tree.now.rides ≡ told.form.rides = c.requires.rides ∙ sym (ap (λ (f : Form). f.rides) form) in
+    let exact : IsExact told.form tree = record { complete = rw (← table, ← rides) finished.complete; earned = rw (← table, ← rides) finished.earned } in
+    still_archive is c.write_body.ensures.form c.write_body.ensures.stored
+    (after_write_body told.form is.trees at.storing.items c.push_reserved.new.self.items tree new.source told.place new.place new.extent (state_of told.disk) (state_of new.disk) new.next
+    is.stage (c.write_body.ensures.moments is.trees tt is.stage.rest) exact more
+    (elim c.match-write_body.branch [
+      | in-Ok w ↦ inl (w.in-Ok.ensures.next, w.in-Ok.ensures.body is.trees tt (record { rest = is.stage.rest; stored_are = is.stored_are }), w.in-Ok.ensures.source)
+      | in-Err-Device w ↦ inr (w.in-Err-Device.ensures.failed w.in-Err-Device.field-0-is)
+    ]))
+
+pub invariant_of-self-2 : goal.invariant_of-self-2
+invariant_of-self-2 c =
+    let at = c.self.inside in
+    let store = at.store in
+    let told = c.tell.new.store in
+    let new = c.write_body.new.self in
+    let same = c.tell.ensures.same in
+    let section = c.tell.ensures.section in
+    let stored = ap (λ v. v.items) c.tell.ensures.stored in
+    let next : store.next ≡ N.WriteBody = ap (λ (a : ArchiveView). a.next) c.self.view_is ∙ c.requires.ready in
+    let is = as_before same.2 stored refl refl (sym next) section.1 same.0 section.0 c.tell.ensures.state c.self.invariant in
+    let tree = c.args.tree.now.tree in
+    let more : c.push_reserved.new.self.items ≡ at.storing.items ++ tree.source ∷ [] =
+    c.push_reserved.ensures.items ∙ ap (λ l. l ++ c.source.result ∷ []) c.reserve.ensures.items ∙ ap (λ n. at.storing.items ++ n ∷ []) (c.source.ensures ∙ ap (λ (t : Content). t.source) c.tree.ensures.value) in
+    let finished = c.tree.ensures.finished in
+    let form = same.2 ∙ ap (λ (a : ArchiveView). a.form) c.self.view_is in
+    let table : c.args.tree.now.table ≡ told.form.table = c.requires.table ∙ sym (ap (λ (f : Form). f.table) form) in
+    let rides : c.args.tree.now.rides ≡ told.form.rides = c.requires.rides ∙ sym (ap (λ (f : Form). f.rides) form) in
+    let exact : IsExact told.form tree = record { complete = rw (← table, ← rides) finished.complete; earned = rw (← table, ← rides) finished.earned } in
+    still_archive is c.write_body.ensures.form c.write_body.ensures.stored
+    (after_write_body told.form is.trees at.storing.items c.push_reserved.new.self.items tree new.source told.place new.place new.extent (state_of told.disk) (state_of new.disk) new.next
+    is.stage (c.write_body.ensures.moments is.trees tt is.stage.rest) exact more
+    (elim c.match-write_body.branch [
+      | in-Ok w ↦ inl (w.in-Ok.ensures.next, w.in-Ok.ensures.body is.trees tt (record { rest = is.stage.rest; stored_are = is.stored_are }), w.in-Ok.ensures.source)
+      | in-Err-Device w ↦ inr (w.in-Err-Device.ensures.failed w.in-Err-Device.field-0-is)
+    ]))
 
 pub returns : goal.returns
 returns c =
@@ -74,7 +104,7 @@ returns c =
     let mid = c.tell.new.store in
     let new = c.write_body.new.self in
     let t = c.args.tree.now in
-    let a = c.args.self in
+    let a = c.args.self.now in
     let v = c.self.view_is in
     let same = c.tell.ensures.same in
     let form : mid.form ≡ a.form = same.2 ∙ ap (λ (x : ArchiveView). x.form) v in
