@@ -10,6 +10,7 @@ use Rattle.timetable.specs.Table.{Table}
 use Rattle.pattern_tree.specs.Content.{Content}
 use Rattle.pattern_query.specs.Answer.{PointData, numbers, AreBest}
 use Rattle.planner.specs.Questions.{IsAskedPoint, ReachesBetween}
+use Rattle.scanned_journeys.specs.Journeys.{IsJourney}
 use Rattle.answering.specs.Answers.{IsReached, IsRideBetween, Shows}
 use Rattle.answering.specs.Found.{IsJourneyBetween}
 use Rattle.told_journeys.specs.Points.{ShowsNumbers, Tells}
@@ -74,6 +75,15 @@ journey_between table held froms tos d p h = record {
   ends = h.1.2;
   journey = subst (λ s. Journey table s d p.legs p.to p.arrival) (sym h.2.starts) h.2.journey.0;
   rides = h.2.counted;
+}
+
+-- so is a journey between two single stops
+pub single_journey : (table : Table) (s t d : ℕ) (p : PointData) → IsJourney table s t d p → IsJourneyBetween table (s ∷ []) (t ∷ []) d p
+single_journey table s t d p h = record {
+  starts = subst (λ x. Contains (s ∷ []) x) (sym h.starts) (contains_one s);
+  ends = subst (λ x. Contains (t ∷ []) x) (sym h.ends) (contains_one t);
+  journey = subst₂ (λ x y. Journey table x d p.legs y p.arrival) (sym h.starts) (sym h.ends) h.journey;
+  rides = h.counted;
 }
 
 -- so its numbers are those of a journey

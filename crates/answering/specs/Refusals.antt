@@ -39,6 +39,7 @@ IsUnanswered stops Missing table moment question (faults.NotStored id) = AreKnow
 IsUnanswered stops Missing table moment question faults.Memory = Unit {0}
 IsUnanswered stops Missing table moment question faults.BadDate = ⊥
 IsUnanswered stops Missing table moment question faults.BadTime = ⊥
+IsUnanswered stops Missing table moment question faults.NoRandomness = ⊥
 IsUnanswered stops Missing table moment question (faults.Feed f) = ⊥
 IsUnanswered stops Missing table moment question (faults.Days f) = ⊥
 IsUnanswered stops Missing table moment question (faults.Store f) = ⊥

@@ -1,6 +1,6 @@
 //! Answers to questions.
 
-ghost use Rattle.std.specs.Prelude.{◌≡◌, ◌≤◌, ◌<◌, [], ◌∷◌, Some, IfOk, IfErr, IfSome, IfNone, false};
+ghost use Rattle.std.specs.Prelude.{◌≡◌, ◌≤◌, ◌<◌, [], ◌∷◌, Some, IfOk, IfErr, IfSome, IfNone, true, false};
 ghost use Rattle.planner.specs.Places.{stops_at};
 ghost use Rattle.timetable.specs.Table.{stops_of};
 ghost use Rattle.answering.specs.Answers.{ArePoints, AreTreePoints, IsAnswered, IsAsked, IsDirect};
@@ -16,7 +16,8 @@ use feed_basis::Basis;
 use planner::{AskFault, Trees, ask_on};
 use program_inputs::Fault;
 use rounds::Rides;
-use std::alloc::Global;
+use scanned_journeys::scan_journeys;
+use std::alloc::{AllocError, Global};
 use timetable::StopId;
 use told_journeys::{points_of, told};
 
@@ -24,6 +25,7 @@ use told_journeys::{points_of, told};
 fn covered_moment(basis: &Basis, moment: Option<u32>) -> Option<u32>
     ensures moment { IfSome result (λ depart. (moment ≡ Some depart) × (depart ≤ basis.now.timetable.horizon)) }
     ensures early { IfSome result (λ depart. depart ≤ 4_000_000_000) }
+    ensures sound { IfSome result (λ _. IsSound basis.now) }
     ensures none { IfNone result (¬ IsCovered basis.now.timetable moment) }
 {
     let depart = moment?;
@@ -53,6 +55,7 @@ fn between<'a>(
     ensures from { IfOk result (λ asked. asked.from < stops_of basis.now.timetable) }
     ensures to { IfOk result (λ asked. asked.to < stops_of basis.now.timetable) }
     ensures early { IfOk result (λ asked. asked.depart ≤ 4_000_000_000) }
+    ensures sound { IfOk result (λ _. IsSound basis.now) }
     ensures refusal { IfErr result (IsUnanswered (stop_alone basis.now.names) NoneMissing basis.now.timetable moment question.now) }
 {
     let Some(from) = basis.stop_named(question.from) else {
@@ -86,19 +89,18 @@ pub fn direct<'a>(
     Ok(answer)
 }
 
-/// The best arrivals from stop to stop over journeys of at most so many rides, by rounds: no tree is asked.
-pub fn scan<'a>(
+// The best numbers between the stops, over journeys of at most so many rides. No lines are made for them.
+fn scan_numbers(
     alloc: Global,
     basis: &Basis,
-    question: &Question<'a>,
-    moment: Option<u32>,
+    asked: Asked,
     rides: Rides,
-) -> Result<Answer, Fault<'a>>
-    ensures answer { IfOk result (IsAnswered (stop_alone basis.now.names) (ArePoints basis.now rides false)
-        basis.now.timetable moment question.now) }
-    ensures refusal { IfErr result (IsUnanswered (stop_alone basis.now.names) NoneMissing basis.now.timetable moment question.now) }
+) -> Result<Answer, AllocError>
+    requires from { asked.from < stops_of basis.now.timetable }
+    requires to { asked.to < stops_of basis.now.timetable }
+    requires early { asked.depart ≤ 4_000_000_000 }
+    ensures { IfOk result (ArePoints basis.now rides false (asked.from ∷ []) (asked.to ∷ []) asked.depart) }
 {
-    let asked = between(basis, question, moment)?;
     let front = rounds::scan(
         alloc,
         basis.timetable(),
@@ -109,6 +111,48 @@ pub fn scan<'a>(
     )?;
     let points = points_of(alloc, basis, front.as_slice())?;
     Ok(Answer::Points(points))
+}
+
+// The same with the rides and walks of a journey that has the numbers.
+fn scan_with_legs(
+    alloc: Global,
+    basis: &Basis,
+    asked: Asked,
+    rides: Rides,
+) -> Result<Answer, AllocError>
+    requires sound { IsSound basis.now }
+    requires from { asked.from < stops_of basis.now.timetable }
+    requires to { asked.to < stops_of basis.now.timetable }
+    requires early { asked.depart ≤ 4_000_000_000 }
+    ensures { IfOk result (ArePoints basis.now rides true (asked.from ∷ []) (asked.to ∷ []) asked.depart) }
+{
+    let network = basis.network(alloc)?;
+    let found = scan_journeys(alloc, &network, asked.from, asked.to, asked.depart, rides)?;
+    let points = told(alloc, basis, asked.depart, true, found.points())?;
+    Ok(Answer::Points(points))
+}
+
+/// The best arrivals from stop to stop over journeys of at most so many rides, by rounds: no tree is asked. With `legs` the rides and
+/// walks of each journey are told, for which the timetable's lines are made.
+pub fn scan<'a>(
+    alloc: Global,
+    basis: &Basis,
+    question: &Question<'a>,
+    moment: Option<u32>,
+    rides: Rides,
+    legs: bool,
+) -> Result<Answer, Fault<'a>>
+    ensures answer { IfOk result (IsAnswered (stop_alone basis.now.names) (ArePoints basis.now rides legs)
+        basis.now.timetable moment question.now) }
+    ensures refusal { IfErr result (IsUnanswered (stop_alone basis.now.names) NoneMissing basis.now.timetable moment question.now) }
+{
+    let asked = between(basis, question, moment)?;
+    let answer = if legs {
+        scan_with_legs(alloc, basis, asked, rides)?
+    } else {
+        scan_numbers(alloc, basis, asked, rides)?
+    };
+    Ok(answer)
 }
 
 // The refusal of a question between places, as the program tells it.

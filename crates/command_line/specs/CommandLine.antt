@@ -11,6 +11,14 @@ journey_app name =
     (required_rule (codes "to")))
     (required_rule (codes "at"))
 
+-- what a feed has
+abbrev pub check_app : App
+check_app = with_rule (new_app (codes "check")) (required_rule (codes "feed"))
+
+-- the best arrivals, perhaps told with their rides and walks
+abbrev pub scan_app : App
+scan_app = with_rule (journey_app (codes "scan")) (flag_rule (codes "legs"))
+
 -- a command over the file of a store
 abbrev pub store_app : Text → App
 store_app name = with_rule (common_app name) (required_rule (codes "store"))
@@ -40,9 +48,11 @@ tells_version app = record app { top = record app.top { has_version = true } }
 -- the program, which tells its version: else one of its commands must be named
 abbrev pub program_app : App
 program_app =
-    with_subcommand (with_subcommand (with_subcommand (with_subcommand (with_subcommand (needs_subcommand (tells_version (new_app (codes "tp"))))
+    with_subcommand (with_subcommand (with_subcommand (with_subcommand (with_subcommand (with_subcommand
+    (needs_subcommand (tells_version (new_app (codes "tp"))))
+    check_app.top)
     (journey_app (codes "direct")).top)
-    (journey_app (codes "scan")).top)
+    scan_app.top)
     build_app.top)
     list_app.top)
     ask_app.top

@@ -7,6 +7,8 @@ use Rattle.program_inputs.specs.Values.{HasFlag, HasText}
 use Rattle.command_line.specs.declared.job.Command.{Command}
 use Rattle.command_line.specs.declared.job.Command.TheVariants as command
 use Rattle.command_line.specs.declared.job.Job.{Job}
+use Rattle.command_line.specs.declared.job.Job.TheVariants as job
+use Rattle.command_line.specs.declared.job.Plan.{Plan}
 use Rattle.command_line.specs.declared.job.Question.{Question}
 use Rattle.command_line.specs.declared.job.Task.{Task}
 use Rattle.command_line.specs.declared.job.Task.TheVariants as task
@@ -24,7 +26,7 @@ LacksQuestion rows = (question : Question) → ¬ IsQuestion rows question
 -- the command that asks, and its own words
 abbrev pub IsTask : Text → List Row → Task → Type 0
 IsTask name rows (task.Direct question) = (name ≡ codes "direct") × IsQuestion rows question
-IsTask name rows (task.Scan question) = (name ≡ codes "scan") × IsQuestion rows question
+IsTask name rows (task.Scan question legs) = (name ≡ codes "scan") × IsQuestion rows question × (IsTrue legs ↔ HasFlag rows (codes "legs"))
 IsTask name rows (task.Ask question on legs store) =
     (name ≡ codes "ask") × IsQuestion rows question × (option_map (λ text. text.now) on ≡ first_of (codes "on") rows)
     × (IsTrue legs ↔ HasFlag rows (codes "legs")) × HasText rows (codes "store") store.now
@@ -44,19 +46,28 @@ IsCommand name rows (command.List store) = (name ≡ codes "list") × HasText ro
 abbrev pub NamesNoCommand : Text → List Row → Type 0
 NamesNoCommand name rows = (command : Command) → ¬ IsCommand name rows command
 
+-- a command's name and rows give this command, with these settings
+pub record IsPlan (name : Text) (rows : List Row) (plan : Plan) : Type 0 where
+  pub settings : HasSettings rows plan.settings
+  pub command : IsCommand name rows plan.command
+
+-- no command over a timetable has this name and these rows
+abbrev pub NamesNoPlan : Text → List Row → Type 0
+NamesNoPlan name rows = (plan : Plan) → ¬ IsPlan name rows plan
+
 -- a command's name and rows give this job
-pub record IsJobOf (name : Text) (rows : List Row) (job : Job) : Type 0 where
-  pub settings : HasSettings rows job.settings
-  pub command : IsCommand name rows job.command
+abbrev pub IsJobOf : Text → List Row → Job → Type 0
+IsJobOf name rows (job.Check feed) = (name ≡ codes "check") × HasText rows (codes "feed") feed.now
+IsJobOf name rows (job.Plan plan) = IsPlan name rows plan
 
 abbrev pub IsJob : Option (Text × List Row) → Job → Type 0
-IsJob None job = ⊥
-IsJob (Some met) job = IsJobOf met.0 met.1 job
+IsJob None named = ⊥
+IsJob (Some met) named = IsJobOf met.0 met.1 named
 
 -- no job has this name and these rows
 abbrev pub NamesNoJobOf : Text → List Row → Type 0
-NamesNoJobOf name rows = (job : Job) → ¬ IsJobOf name rows job
+NamesNoJobOf name rows = (named : Job) → ¬ IsJobOf name rows named
 
 -- there is no command, or one without a value for each of its words
 abbrev pub NamesNoJob : Option (Text × List Row) → Type 0
-NamesNoJob met = (job : Job) → ¬ IsJob met job
+NamesNoJob met = (named : Job) → ¬ IsJob met named

@@ -1,7 +1,7 @@
 //! What the program is asked to do.
 
 ghost use Rattle.std.specs.Prelude.{◌≡◌};
-ghost use Rattle.command_line.specs.Tasks.{question_of, day_from};
+ghost use Rattle.command_line.specs.Tasks.{question_of, day_from, feed_of};
 
 use program_inputs::Settings;
 
@@ -22,7 +22,11 @@ pub enum Task<'a> {
     /// The least arrival of one ride.
     Direct(Question<'a>),
     /// The best arrivals, by how many rides they take.
-    Scan(Question<'a>),
+    Scan {
+        question: Question<'a>,
+        /// Whether the rides and walks of each journey are told.
+        legs: bool,
+    },
     /// The best journeys, from the stored pattern trees of the stops to leave from.
     Ask {
         question: Question<'a>,
@@ -41,8 +45,8 @@ impl<'a> Task<'a> {
         ensures { result ≡ question_of self.now }
     {
         match self {
-            Task::Direct(question) | Task::Scan(question) => *question,
-            Task::Ask { question, .. } => *question,
+            Task::Direct(question) | Task::Scan { question, .. } | Task::Ask { question, .. } =>
+                *question,
         }
     }
 
@@ -76,9 +80,33 @@ pub enum Command<'a> {
     },
 }
 
-/// The words of the program, read.
+/// A command over the timetable of a feed on the covered days.
 #[derive(Clone, Copy, Debug, PartialEq, Eq)]
-pub struct Job<'a> {
+pub struct Plan<'a> {
     pub settings: Settings<'a>,
     pub command: Command<'a>,
+}
+
+/// What the words of the program ask for.
+#[derive(Clone, Copy, Debug, PartialEq, Eq)]
+pub enum Job<'a> {
+    /// Reads a feed and tells what it has.
+    Check {
+        /// The folder of the feed.
+        feed: &'a str,
+    },
+    /// Does a command.
+    Plan(Plan<'a>),
+}
+
+impl<'a> Job<'a> {
+    /// The folder of the feed.
+    pub fn feed(&self) -> &'a str
+        ensures { result.now ≡ feed_of self.now }
+    {
+        match self {
+            Job::Check { feed } => feed,
+            Job::Plan(plan) => plan.settings.feed,
+        }
+    }
 }

@@ -5,5 +5,5 @@ mod job;
 mod program;
 mod words;
 
-pub use job::{Command, Job, Question, Task};
+pub use job::{Command, Job, Plan, Question, Task};
 pub use words::read_words;

@@ -4,7 +4,7 @@ ghost use Rattle.std.specs.Prelude.{◌≡◌, codes, false, IfOk, IfErr, IsOkAn
 ghost use Rattle.clap.specs.Words.{app_of, kind_of, subcommand_of, subcommand_rows_of, fault_of, with_subcommand, FailsBy};
 ghost use Rattle.clap.specs.declared.error.kind.ErrorKind.TheVariants.{OutOfMemory};
 ghost use Rattle.clap.specs.declared.builder.command.Command.TheViews.{out-Command as fields_of};
-ghost use Rattle.command_line.specs.CommandLine.{ask_app, build_app, journey_app, list_app, program_app, store_app};
+ghost use Rattle.command_line.specs.CommandLine.{ask_app, build_app, check_app, journey_app, list_app, program_app, scan_app, store_app};
 
 use clap::{ArgMatches, Command, Error};
 use program_inputs::{common, flag, optional, required};
@@ -29,6 +29,7 @@ the row, where row 0 is the header or the whole file:
   F8 BadCsv            the record isn't UTF-8
   F9 ReadFailed        the file can't be read, or DIR is no folder: unpack a zipped feed first
   F10 EndTimeMissing   the first or the last call of a trip has no times
+  R1 NoRandomness      the system gives no randomness: nothing of the feed was read
   S1 BadRange          --days is 1 to 14, and days lie from 1900-01-01 to 9998-12-31
   S2 BadZone           --zone is a POSIX rule, as CET-1CEST,M3.5.0,M10.5.0/3
   S3 ZoneJump          by --zone a day lasts less than 1 or more than 172,800 seconds
@@ -44,10 +45,23 @@ the row, where row 0 is the header or the whole file:
   Q2 NotCovered        the time isn't within the covered days
   Q3 NotStored         FILE lacks the tree of the stop: build with the same options first
 
-Statuses: 0 done, 1 the feed or its days are at fault, 2 the command-line arguments are, 3 the build
-left out stops whose trees would be too large, 4 the store is at fault, 6 the question is (an unknown
-stop, a day that isn't covered, a stop whose tree isn't stored), 7 out of memory, 8 standard output
-refused a write.";
+Statuses: 0 done, 1 the feed or its days are at fault, or there is no randomness, 2 the command-line
+arguments are at fault, 3 the build left out stops whose trees would be too large, 4 the store is at
+fault, 6 the question is (an unknown stop, a day that isn't covered, a tree that isn't stored), 7
+out of memory, 8 standard output refused a write.";
+
+const CHECK: &str = "Whether the feed is without fault, and what it has";
+
+const CHECK_MORE: &str = "\
+Prints how many stops, stations, services, trips, calls and transfers the feed has, and how many
+rows of stop_times.txt and transfers.txt were skipped; then `missing FILE` for each optional file
+that isn't there, and `unread NAME` for what else is in the folder, or `unlisted` where that can't
+be listed. Where the feed is at fault, its first fault is told instead. A service counts where a
+trip names it.
+
+Example: tp check --feed demo/feed-m";
+
+const FEED: &str = "The folder of the feed's files";
 
 const DIRECT: &str = "The least arrival of one ride from a stop to a stop, without walks";
 
@@ -70,14 +84,14 @@ It may be stopped at any moment, as by Ctrl-C: what was stored stands, and the s
 It prints `stored N of M`, and `missing ID` for each stop whose tree would be too large; the status
 is 3 then. While it builds, it tells on standard error how far it is, where that is a terminal.
 
-Example: tp build --feed demo/feed-m --date 20240102 --store feed-m.store";
+Example: tp build --feed demo/feed-m --date 20240102 --store demo.store";
 
 const LIST: &str = "The stops whose trees are stored, in the order in which they were";
 
 const LIST_MORE: &str = "\
 The ids, one a line.
 
-Example: tp list --feed demo/feed-m --date 20240102 --store feed-m.store";
+Example: tp list --feed demo/feed-m --date 20240102 --store demo.store";
 
 const ASK: &str = "The best journeys between stops or stations by walks and at most K rides";
 
@@ -86,7 +100,11 @@ For each number of rides that arrives earlier than all with fewer there is a lin
 comes from the store, which has the patterns of the best journeys of each stop: build it first, with
 the same options.
 
-Example: tp ask --feed demo/feed-m --date 20240102 --store feed-m.store --from A --to E --at 08:00:00";
+Example: tp ask --feed demo/feed-m --date 20240102 --store demo.store --from A --to E --at 08:00:00";
+
+const ASK_USAGE: &str = "\
+tp ask [OPTIONS] --feed <DIR> --date <YYYYMMDD> --store <FILE>
+              --from <STOP> --to <STOP> --at <HH:MM:SS>";
 
 const FROM: &str = "The id of the stop to leave from, for ask also of a station";
 
@@ -100,8 +118,19 @@ const LEGS: &str = "Print the rides and walks of each journey below its line";
 
 const STORE: &str = "The file of the stored trees, which is made where it isn't there";
 
-const PROGRESS: &str =
-    "Tell on standard error how far the build is, also where that is no terminal";
+const PROGRESS: &str = "Tell how far the build is, also if standard error is no terminal";
+
+// The command that tells what a feed has.
+fn check<'a>(alloc: Global) -> Result<Command<'a>, Error>
+    ensures shape { IfOk result (λ c. app_of c ≡ check_app) }
+    ensures local { IfOk result (λ c. (fields_of c).has_globals ≡ false) }
+    ensures err { IfErr result (λ e. kind_of e ≡ OutOfMemory) }
+{
+    let command = Command::new(alloc, "check")
+        .about(CHECK)
+        .arg(required(alloc, "feed", "DIR", FEED))?;
+    Ok(command.after_help(CHECK_MORE))
+}
 
 // A command that goes from one stop to another, at a time, and more to be told below its options.
 fn journey<'a>(
@@ -119,6 +148,16 @@ fn journey<'a>(
         .arg(required(alloc, "to", "STOP", TO))?
         .arg(required(alloc, "at", "HH:MM:SS", AT))?;
     Ok(command.after_help(more))
+}
+
+// The command that answers from rounds.
+fn scan<'a>(alloc: Global) -> Result<Command<'a>, Error>
+    ensures shape { IfOk result (λ c. app_of c ≡ scan_app) }
+    ensures local { IfOk result (λ c. (fields_of c).has_globals ≡ false) }
+    ensures err { IfErr result (λ e. kind_of e ≡ OutOfMemory) }
+{
+    let command = journey(alloc, "scan", SCAN, SCAN_MORE)?.arg(flag(alloc, "legs", LEGS))?;
+    Ok(command)
 }
 
 // A command over the file of a store, and more to be told below its options.
@@ -156,7 +195,7 @@ fn ask<'a>(alloc: Global) -> Result<Command<'a>, Error>
         .arg(required(alloc, "store", "FILE", STORE))?
         .arg(optional(alloc, "on", "YYYYMMDD", ON))?
         .arg(flag(alloc, "legs", LEGS))?;
-    Ok(command)
+    Ok(command.override_usage(ASK_USAGE))
 }
 
 // The program with one more command, where that could be made.
@@ -182,8 +221,9 @@ fn program<'a>(alloc: Global) -> Result<Command<'a>, Error>
         .about(ABOUT)
         .after_help(FAULTS)
         .subcommand_required(true);
+    let program = with_command(program, check(alloc))?;
     let program = with_command(program, journey(alloc, "direct", DIRECT, DIRECT_MORE))?;
-    let program = with_command(program, journey(alloc, "scan", SCAN, SCAN_MORE))?;
+    let program = with_command(program, scan(alloc))?;
     let program = with_command(program, build(alloc))?;
     let program = with_command(program, store(alloc, "list", LIST, LIST_MORE))?;
     let program = with_command(program, ask(alloc))?;

@@ -4,11 +4,13 @@ ghost use Rattle.std.specs.Prelude.{◌≡◌, IfOk, IfErr, IfSome, IfNone, OnOk
 ghost use Rattle.clap.specs.Words.{subcommand_rows_of, subcommand_of, rows_of, found_of, fault_of};
 ghost use Rattle.program_inputs.specs.Statuses.{IsStatus};
 ghost use Rattle.command_line.specs.CommandLine.{program_app};
-ghost use Rattle.command_line.specs.Jobs.{IsCommand, IsJob, IsJobOf, IsQuestion, IsTask, LacksQuestion, NamesNoCommand, NamesNoJob, NamesNoJobOf, NamesNoTask};
+ghost use Rattle.command_line.specs.Jobs.{IsCommand, IsJob, IsJobOf, IsPlan, IsQuestion, IsTask, LacksQuestion};
+ghost use Rattle.command_line.specs.Jobs.{NamesNoCommand, NamesNoJob, NamesNoJobOf, NamesNoPlan, NamesNoTask};
 
-use crate::job::{Command, Job, Question, Task};
+use crate::job::{Command, Job, Plan, Question, Task};
 use crate::program::matches_of;
-use clap::ArgMatches;
+use clap::error::ErrorKind;
+use clap::{ArgMatches, Error};
 use program_inputs::{flag_of, refuse, settings_of, text_of};
 use std::alloc::Global;
 use std::io::Write;
@@ -32,7 +34,10 @@ fn task_of<'a>(name: &str, found: &ArgMatches<'a>) -> Option<Task<'a>>
     let question = question_of(found)?;
     match name {
         "direct" => Some(Task::Direct(question)),
-        "scan" => Some(Task::Scan(question)),
+        "scan" => Some(Task::Scan {
+            question,
+            legs: flag_of(found, "legs"),
+        }),
         "ask" => Some(Task::Ask {
             question,
             on: text_of(found, "on"),
@@ -60,13 +65,27 @@ fn command_of<'a>(name: &str, found: &ArgMatches<'a>) -> Option<Command<'a>>
     }
 }
 
-fn command_job<'a>(name: &str, found: &ArgMatches<'a>) -> Option<Job<'a>>
-    ensures job { IfSome result (IsJobOf name.now (rows_of (found_of found.now))) }
-    ensures none { IfNone result (NamesNoJobOf name.now (rows_of (found_of found.now))) }
+// The command of a name and words, with its settings: none where there is no such command, or a word isn't there.
+fn plan_of<'a>(name: &str, found: &ArgMatches<'a>) -> Option<Plan<'a>>
+    ensures plan { IfSome result (IsPlan name.now (rows_of (found_of found.now))) }
+    ensures none { IfNone result (NamesNoPlan name.now (rows_of (found_of found.now))) }
 {
     let settings = settings_of(found)?;
     let command = command_of(name, found)?;
-    Some(Job { settings, command })
+    Some(Plan { settings, command })
+}
+
+// The job of a name and words: none where no job has the name, or a word isn't there.
+fn named_job<'a>(name: &str, found: &ArgMatches<'a>) -> Option<Job<'a>>
+    ensures job { IfSome result (IsJobOf name.now (rows_of (found_of found.now))) }
+    ensures none { IfNone result (NamesNoJobOf name.now (rows_of (found_of found.now))) }
+{
+    match name {
+        "check" => Some(Job::Check {
+            feed: text_of(found, "feed")?,
+        }),
+        _ => Some(Job::Plan(plan_of(name, found)?)),
+    }
 }
 
 // The job of the command that was met: none where there is none, or a word isn't there.
@@ -75,7 +94,17 @@ fn job_of<'a>(matches: &ArgMatches<'a>) -> Option<Job<'a>>
     ensures none { IfNone result (NamesNoJob (subcommand_rows_of matches.now)) }
 {
     let (name, found) = matches.subcommand()?;
-    command_job(name, found)
+    named_job(name, found)
+}
+
+const RANGES: &str = "--days is 1 to 14, --rides 1 to 8, --default-walk 0 to 86400 seconds.";
+
+// Tells the ranges of all numbers, where one of the words is out of its range. Of the days, 0 and 15 to 255 are within that of a byte,
+// and refused only where the days are covered.
+fn tell_ranges<E: Write>(error: &Error, err: &mut E) {
+    if let ErrorKind::ValueValidation = error.kind() {
+        let _ = writeln!(err, "\n{RANGES}");
+    }
 }
 
 /// Reads the words of the program, the first of which is its name: the job that they name, with exactly their values. An `Err`
@@ -93,6 +122,10 @@ pub fn read_words<'a, E: Write>(
 {
     match matches_of(alloc, words) {
         Ok(matches) => job_of(&matches).ok_or(2),
-        Err(error) => Err(refuse("tp", &error, err)),
+        Err(error) => {
+            let status = refuse("tp", &error, err);
+            tell_ranges(&error, err);
+            Err(status)
+        }
     }
 }

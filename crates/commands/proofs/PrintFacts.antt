@@ -5,6 +5,8 @@ use Rattle.answer_lines.specs.Printed.{answer_text}
 use Rattle.answer_lines.specs.Reports.{report_text, report_status}
 use Rattle.answer_lines.specs.declared.answer.Answer.{Answer}
 use Rattle.answer_lines.specs.declared.report.Report.{Report}
+use Rattle.feed_report.specs.Reports.{report_text as feed_text}
+use Rattle.feed_report.specs.declared.report.FeedReport.{FeedReport}
 use Rattle.program_inputs.specs.Faults.{status_of}
 use Rattle.program_inputs.specs.declared.fault.Fault.{Fault}
 use Rattle.commands.specs.Prints.{AreAnswerLines, AreReportLines, IsPrint, IsTextPrinted}
@@ -36,6 +38,13 @@ pub answer_printed : (r : Result Answer Fault) (Right : Answer → Type 0) (Wron
     → IsPrint (AreAnswerLines Right) Wrong old new status
 answer_printed r Right Wrong old new status =
     printed (λ answer. answer_text answer ++ 10 ∷ []) (λ answer. 0) (AreAnswerLines Right) Right Wrong old new status (λ answer right. (answer, right, refl, refl)) r
+
+-- what a feed has, or its fault
+pub feed_printed : (r : Result FeedReport Fault) (Lines : List ℕ → ℕ → Type 0) (Right : FeedReport → Type 0) (Wrong : Fault → Type 0) (old new : Option (List ℕ)) (status : ℕ)
+    → ((report : FeedReport) → Right report → Lines (feed_text report) 0) → MatchResult r Right Wrong
+    → MatchResult r (λ report. IsTextPrinted (feed_text report) 0 old new status) (λ fault. (status ≡ status_of fault) × Keeps old new)
+    → IsPrint Lines Wrong old new status
+feed_printed r Lines Right Wrong old new status lines = printed feed_text (λ report. 0) Lines Right Wrong old new status lines r
 
 -- a report's lines, or a fault
 pub report_printed : (r : Result Report Fault) (Right : Report → Type 0) (Wrong : Fault → Type 0) (old new : Option (List ℕ)) (status : ℕ)

@@ -1,14 +1,17 @@
 -- What the program leaves, from its words on.
-use Rattle.std.specs.Prelude.{◌≡◌, ◌⊎◌, ℕ, List, [], Option, None, Result, Ok, Err}
+use Rattle.std.specs.Prelude.{◌≡◌, ◌⊎◌, ℕ, Bool, List, [], Option, None, Result, Ok, Err}
 use Rattle.std.specs.Io.KnownBytes.{Keeps}
 use Rattle.clap.specs.Words.{Text, fault_of, subcommand_of}
 use Rattle.gtfs_tables.specs.Feed.{Feed}
 use Rattle.command_line.specs.CommandLine.{program_app}
 use Rattle.command_line.specs.Jobs.{IsJob, NamesNoJob}
+use Rattle.command_line.specs.Tasks.{feed_of}
 use Rattle.command_line.specs.declared.job.Job.{Job}
+use Rattle.command_line.specs.declared.job.Job.TheVariants as jobs
+use Rattle.feed_report.specs.Reports.{Names}
 use Rattle.program_inputs.specs.Statuses.{IsShown, IsStatus}
 use Rattle.program_inputs.specs.declared.fault.Fault.TheVariants.{Memory}
-use Rattle.commands.specs.Runs.{IsRun, Opening, Run, Tells}
+use Rattle.commands.specs.Runs.{IsCheckRun, IsRun, Opening, Run, Tells}
 
 -- the words give no job: help was asked for and is shown, or there is a fault of words, or memory ran out, and nothing is printed
 pub record IsNoJob (words : List Text) (run : Run) : Type 0 where
@@ -22,14 +25,22 @@ pub record NameJob (words : List Text) (job : Job) : Type 0 where
   pub faultless : fault_of program_app words ≡ []
   pub is : IsJob (subcommand_of program_app words) job
 
--- The job is done over the files that opening the feed's folder gave, whatever feed they are; or memory ran out as they were opened.
-abbrev pub IsJobRun : {D F E : Type 0} → Opening D → (List ℕ → Result F E → Type 0) → (F → Feed → Type 0) → Job → Run → Option D → Type 0
-IsJobRun {D} {F} {E} o opens reads job run disk =
-    ((files : F) × opens job.settings.feed.now (Ok files) × ((feed : Feed) → reads files feed → IsRun o feed job run disk))
-    ⊎ ((error : E) × opens job.settings.feed.now (Err error) × Tells (λ f. f ≡ Memory) run × (disk ≡ None))
+-- What a job leaves over a feed: `lists` says which names a folder was said to have, `keyed` whether there are keys to look ids up with.
+abbrev pub IsDone : {D N : Type 0} → Opening D → (List ℕ → Result Names N → Type 0) → Bool → Feed → Job → Run → Option D → Type 0
+IsDone o lists keyed feed (jobs.Check folder) run disk = IsCheckRun (lists folder.now) keyed feed run × (disk ≡ None)
+IsDone o lists keyed feed (jobs.Plan plan) run disk = IsRun o keyed feed plan run disk
 
--- These words, over the feed that their folder opens to and the disk that their store's file opens to, leave these lines, this status and
--- this disk.
-abbrev pub IsProgramRun : {D F E : Type 0} → Opening D → (List ℕ → Result F E → Type 0) → (F → Feed → Type 0) → List Text → Run → Option D → Type 0
-IsProgramRun o opens reads words run disk =
-    (IsNoJob words run × (disk ≡ None)) ⊎ ((job : Job) × NameJob words job × IsJobRun o opens reads job run disk)
+-- The job is done over the files that opening the feed's folder gave, whatever feed they are; or memory ran out as they were opened.
+abbrev pub IsJobRun : {F E : Type 0} → (List ℕ → Result F E → Type 0) → (F → Feed → Type 0) → (Feed → Type 0) → Type 0 → List ℕ → Type 0
+IsJobRun {F} {E} opens reads Done Unopened folder =
+    ((files : F) × opens folder (Ok files) × ((feed : Feed) → reads files feed → Done feed))
+    ⊎ ((error : E) × opens folder (Err error) × Unopened)
+
+-- These words, over the feed that their folder opens to, the names that this folder was said to have, and the disk that their store's file
+-- opens to, leave these lines, this status and this disk.
+abbrev pub IsProgramRun : {D F E N : Type 0} → Opening D → (List ℕ → Result F E → Type 0) → (F → Feed → Type 0)
+    → (List ℕ → Result Names N → Type 0) → Bool → List Text → Run → Option D → Type 0
+IsProgramRun o opens reads lists keyed words run disk =
+    (IsNoJob words run × (disk ≡ None))
+    ⊎ ((job : Job) × NameJob words job
+    × IsJobRun opens reads (λ feed. IsDone o lists keyed feed job run disk) (Tells (λ f. f ≡ Memory) run × (disk ≡ None)) (feed_of job))

@@ -1,5 +1,5 @@
 -- What a run of the program over a feed and the disk of a store leaves.
-use Rattle.std.specs.Prelude.{◌≡◌, ◌↔◌, ◌⊎◌, ℕ, List, Option, None, Some, Result, Ok, Err, Bool, false}
+use Rattle.std.specs.Prelude.{◌≡◌, ◌↔◌, ◌⊎◌, ℕ, List, Option, None, Some, Result, Ok, Err, Bool, true}
 use Rattle.disk_model.specs.Disk.{State}
 use Rattle.disk_model.specs.declared.fault.FileFault.{FileFault}
 use Rattle.disk_model.specs.declared.fault.FileFault.TheVariants as files
@@ -7,7 +7,7 @@ use Rattle.gtfs_tables.specs.Feed.{Feed}
 use Rattle.recovery.specs.declared.fault.RecoverFault.TheVariants.{Device}
 use Rattle.command_line.specs.declared.job.Command.{Command}
 use Rattle.command_line.specs.declared.job.Command.TheVariants as commands
-use Rattle.command_line.specs.declared.job.Job.{Job}
+use Rattle.command_line.specs.declared.job.Plan.{Plan}
 use Rattle.command_line.specs.declared.job.Question.{Question}
 use Rattle.command_line.specs.declared.job.Task.{Task}
 use Rattle.command_line.specs.declared.job.Task.TheVariants as tasks
@@ -15,6 +15,9 @@ use Rattle.program_inputs.specs.declared.fault.Fault.{Fault}
 use Rattle.program_inputs.specs.declared.fault.Fault.TheVariants as faults
 use Rattle.program_inputs.specs.declared.settings.Settings.{Settings}
 use Rattle.feed_basis.specs.Basis.{BasisData}
+use Rattle.feed_report.specs.Counts.{AreCounts, IsCheckFault}
+use Rattle.feed_report.specs.Reports.{Names, report_text}
+use Rattle.feed_report.specs.declared.report.FeedReport.{FeedReport}
 use Rattle.feed_basis.specs.Ids.{stop_alone}
 use Rattle.answer_lines.specs.declared.answer.Answer.{Answer}
 use Rattle.answering.specs.Answers.{ArePoints, IsAnswered, IsDirect}
@@ -108,7 +111,8 @@ IsListRun basis k old new MayTell run =
 -- a question, over the timetable, at the moment of its words
 abbrev pub IsTaskRun : {D : Type 0} → Opening D → BasisData → ℕ → Option ℕ → Task → Run → Option D → Type 0
 IsTaskRun o basis k moment (tasks.Direct question) run disk = IsStopRun basis moment question (IsDirect basis) run × (disk ≡ None)
-IsTaskRun o basis k moment (tasks.Scan question) run disk = IsStopRun basis moment question (ArePoints basis k false) run × (disk ≡ None)
+IsTaskRun o basis k moment (tasks.Scan question legs) run disk =
+    IsStopRun basis moment question (ArePoints basis k legs) run × (disk ≡ None)
 IsTaskRun o basis k moment (tasks.Ask question on legs store) run disk =
     IsOverStore o store.now (IsAskRun basis k moment question legs) run disk
 
@@ -123,7 +127,17 @@ IsCommandRun o settings basis (commands.List store) run disk =
 
 -- What a run leaves, in the order in which faults are looked for: the words, the feed and its days; then the store, and then the question.
 -- The store is opened only where the feed and its days are without fault.
-abbrev pub IsRun : {D : Type 0} → Opening D → Feed → Job → Run → Option D → Type 0
-IsRun o feed job run disk =
-    (Tells (IsGroundFault feed job) run × (disk ≡ None))
-    ⊎ ((basis : BasisData) × IsGround feed job.settings basis × IsCommandRun o job.settings basis job.command run disk)
+abbrev pub IsRun : {D : Type 0} → Opening D → Bool → Feed → Plan → Run → Option D → Type 0
+IsRun o keyed feed plan run disk =
+    (Tells (IsGroundFault keyed feed plan) run × (disk ≡ None))
+    ⊎ ((basis : BasisData) × IsGround keyed feed plan.settings basis × IsCommandRun o plan.settings basis plan.command run disk)
+
+-- the lines that tell what the feed has, and what else is among the names that its folder was said to have
+abbrev pub AreFeedLines : {E : Type 0} → (Result Names E → Type 0) → Bool → Feed → List ℕ → ℕ → Type 0
+AreFeedLines lists keyed feed text status =
+    (report : FeedReport) × AreCounts feed report.counts × (keyed ≡ true) × lists (Ok report.names)
+    × (text ≡ report_text report) × (status ≡ 0)
+
+-- what a feed has, or its fault
+abbrev pub IsCheckRun : {E : Type 0} → (Result Names E → Type 0) → Bool → Feed → Run → Type 0
+IsCheckRun lists keyed feed run = Prints (AreFeedLines lists keyed feed) (IsCheckFault keyed feed) run

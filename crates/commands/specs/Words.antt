@@ -1,11 +1,11 @@
--- The days and the time of a job's words.
+-- The days and the time of a plan's words.
 use Rattle.std.specs.Prelude.{◌≡◌, ◌⊎◌, ℕ, List, Some, None}
 use Rattle.jiff.specs.Types.{Date}
 use Rattle.gtfs_text.specs.Values.{date_of, time_of, ymd}
 use Rattle.command_line.specs.Tasks.{question_of, day_from}
 use Rattle.command_line.specs.declared.job.Command.{Command}
 use Rattle.command_line.specs.declared.job.Command.TheVariants as commands
-use Rattle.command_line.specs.declared.job.Job.{Job}
+use Rattle.command_line.specs.declared.job.Plan.{Plan}
 use Rattle.command_line.specs.declared.job.Task.{Task}
 use Rattle.program_inputs.specs.declared.fault.Fault.{Fault}
 use Rattle.program_inputs.specs.declared.fault.Fault.TheVariants as faults
@@ -32,10 +32,10 @@ IsCommandFault first (commands.Build store progress) fault = ⊥
 IsCommandFault first (commands.List store) fault = ⊥
 
 -- the first covered date is none; or else a word of the command is
-abbrev pub IsWordFault : Job → Fault → Type 0
-IsWordFault job fault =
-    ((fault ≡ faults.BadDate) × (date_of job.settings.date.now ≡ None))
-    ⊎ (((first : Date) × IsDate job.settings.date.now first) × IsCommandFault job.settings.date.now job.command fault)
+abbrev pub IsWordFault : Plan → Fault → Type 0
+IsWordFault plan fault =
+    ((fault ≡ faults.BadDate) × (date_of plan.settings.date.now ≡ None))
+    ⊎ (((first : Date) × IsDate plan.settings.date.now first) × IsCommandFault plan.settings.date.now plan.command fault)
 
 -- a question's words are a date and a time
 abbrev pub HasWords : List ℕ → Command → Type 0

@@ -1,10 +1,10 @@
-//! What a job's words say of days and times.
+//! What the words of a plan say of days and times.
 
 ghost use Rattle.std.specs.Prelude.{IfOk, IfErr};
 ghost use Rattle.commands.specs.Errands.{IsErrand};
 ghost use Rattle.commands.specs.Words.{IsDate, IsLeaving, IsLeavingFault, IsWordFault};
 
-use command_line::{Command, Job, Task};
+use command_line::{Command, Plan, Task};
 use gtfs_text::{date, time};
 use jiff::civil::Date;
 use program_inputs::Fault;
@@ -27,7 +27,7 @@ pub enum Errand<'a> {
     List(&'a str),
 }
 
-/// The words of a job, with its days and its time read.
+/// The words of a plan, with its days and its time read.
 #[derive(Clone, Copy)]
 pub struct Words<'a> {
     /// The first covered day.
@@ -49,17 +49,17 @@ fn leaving_of<'a>(task: &Task<'a>, first: &'a str) -> Result<Leaving, Fault<'a>>
     Ok(Leaving { day, seconds })
 }
 
-/// Reads the days and the time of the job's words: first the first covered day, then the day to leave on, then the time.
-pub fn words_of<'a>(job: &Job<'a>) -> Result<Words<'a>, Fault<'a>>
-    ensures first { IfOk result (λ words. IsDate job.now.settings.date.now words.first) }
-    ensures errand { IfOk result (λ words. IsErrand job.now.settings.date.now job.now.command words.errand) }
-    ensures err { IfErr result (IsWordFault job.now) }
+/// Reads the days and the time of the plan's words: first the first covered day, then the day to leave on, then the time.
+pub fn words_of<'a>(plan: &Plan<'a>) -> Result<Words<'a>, Fault<'a>>
+    ensures first { IfOk result (λ words. IsDate plan.now.settings.date.now words.first) }
+    ensures errand { IfOk result (λ words. IsErrand plan.now.settings.date.now plan.now.command words.errand) }
+    ensures err { IfErr result (IsWordFault plan.now) }
 {
-    let Some(first) = date(job.settings.date) else {
+    let Some(first) = date(plan.settings.date) else {
         return Err(Fault::BadDate);
     };
-    let errand = match &job.command {
-        Command::Answer(task) => Errand::Answer(*task, leaving_of(task, job.settings.date)?),
+    let errand = match &plan.command {
+        Command::Answer(task) => Errand::Answer(*task, leaving_of(task, plan.settings.date)?),
         Command::Build { store, .. } => Errand::Build(store),
         Command::List { store } => Errand::List(store),
     };

@@ -2,6 +2,7 @@
 //! a store.
 #![tactic(auto)]
 
+mod checking;
 mod errand;
 mod printing;
 mod program;

@@ -5,10 +5,12 @@ ghost use Rattle.std.specs.List.{Contains};
 ghost use Rattle.std.specs.Io.KnownBytes.{Keeps};
 ghost use Rattle.answer_lines.specs.Printed.{answer_text};
 ghost use Rattle.answer_lines.specs.Reports.{report_text, report_status};
+ghost use Rattle.feed_report.specs.Reports.{report_text as feed_text};
 ghost use Rattle.commands.specs.Prints.{IsTextPrinted, statuses};
 ghost use Rattle.program_inputs.specs.Faults.{status_of};
 
 use answer_lines::{Answer, PrintFault, Report, print};
+use feed_report::FeedReport;
 use program_inputs::{Fault, out_of_memory, unwritten};
 use std::alloc::Global;
 use std::fmt::Display;
@@ -80,6 +82,24 @@ pub fn print_report<W: Write, E: Write>(
             let status = report.status();
             print_text(alloc, report, status, out, err)
         }
+        Err(fault) => tell_fault(&fault, err),
+    }
+}
+
+/// Prints what a feed has on `out`, or tells its fault on `err`. Gives the status.
+pub fn print_feed<W: Write, E: Write>(
+    alloc: Global,
+    report: Result<FeedReport, Fault<'_>>,
+    out: &mut W,
+    err: &mut E,
+) -> u8
+    ensures told { MatchResult report.entry
+        (λ report. IsTextPrinted (feed_text report) 0 (W.contents out.old) (W.contents out.new) result)
+        (λ fault. (result ≡ status_of fault) × Keeps (W.contents out.old) (W.contents out.new)) }
+    ensures statuses { Contains statuses result }
+{
+    match report {
+        Ok(report) => print_text(alloc, report, 0, out, err),
         Err(fault) => tell_fault(&fault, err),
     }
 }

@@ -1,13 +1,14 @@
 //! The program, from its words to its lines.
 
-ghost use Rattle.std.specs.Prelude.{map};
+ghost use Rattle.std.specs.Prelude.{is_some, map};
 ghost use Rattle.std.specs.Fn.{FnOnceReturnsAt};
 ghost use Rattle.gtfs_tables.specs.Feed.{AreReaders};
 ghost use Rattle.commands.specs.Programs.{IsProgramRun};
 ghost use Rattle.commands.specs.Runs.{opening_of, run_of};
 
+use crate::checking::run_check;
 use crate::running::run;
-use command_line::{Command, Job, read_words};
+use command_line::{Command, Job, Plan, read_words};
 use disk_model::{Disk, FileFault};
 use gtfs_tables::Files;
 use program_inputs::{out_of_memory, show};
@@ -18,23 +19,24 @@ use std::io::{Read, Write};
 use store_building::Progress;
 
 // Whether the words ask that progress is shown.
-fn shows_progress(job: &Job<'_>) -> bool {
-    matches!(job.command, Command::Build { progress: true, .. })
+fn shows_progress(plan: &Plan<'_>) -> bool {
+    matches!(plan.command, Command::Build { progress: true, .. })
 }
 
 /// Reads the program's words, the first of which is its name, and does what they say: `open_feed` opens the files of the feed in the
-/// folder that they name, and fails only where memory runs out; `open_store` opens the file of the store; `progress` gives who is told
-/// how far a build is, by whether the words ask that it is shown. Each is called at its turn, or not at all. The answer goes to `out`,
-/// a fault to `err`.
+/// folder that they name, and `list_folder` gives the names in it; both fail only where memory runs out; `open_store` opens the file of
+/// the store; `progress` gives who is told how far a build is, by whether the words ask that it is shown. Each is called at its turn, or
+/// not at all. The answer goes to `out`, a fault to `err`.
 ///
-/// Gives the status to end with, and the disk of the store where it was opened. Where there are no `keys` for the look-up of ids, that
-/// is a feed whose reader failed.
+/// Gives the status to end with, and the disk of the store where it was opened. Ids are looked up under `keys`: where the system gave no
+/// randomness for them, that is the fault.
 pub fn run_words<
     'a,
     R: Read + Drop,
     D: Disk,
     P: Progress + Drop,
     O: FnOnce(&str) -> io::Result<Files<R>>,
+    L: FnOnce(&str) -> io::Result<Option<Vec<String>>>,
     S: FnOnce(&str) -> Result<D, FileFault>,
     M: FnOnce(bool) -> P,
     W: Write,
@@ -44,16 +46,19 @@ pub fn run_words<
     keys: Option<RandomState>,
     words: &'a [&'a str],
     open_feed: O,
+    list_folder: L,
     open_store: S,
     progress: M,
     out: &mut W,
     err: &mut E,
 ) -> (u8, Option<D>)
     requires feed { O.IsAlwaysCallable open_feed }
+    requires folder { L.IsAlwaysCallable list_folder }
     requires store { S.IsAlwaysCallable open_store }
     requires progress { M.IsAlwaysCallable progress }
     ensures { IsProgramRun (opening_of (FnOnceReturnsAt S.FnOnce open_store) D.honest D.state D.failures)
-        (FnOnceReturnsAt O.FnOnce open_feed) (AreReaders R.remaining) (map (λ word. word.now) words.entry.now)
+        (FnOnceReturnsAt O.FnOnce open_feed) (AreReaders R.remaining) (FnOnceReturnsAt L.FnOnce list_folder) (is_some keys)
+        (map (λ word. word.now) words.entry.now)
         (run_of (W.contents out.old) (W.contents out.new) result.0) result.1 }
 {
     let mut shown = Vec::new(alloc);
@@ -61,14 +66,21 @@ pub fn run_words<
         Ok(job) => job,
         Err(status) => return (show("tp", shown.as_slice(), status, out, err), None),
     };
-    match open_feed(job.settings.feed) {
-        Err(_) => (out_of_memory("tp", err), None),
-        Ok(files) => {
-            let mut progress = progress(shows_progress(&job));
+    let files = match open_feed(job.feed()) {
+        Ok(files) => files,
+        Err(_) => return (out_of_memory("tp", err), None),
+    };
+    match &job {
+        Job::Check { feed } => {
+            let status = run_check(alloc, keys, feed, files, list_folder, out, err);
+            (status, None)
+        }
+        Job::Plan(plan) => {
+            let mut progress = progress(shows_progress(plan));
             run(
                 alloc,
                 keys,
-                &job,
+                plan,
                 files,
                 open_store,
                 &mut progress,

@@ -1,6 +1,6 @@
-//! Running a job.
+//! Running a plan.
 
-ghost use Rattle.std.specs.Prelude.{IfOk, IfErr};
+ghost use Rattle.std.specs.Prelude.{IfOk, IfErr, is_some};
 ghost use Rattle.std.specs.Fn.{FnOnceReturnsAt};
 ghost use Rattle.std.specs.List.{Contains};
 ghost use Rattle.gtfs_tables.specs.Feed.{Feed, AreReaders};
@@ -13,7 +13,7 @@ use crate::errand::{Errand, words_of};
 use crate::printing::{print_answer, tell_fault};
 use crate::storing::{run_ask, run_build, run_list};
 use answering::{direct, scan};
-use command_line::{Job, Task};
+use command_line::{Plan, Task};
 use disk_model::{Disk, FileFault};
 use feed_basis::{Basis, basis_of};
 use gtfs_tables::Files;
@@ -45,8 +45,8 @@ fn run_task<D: Disk, S: FnOnce(&str) -> Result<D, FileFault>, W: Write, E: Write
             let answer = direct(alloc, basis, question, moment);
             (print_answer(alloc, answer, out, err), None)
         }
-        Task::Scan(question) => {
-            let answer = scan(alloc, basis, question, moment, rides);
+        Task::Scan { question, legs } => {
+            let answer = scan(alloc, basis, question, moment, rides, *legs);
             (print_answer(alloc, answer, out, err), None)
         }
         Task::Ask {
@@ -60,32 +60,33 @@ fn run_task<D: Disk, S: FnOnce(&str) -> Result<D, FileFault>, W: Write, E: Write
     }
 }
 
-// What the job stands on: the timetable of the feed, and the command with its words read.
+// What the plan stands on: the timetable of the feed, and the command with its words read.
 fn ground<'a, R: Read + Drop>(
     alloc: Global,
     keys: Option<RandomState>,
-    job: &Job<'a>,
+    plan: &Plan<'a>,
     files: Files<R>,
 ) -> Result<(Basis, Errand<'a>), Fault<'a>>
-    ensures ground { (feed : Feed) → AreReaders R.remaining files feed → IfOk result (λ ground. IsGround feed job.now.settings ground.0) }
-    ensures errand { IfOk result (λ ground. IsErrand job.now.settings.date.now job.now.command ground.1) }
-    ensures fault { (feed : Feed) → AreReaders R.remaining files feed → IfErr result (IsGroundFault feed job.now) }
+    ensures ground { (feed : Feed) → AreReaders R.remaining files feed
+        → IfOk result (λ ground. IsGround (is_some keys) feed plan.now.settings ground.0) }
+    ensures errand { IfOk result (λ ground. IsErrand plan.now.settings.date.now plan.now.command ground.1) }
+    ensures fault { (feed : Feed) → AreReaders R.remaining files feed → IfErr result (IsGroundFault (is_some keys) feed plan.now) }
 {
-    let words = match words_of(job) {
+    let words = match words_of(plan) {
         Ok(words) => words,
         Err(fault) => return Err(fault),
     };
-    let basis = basis_of(alloc, keys, &job.settings, words.first, files)?;
+    let basis = basis_of(alloc, keys, &plan.settings, words.first, files)?;
     Ok((basis, words.errand))
 }
 
-/// Does the job over the feed's files, and over the disk of the store that it names: `open_store` opens the file of that path, and is
+/// Does the plan over the feed's files, and over the disk of the store that it names: `open_store` opens the file of that path, and is
 /// called only where the feed and its days are without fault. The answer goes to `out`; a fault goes to `err` behind `tp: `, with a line
 /// beneath it where there is something to do about it. While a build goes on, `progress` is told how far it is.
 ///
 /// Gives the status to end with, and the disk where it was opened: 0 done; 1 the feed or its days are at fault; 2 the dates or the time
 /// are; 3 a stop has no tree, since it would be too large; 4 the store is at fault, or its device; 6 the question is at fault; 7 memory ran
-/// out; 8 `out` refused a write. Where there are no `keys` for the look-up of ids, that is a feed whose reader failed.
+/// out; 8 `out` refused a write. Ids are looked up under `keys`: where the system gave no randomness for them, that is the fault.
 pub fn run<
     R: Read + Drop,
     D: Disk,
@@ -96,7 +97,7 @@ pub fn run<
 >(
     alloc: Global,
     keys: Option<RandomState>,
-    job: &Job<'_>,
+    plan: &Plan<'_>,
     files: Files<R>,
     open_store: S,
     progress: &mut P,
@@ -105,15 +106,15 @@ pub fn run<
 ) -> (u8, Option<D>)
     requires { S.IsAlwaysCallable open_store }
     ensures run { (feed : Feed) → AreReaders R.remaining files feed
-        → IsRun (opening_of (FnOnceReturnsAt S.FnOnce open_store) D.honest D.state D.failures) feed job.now
+        → IsRun (opening_of (FnOnceReturnsAt S.FnOnce open_store) D.honest D.state D.failures) (is_some keys) feed plan.now
         (run_of (W.contents out.old) (W.contents out.new) result.0) result.1 }
     ensures statuses { Contains statuses result.0 }
 {
-    let (basis, errand) = match ground(alloc, keys, job, files) {
+    let (basis, errand) = match ground(alloc, keys, plan, files) {
         Ok(ground) => ground,
         Err(fault) => return (tell_fault(&fault, err), None),
     };
-    let rides = Rides::new(job.settings.rides);
+    let rides = Rides::new(plan.settings.rides);
     match errand {
         Errand::Answer(task, leaving) => {
             let moment = basis.moment(leaving.day, leaving.seconds);

@@ -9,12 +9,12 @@ use Rattle.gtfs_tables.specs.Feed.{Feed, feed_tests}
 use Rattle.service_days.specs.Answers.{IsCoverAnswer}
 use Rattle.service_days.specs.declared.fault.DayFault.{DayFault}
 use Rattle.service_days.specs.declared.fault.DayFault.TheVariants as days
-use Rattle.feed_basis.specs.BasisFaults.{IsBasisFault, IsRowFault}
+use Rattle.feed_basis.specs.BasisFaults.{IsKeyedFault, IsRowFault}
 use Rattle.program_inputs.specs.Faults.{of_days, of_feed, of_kind}
 use Rattle.program_inputs.specs.declared.settings.Settings.{Settings}
 
 by_kind : (feed : Feed) (settings : Settings) (k : FaultKind) (f : FeedFault) (first : Date) → IsRowFault feed settings first f
-    → IsBasisFault feed settings first (of_kind k f)
+    → IsKeyedFault feed settings first (of_kind k f)
 by_kind feed settings kinds.Memory f first h = tt
 by_kind feed settings kinds.MissingFile f first h = h
 by_kind feed settings kinds.MissingColumn f first h = h
@@ -28,11 +28,11 @@ by_kind feed settings kinds.ReadFailed f first h = h
 by_kind feed settings kinds.EndTimeMissing f first h = h
 
 pub of_rows : (feed : Feed) (settings : Settings) (f : FeedFault) (first : Date) → IsRowFault feed settings first f
-    → IsBasisFault feed settings first (of_feed f)
+    → IsKeyedFault feed settings first (of_feed f)
 of_rows feed settings f first h = by_kind feed settings f.kind f first h
 
 pub of_cover : (feed : Feed) (settings : Settings) (first : Date) (f : DayFault) → first_fault (feed_tests feed) ≡ None
-    → IsCoverAnswer first settings.days settings.zone.now (Err f) → IsBasisFault feed settings first (of_days f)
+    → IsCoverAnswer first settings.days settings.zone.now (Err f) → IsKeyedFault feed settings first (of_days f)
 of_cover feed settings first days.Memory whole h = tt
 of_cover feed settings first days.BadRange whole h = (whole, h)
 of_cover feed settings first days.BadZone whole h = (whole, h)

@@ -1,5 +1,5 @@
 -- Ids and the stops that they stand for.
-use Rattle.std.proofs.Common.{Option, ◌≡◌, ℕ, ◌+◌, ◌<◌, List, [], ◌∷◌, length, get_or, Some, None, IfSome, All, option_map, arith, refl, sym, ◌∙◌, subst}
+use Rattle.std.proofs.Common.{Option, ◌≡◌, ℕ, ◌+◌, ◌<◌, List, [], ◌∷◌, length, get_or, Some, None, IfSome, All, option_map, arith, refl, subst}
 use Rattle.std.specs.Str.{bytes_eq}
 use Rattle.timetable.specs.Groups.{group}
 use Rattle.timetable.specs.NameLists.{NameLists}

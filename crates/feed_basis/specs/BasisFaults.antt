@@ -1,5 +1,5 @@
 -- Why there is nothing to ask a question of.
-use Rattle.std.specs.Prelude.{◌≡◌, ◌⊎◌, None, Err}
+use Rattle.std.specs.Prelude.{◌≡◌, ◌⊎◌, Bool, true, false, None, Err}
 use Rattle.jiff.specs.Types.{Date}
 use Rattle.gtfs_rows.specs.Faults.{first_fault, Explains}
 use Rattle.gtfs_rows.specs.declared.fault.FeedFault.{FeedFault}
@@ -18,19 +18,25 @@ IsRowFault feed settings first f =
     Explains (first_fault (feed_tests feed)) f.kind f
     ⊎ ((cover : CoverDays) × AreDays feed settings first cover × IsFault (values_of feed) cover settings.default_walk f)
 
--- The faults in the order in which they are looked for: the feed is at fault; its days from the first on are. Memory may run out at any
--- time.
-abbrev pub IsBasisFault : Feed → Settings → Date → Fault → Type 0
-IsBasisFault feed settings first (faults.Feed f) = IsRowFault feed settings first f
-IsBasisFault feed settings first (faults.Days f) =
+-- With keys to look ids up with, the faults in the order in which they are looked for: the feed is at fault; its days from the first on
+-- are. Memory may run out at any time.
+abbrev pub IsKeyedFault : Feed → Settings → Date → Fault → Type 0
+IsKeyedFault feed settings first (faults.Feed f) = IsRowFault feed settings first f
+IsKeyedFault feed settings first (faults.Days f) =
     (first_fault (feed_tests feed) ≡ None) × IsCoverAnswer first settings.days settings.zone.now (Err f)
-IsBasisFault feed settings first faults.Memory = Unit {0}
-IsBasisFault feed settings first faults.BadDate = ⊥
-IsBasisFault feed settings first faults.BadTime = ⊥
-IsBasisFault feed settings first (faults.UnknownStop id) = ⊥
-IsBasisFault feed settings first faults.NotCovered = ⊥
-IsBasisFault feed settings first faults.TooLarge = ⊥
-IsBasisFault feed settings first (faults.Store f) = ⊥
-IsBasisFault feed settings first faults.StoreInUse = ⊥
-IsBasisFault feed settings first faults.PutFailed = ⊥
-IsBasisFault feed settings first (faults.NotStored id) = ⊥
+IsKeyedFault feed settings first faults.Memory = Unit {0}
+IsKeyedFault feed settings first faults.BadDate = ⊥
+IsKeyedFault feed settings first faults.BadTime = ⊥
+IsKeyedFault feed settings first faults.NoRandomness = ⊥
+IsKeyedFault feed settings first (faults.UnknownStop id) = ⊥
+IsKeyedFault feed settings first faults.NotCovered = ⊥
+IsKeyedFault feed settings first faults.TooLarge = ⊥
+IsKeyedFault feed settings first (faults.Store f) = ⊥
+IsKeyedFault feed settings first faults.StoreInUse = ⊥
+IsKeyedFault feed settings first faults.PutFailed = ⊥
+IsKeyedFault feed settings first (faults.NotStored id) = ⊥
+
+-- Where the system gave no randomness for keys, that is the fault, whatever the feed is.
+abbrev pub IsBasisFault : Bool → Feed → Settings → Date → Fault → Type 0
+IsBasisFault false feed settings first fault = fault ≡ faults.NoRandomness
+IsBasisFault true feed settings first fault = IsKeyedFault feed settings first fault

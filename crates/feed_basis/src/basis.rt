@@ -1,10 +1,10 @@
 //! What questions are asked of.
 
-ghost use Rattle.std.specs.Prelude.{◌≡◌, ◌∷◌, ◌<◌, [], IfOk, IfErr, IfSome, option_map};
+ghost use Rattle.std.specs.Prelude.{◌≡◌, ◌∷◌, ◌<◌, [], true, IfOk, IfErr, IfSome, OnOk, is_some, option_map};
 ghost use Rattle.std.specs.Arc.{arc_value};
 ghost use Rattle.answer_lines.specs.Moments.{Says};
 ghost use Rattle.feed_basis.specs.Basis.{AreTablesOf, IsBasis, IsSound};
-ghost use Rattle.feed_basis.specs.BasisFaults.{IsBasisFault};
+ghost use Rattle.feed_basis.specs.BasisFaults.{IsBasisFault, IsKeyedFault};
 ghost use Rattle.feed_basis.specs.Ids.{stop_alone};
 ghost use Rattle.gtfs_tables.specs.Feed.{Feed, AreReaders};
 ghost use Rattle.service_days.specs.Answers.{IsMoment};
@@ -14,7 +14,7 @@ use answer_lines::{DayTime, day_time};
 use direct_connections::Network;
 use gtfs_tables::{Files, Tables, read_tables};
 use jiff::civil::Date;
-use program_inputs::{Fault, NO_KEYS, Settings};
+use program_inputs::{Fault, Settings};
 use service_days::Cover;
 use std::alloc::{AllocError, Global};
 use std::hash::RandomState;
@@ -108,7 +108,7 @@ fn basis_over<'a>(
     tables: &Tables,
 ) -> Result<Basis, Fault<'a>>
     ensures basis { (feed : Feed) → AreTablesOf feed tables.now → IfOk result (IsBasis feed settings.now first) }
-    ensures fault { (feed : Feed) → AreTablesOf feed tables.now → IfErr result (IsBasisFault feed settings.now first) }
+    ensures fault { (feed : Feed) → AreTablesOf feed tables.now → IfErr result (IsKeyedFault feed settings.now first) }
 {
     let cover = Cover::new(first, settings.days, settings.zone)?;
     let timetable = assemble(alloc, tables, &cover, settings.default_walk)?;
@@ -124,7 +124,8 @@ fn basis_over<'a>(
 }
 
 /// What questions are asked of, over the feed's files and the days from the first one on. It is given only where every test of the feed
-/// holds and the settings' zone is one. Where there are no `keys` for the look-up of ids, that is a feed whose reader failed.
+/// holds and the settings' zone is one. Ids are looked up under `keys`: where the system gave no randomness for them, that is the fault,
+/// and nothing is read.
 pub fn basis_of<'a, R: Read + Drop>(
     alloc: Global,
     keys: Option<RandomState>,
@@ -133,10 +134,11 @@ pub fn basis_of<'a, R: Read + Drop>(
     files: Files<R>,
 ) -> Result<Basis, Fault<'a>>
     ensures basis { (feed : Feed) → AreReaders R.remaining files feed → IfOk result (IsBasis feed settings.now first) }
-    ensures fault { (feed : Feed) → AreReaders R.remaining files feed → IfErr result (IsBasisFault feed settings.now first) }
+    ensures keyed { OnOk result (is_some keys ≡ true) }
+    ensures fault { (feed : Feed) → AreReaders R.remaining files feed → IfErr result (IsBasisFault (is_some keys) feed settings.now first) }
 {
     let Some(keys) = keys else {
-        return Err(Fault::Feed(NO_KEYS));
+        return Err(Fault::NoRandomness);
     };
     let tables = read_tables(alloc, keys, files)?;
     basis_over(alloc, keys, settings, first, &tables)

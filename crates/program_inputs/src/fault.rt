@@ -1,9 +1,9 @@
 //! Why a program gives no answer.
 
 ghost use Rattle.std.specs.Prelude.{◌≡◌, is_some};
-ghost use Rattle.program_inputs.specs.Faults.{has_advice, status_of, store_has_advice};
+ghost use Rattle.program_inputs.specs.Faults.{days_have_advice, has_advice, status_of, store_has_advice};
 
-use gtfs_tables::{FaultKind, FeedFault, FeedFile};
+use gtfs_tables::{FaultKind, FeedFault};
 use pattern_tree::TreeFault;
 use recovery::RecoverFault;
 use service_days::DayFault;
@@ -11,12 +11,11 @@ use shown_ids::Shown;
 use std::alloc::AllocError;
 use thiserror::Error;
 
-/// The fault where no seed for the look-up of ids could be had, so that nothing of the feed is read.
-pub const NO_KEYS: FeedFault = FeedFault {
-    kind: FaultKind::ReadFailed,
-    file: FeedFile::Stops,
-    row: 0,
-};
+const BAD_RANGE: &str =
+    "--days is 1 to 14, and the covered days lie from 1900-01-01 to 9998-12-31.";
+
+const NO_RANDOMNESS: &str =
+    "The system gives no randomness, without which ids aren't looked up: nothing of the feed was read.";
 
 const NOT_A_STORE: &str =
     "The file is no store of this program: name another with --store, or delete it and run `tp build`.";
@@ -42,6 +41,16 @@ const PUT_FAILED: &str =
 const NOT_STORED: &str =
     "The store lacks the tree of that stop: run `tp build` with the same options first.";
 
+// What to do about a fault of the covered days.
+fn days_advice(fault: &DayFault) -> Option<&'static str>
+    ensures { is_some result ≡ days_have_advice fault.now }
+{
+    match fault {
+        DayFault::BadRange => Some(BAD_RANGE),
+        DayFault::BadZone | DayFault::ZoneJump | DayFault::Memory => None,
+    }
+}
+
 // What to do about a fault of a store's file.
 fn store_advice(fault: &RecoverFault) -> Option<&'static str>
     ensures { is_some result ≡ store_has_advice fault.now }
@@ -64,6 +73,9 @@ pub enum Fault<'a> {
     BadDate,
     #[error("A2 BadTime")]
     BadTime,
+    /// The system gave no randomness for keys under which ids are looked up, so nothing of the feed was read.
+    #[error("R1 NoRandomness")]
+    NoRandomness,
     #[error("{0}")]
     Feed(FeedFault),
     #[error("{0}")]
@@ -91,13 +103,13 @@ pub enum Fault<'a> {
 }
 
 impl<'a> Fault<'a> {
-    /// The status to end with: 1 for the feed and its days, 2 for the words, 3 for a stop whose tree would be too large, 4 for the
-    /// store, 6 for the question, 7 for want of memory.
+    /// The status to end with: 1 for the feed and its days, also where nothing was read for want of randomness, 2 for the words, 3 for
+    /// a stop whose tree would be too large, 4 for the store, 6 for the question, 7 for want of memory.
     pub fn status(&self) -> u8
         ensures { result ≡ status_of self.now }
     {
         match self {
-            Fault::Feed(_) | Fault::Days(_) => 1,
+            Fault::NoRandomness | Fault::Feed(_) | Fault::Days(_) => 1,
             Fault::BadDate | Fault::BadTime => 2,
             Fault::TooLarge => 3,
             Fault::Store(_) | Fault::StoreInUse | Fault::PutFailed => 4,
@@ -106,12 +118,14 @@ impl<'a> Fault<'a> {
         }
     }
 
-    /// What the fault means and what to do about it, as a line to print below it. The faults of the store have one, and that of
-    /// a stop whose tree isn't in it.
+    /// What the fault means and what to do about it, as a line to print below it. The faults of the store have one, that of a
+    /// stop whose tree isn't in it, that of days out of their range, and want of randomness.
     pub fn advice(&self) -> Option<&'static str>
         ensures { is_some result ≡ has_advice self.now }
     {
         match self {
+            Fault::NoRandomness => Some(NO_RANDOMNESS),
+            Fault::Days(fault) => days_advice(fault),
             Fault::Store(fault) => store_advice(fault),
             Fault::StoreInUse => Some(IN_USE),
             Fault::PutFailed => Some(PUT_FAILED),

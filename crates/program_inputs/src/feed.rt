@@ -64,3 +64,33 @@ pub fn open_feed(rt: &HostRuntime, alloc: Global, folder: &str) -> io::Result<Fi
         transfers: open(rt, alloc, folder, "transfers.txt")?,
     })
 }
+
+// What is known of a folder that the system doesn't list: nothing, but that memory ran out where it did.
+fn unlisted(error: io::Error) -> io::Result<Option<Vec<String>>>
+    ensures { IfErr result (λ error. error_kind error ≡ OutOfMemory) }
+{
+    match error.kind() {
+        ErrorKind::OutOfMemory => Err(error),
+        _ => Ok(None),
+    }
+}
+
+/// The names of the files and folders in a folder, in the order of their bytes; none where the system doesn't list it, or where a
+/// name isn't UTF-8. An error is want of memory. No contract says what a system's folder has.
+pub fn list_folder(rt: &HostRuntime, folder: &str) -> io::Result<Option<Vec<String>>>
+    ensures { IfErr result (λ error. error_kind error ≡ OutOfMemory) }
+{
+    let entries = match fs::read_dir(rt, folder) {
+        Ok(entries) => entries,
+        Err(error) => return unlisted(error),
+    };
+    let mut names = Vec::new(rt.alloc());
+    for entry in entries {
+        match entry {
+            Ok(entry) => names.push(String::from_str(rt.alloc(), entry.file_name())?)?,
+            Err(error) => return unlisted(error),
+        }
+    }
+    names.sort_unstable();
+    Ok(Some(names))
+}

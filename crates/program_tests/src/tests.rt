@@ -1,6 +1,6 @@
 use commands::run_words;
 use disk_model::{FileFault, MemDisk};
-use gtfs_tables::Files;
+use gtfs_tables::{FeedFile, Files};
 use program_inputs::{out_of_memory, unread};
 use std::hash::RandomState;
 use std::io;
@@ -16,8 +16,12 @@ const CALENDAR: &[u8] =
     b"service_id,monday,tuesday,wednesday,thursday,friday,saturday,sunday,start_date,end_date\n\
 WK,1,1,1,1,1,1,1,20240101,20241231\n";
 
+const CALENDAR_DATES: &[u8] = b"service_id,date,exception_type\n";
+
 const STOP_TIMES: &[u8] = b"trip_id,stop_id,stop_sequence,arrival_time,departure_time\n\
 T,A,1,08:00:00,08:00:00\nT,B,2,08:10:00,08:10:00\n";
+
+const TRANSFERS: &[u8] = b"from_stop_id,to_stop_id,transfer_type\n";
 
 const REFUSED: &str = "tp: standard output refused a write\n";
 
@@ -28,6 +32,8 @@ const SCAN: [&str; 14] = [
     "tp", "scan", "--feed", "feed", "--date", "20240102", "--rides", "1", "--from", "A", "--to",
     "B", "--at", "08:00:00",
 ];
+
+const CHECK: [&str; 4] = ["tp", "check", "--feed", "feed"];
 
 const ASK: [&str; 16] = [
     "tp", "ask", "--feed", "feed", "--date", "20240102", "--rides", "1", "--from", "A", "--to",
@@ -42,38 +48,45 @@ const LIST: [&str; 10] = [
     "tp", "list", "--feed", "feed", "--date", "20240102", "--rides", "1", "--store", "file",
 ];
 
-// A reader of these bytes, which fails at their end where it is a broken one.
+// A reader of these bytes, which fails at their end where it is to fail.
 #[derive(Drop)]
 struct Source {
     bytes: &'static [u8],
-    broken: bool,
+    fails: Option<ErrorKind>,
 }
 
 impl Read for Source {
     fn read(&mut self, buf: &mut [u8]) -> io::Result<usize> {
-        if self.broken && self.bytes.is_empty() {
-            return Err(io::Error::from(ErrorKind::Other));
+        match self.fails {
+            Some(kind) if self.bytes.is_empty() => Err(io::Error::from(kind)),
+            _ => self.bytes.read(buf),
         }
-        self.bytes.read(buf)
     }
 }
 
-// A feed of one trip from A to B, whose stop times break off where they are broken.
-fn feed(broken: bool) -> Files<Source> {
-    let whole = |bytes| Source {
-        bytes,
-        broken: false,
-    };
-    Files {
-        stops: Some(whole(STOPS)),
-        trips: Some(whole(TRIPS)),
-        calendar: Some(whole(CALENDAR)),
-        calendar_dates: None,
-        stop_times: Some(Source {
-            bytes: STOP_TIMES,
-            broken,
+// A file whose reader fails, and how.
+type Failure = Option<(FeedFile, ErrorKind)>;
+
+// A file of these bytes, half of which are read where its reader fails.
+fn reader_of(file: FeedFile, bytes: &'static [u8], failure: Failure) -> Option<Source> {
+    match failure {
+        Some((failing, kind)) if failing == file => Some(Source {
+            bytes: &bytes[..bytes.len() / 2],
+            fails: Some(kind),
         }),
-        transfers: None,
+        _ => Some(Source { bytes, fails: None }),
+    }
+}
+
+// A feed of one trip from A to B.
+fn feed(failure: Failure) -> Files<Source> {
+    Files {
+        stops: reader_of(FeedFile::Stops, STOPS, failure),
+        trips: reader_of(FeedFile::Trips, TRIPS, failure),
+        calendar: reader_of(FeedFile::Calendar, CALENDAR, failure),
+        calendar_dates: reader_of(FeedFile::CalendarDates, CALENDAR_DATES, failure),
+        stop_times: reader_of(FeedFile::StopTimes, STOP_TIMES, failure),
+        transfers: reader_of(FeedFile::Transfers, TRANSFERS, failure),
     }
 }
 
@@ -86,6 +99,34 @@ struct Left {
     disk: Option<MemDisk>,
 }
 
+// Runs the program over the feed and a store on that disk.
+fn outcome_over(
+    rt: &HostRuntime,
+    keys: Option<RandomState>,
+    failure: Failure,
+    words: &[&str],
+    store: Result<MemDisk, FileFault>,
+) -> Left {
+    let (mut out, mut err) = (Vec::new(rt.alloc()), Vec::new(rt.alloc()));
+    let (status, disk) = run_words(
+        rt.alloc(),
+        keys,
+        words,
+        |_folder| Ok(feed(failure)),
+        |_folder| Ok(None),
+        |_path| store,
+        |_asked| Silent,
+        &mut out,
+        &mut err,
+    );
+    Left {
+        status,
+        out,
+        err,
+        disk,
+    }
+}
+
 // Runs the program over the whole feed and a store on that disk.
 fn outcome_of(
     rt: &HostRuntime,
@@ -93,57 +134,87 @@ fn outcome_of(
     store: Result<MemDisk, FileFault>,
 ) -> Result<Left, Fail> {
     let keys = RandomState::new(rt)?;
-    let (mut out, mut err) = (Vec::new(rt.alloc()), Vec::new(rt.alloc()));
-    let (status, disk) = run_words(
-        rt.alloc(),
-        Some(keys),
-        words,
-        |_folder| Ok(feed(false)),
-        |_path| store,
-        |_asked| Silent,
-        &mut out,
-        &mut err,
-    );
-    Ok(Left {
-        status,
-        out,
-        err,
-        disk,
-    })
+    Ok(outcome_over(rt, Some(keys), None, words, store))
 }
 
-// All bytes of the stop times can be read, and then the reader fails; or there is no seed to look ids up with: the feed is at fault,
-// and nothing is answered.
+// Whichever file's reader fails in its midst, that file is told, and nothing is answered. A reader that finds no memory is no such reader.
 #[test]
 fn what_can_not_be_read_to_its_end(rt: HostRuntime) -> Result<(), Fail> {
     let rows = [
-        (true, false, 0, ANSWER, ""),
         (
-            true,
-            true,
+            FeedFile::Stops,
+            ErrorKind::Other,
             1,
-            "",
+            "tp: F9 ReadFailed stops.txt row 0\n",
+        ),
+        (
+            FeedFile::Trips,
+            ErrorKind::Other,
+            1,
+            "tp: F9 ReadFailed trips.txt row 0\n",
+        ),
+        (
+            FeedFile::Calendar,
+            ErrorKind::Other,
+            1,
+            "tp: F9 ReadFailed calendar.txt row 0\n",
+        ),
+        (
+            FeedFile::CalendarDates,
+            ErrorKind::Other,
+            1,
+            "tp: F9 ReadFailed calendar_dates.txt row 0\n",
+        ),
+        (
+            FeedFile::StopTimes,
+            ErrorKind::Other,
+            1,
             "tp: F9 ReadFailed stop_times.txt row 0\n",
         ),
-        (false, false, 1, "", "tp: F9 ReadFailed stops.txt row 0\n"),
+        (
+            FeedFile::Transfers,
+            ErrorKind::Other,
+            1,
+            "tp: F9 ReadFailed transfers.txt row 0\n",
+        ),
+        (
+            FeedFile::StopTimes,
+            ErrorKind::OutOfMemory,
+            7,
+            "tp: Memory\n",
+        ),
     ];
     let keys = RandomState::new(&rt)?;
-    for (seeded, broken, status, answer, fault) in rows {
-        let (mut out, mut err) = (Vec::new(rt.alloc()), Vec::new(rt.alloc()));
-        let keys = if seeded { Some(keys) } else { None };
-        let (told, _disk) = run_words(
-            rt.alloc(),
-            keys,
+    for (file, kind, status, fault) in rows {
+        let left = outcome_over(
+            &rt,
+            Some(keys),
+            Some((file, kind)),
             &SCAN,
-            |_folder| Ok(feed(broken)),
-            no_store,
-            |_asked| Silent,
-            &mut out,
-            &mut err,
+            Err(FileFault::Failed),
         );
-        assert_eq!(rt; std::str::from_utf8(err.as_slice())?, fault);
-        assert_eq!(rt; std::str::from_utf8(out.as_slice())?, answer);
-        assert_eq!(rt; told, status);
+        assert_eq!(rt; std::str::from_utf8(left.err.as_slice())?, fault);
+        assert_eq!(rt; left.out.len(), 0);
+        assert_eq!(rt; left.status, status);
+    }
+    Ok(())
+}
+
+// Without randomness no key is made up to look ids up with.
+#[test]
+fn without_randomness_nothing_is_read(rt: HostRuntime) -> Result<(), Fail> {
+    let words: [&[&str]; 2] = [&SCAN, &CHECK];
+    for words in words {
+        let left = outcome_over(
+            &rt,
+            None,
+            Some((FeedFile::Stops, ErrorKind::Other)),
+            words,
+            Err(FileFault::Failed),
+        );
+        assert!(rt; std::str::from_utf8(left.err.as_slice())?.starts_with("tp: R1 NoRandomness\n"));
+        assert_eq!(rt; left.out.len(), 0);
+        assert_eq!(rt; left.status, 1);
     }
     Ok(())
 }
@@ -184,7 +255,8 @@ fn a_writer_that_refuses_the_rest(rt: HostRuntime) -> Result<(), Fail> {
             rt.alloc(),
             Some(keys),
             &SCAN,
-            |_folder| Ok(feed(false)),
+            |_folder| Ok(feed(None)),
+            |_folder| Ok(None),
             no_store,
             |_asked| Silent,
             &mut out,

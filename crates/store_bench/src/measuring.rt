@@ -10,7 +10,7 @@ use gtfs_tables::{Tables, read_tables};
 use gtfs_text::date;
 use pattern_building::finish;
 use pattern_tree::{Arena, Finished};
-use program_inputs::{Fault, NO_KEYS, open_feed};
+use program_inputs::{Fault, open_feed};
 use rounds::Scratch;
 use section_store::{SectionStore, begin};
 use service_days::Cover;
@@ -36,7 +36,7 @@ pub enum BenchFault {
 fn read(rt: &HostRuntime, folder: &str) -> Result<Tables, Fault<'static>> {
     let alloc = rt.alloc();
     let Ok(keys) = RandomState::new(rt) else {
-        return Err(Fault::Feed(NO_KEYS));
+        return Err(Fault::NoRandomness);
     };
     let Ok(files) = open_feed(rt, alloc, folder) else {
         return Err(Fault::Memory);

@@ -1,10 +1,12 @@
-use Rattle.std.proofs.Common.{◌∙◌, ap₂}
+use Rattle.std.proofs.Common.{◌∙◌, ap, ap₂}
+use Rattle.clap.specs.Simple.{app_of_fields}
 use Rattle.clap.specs.Words.{with_rule}
 use Rattle.command_line.proofs.program.ask.Goals as goal
 
 pub returns-clause-shape : goal.returns-clause-shape
 returns-clause-shape c =
-    c.in_ok-command.ensures.shape c.flag.ensures.local
+    ap app_of_fields c.override_usage.ensures
+    ∙ c.in_ok-command.ensures.shape c.flag.ensures.local
     ∙ ap₂ with_rule (
     c.in_ok-arg-2.ensures.shape c.optional.ensures.local
     ∙ ap₂ with_rule (

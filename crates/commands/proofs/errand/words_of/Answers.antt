@@ -11,6 +11,6 @@ returns-in_err-leaving_of-in-Answer-clause-err c =
     let fault = c.in_err-leaving_of-in-Answer.field-0.0 in
     rw (p.1, p.2) (inr (
       (c.in-Some.first, sym c.date.ensures ∙ ap (option_map ymd) c.in-Some.is),
-      subst (λ (command : Command). IsCommandFault c.args.job.now.settings.date.now command fault) (sym c.in-Answer.is)
+      subst (λ (command : Command). IsCommandFault c.args.plan.now.settings.date.now command fault) (sym c.in-Answer.is)
           c.in_err-leaving_of-in-Answer.ensures.err,
     ))

@@ -1,4 +1,4 @@
-use Rattle.std.proofs.Common.{refl, false}
+use Rattle.std.proofs.Common.{refl}
 use Rattle.answering.specs.Answers.{ArePoints, IsAnswered, IsDirect}
 use Rattle.answering.specs.Refusals.{IsUnanswered, NoneMissing}
 use Rattle.feed_basis.specs.Ids.{stop_alone}
@@ -21,7 +21,7 @@ pub returns-in-Scan-clause-run : goal.returns-in-Scan-clause-run
 returns-in-Scan-clause-run g c =
     let basis = c.args.basis.now in
     let moment = c.args.moment in
-    let right = IsAnswered (stop_alone basis.names) (ArePoints basis c.args.rides false) basis.timetable moment c.in-Scan.question in
+    let right = IsAnswered (stop_alone basis.names) (ArePoints basis c.args.rides c.in-Scan.legs) basis.timetable moment c.in-Scan.question in
     let wrong = IsUnanswered (stop_alone basis.names) NoneMissing basis.timetable moment c.in-Scan.question in
     rw c.in-Scan.is (
       answer_printed c.scan-answer.result right wrong (g.W.Write.contents c.args.out.now) (g.W.Write.contents c.print_answer-in-Scan.new.out)

@@ -1,0 +1,91 @@
+//! How many of each a feed has.
+
+ghost use Rattle.std.specs.Prelude.{◌≡◌, true, IfOk, IfErr, OnOk, is_some, length, sum_by};
+ghost use Rattle.gtfs_tables.specs.Feed.{Feed, AreReaders};
+ghost use Rattle.feed_report.specs.Counts.{AreCounts, IsCheckFault, IsMissing, counts_in};
+
+use gtfs_tables::{Files, Skipped, Tables, read_tables};
+use program_inputs::Fault;
+use std::alloc::Global;
+use std::hash::RandomState;
+use std::io::Read;
+
+/// Which of the optional files of a feed aren't there. Of the two files of services one at least is.
+#[derive(Clone, Copy, Debug, PartialEq, Eq)]
+pub struct Missing {
+    pub calendar: bool,
+    pub calendar_dates: bool,
+    pub transfers: bool,
+}
+
+/// How many of each a feed has. Rows that are skipped don't count.
+#[derive(Clone, Copy, Debug, PartialEq, Eq)]
+pub struct Counts {
+    pub stops: usize,
+    pub stations: usize,
+    /// The services that trips name.
+    pub services: usize,
+    pub trips: usize,
+    /// The calls of all trips.
+    pub calls: usize,
+    pub transfers: usize,
+    /// How many rows were left out without being at fault.
+    pub skipped: Skipped,
+    pub missing: Missing,
+}
+
+fn missing_of<R>(files: &Files<R>) -> Missing
+    ensures { IsMissing files.now result }
+{
+    Missing {
+        calendar: files.calendar.is_none(),
+        calendar_dates: files.calendar_dates.is_none(),
+        transfers: files.transfers.is_none(),
+    }
+}
+
+// How many calls all trips have.
+fn calls_in(tables: &Tables) -> usize
+    ensures { result ≡ sum_by (λ calls. length calls) tables.now.calls }
+{
+    let mut count = 0;
+    for trip in 0..tables.trips().len() {
+        count += tables.calls(trip).len();
+    }
+    count
+}
+
+fn counted(tables: &Tables, missing: Missing) -> Counts
+    ensures { result ≡ counts_in tables.now missing }
+{
+    Counts {
+        stops: tables.stops().len(),
+        stations: tables.stations().len(),
+        services: tables.services().len(),
+        trips: tables.trips().len(),
+        calls: calls_in(tables),
+        transfers: tables.transfers().len(),
+        skipped: tables.skipped(),
+        missing,
+    }
+}
+
+/// Reads the feed's files, and counts what the feed has. It is given only where every test of the feed holds; else the fault of the first
+/// test that doesn't. Ids are looked up under `keys`: where the system gave no randomness for them, that is the fault, and nothing is read.
+/// A reader that fails (`ReadFailed`) and want of memory can come in place of any answer.
+pub fn counts_of<R: Read + Drop>(
+    alloc: Global,
+    keys: Option<RandomState>,
+    files: Files<R>,
+) -> Result<Counts, Fault<'static>>
+    ensures counts { (feed : Feed) → AreReaders R.remaining files feed → IfOk result (AreCounts feed) }
+    ensures keyed { OnOk result (is_some keys ≡ true) }
+    ensures fault { (feed : Feed) → AreReaders R.remaining files feed → IfErr result (IsCheckFault (is_some keys) feed) }
+{
+    let Some(keys) = keys else {
+        return Err(Fault::NoRandomness);
+    };
+    let missing = missing_of(&files);
+    let tables = read_tables(alloc, keys, files)?;
+    Ok(counted(&tables, missing))
+}

@@ -1,0 +1,2 @@
+pub mod FewFacts
+pub mod ScanFacts

@@ -1,0 +1,2 @@
+pub mod Journeys
+pub mod Patterns

@@ -1,0 +1,39 @@
+//! The best journeys from a stop to a stop, by the rounds.
+
+ghost use Rattle.std.specs.Prelude.{◌≤◌, ◌<◌, IfOk, map};
+ghost use Rattle.std.specs.List.{All};
+ghost use Rattle.pattern_query.specs.Answer.{numbers};
+ghost use Rattle.timetable.specs.Front.{AreFront};
+ghost use Rattle.timetable.specs.Table.{stops_of};
+ghost use Rattle.scanned_journeys.specs.Journeys.{IsJourney};
+
+use crate::patterns::patterns_to;
+use direct_connections::Network;
+use pattern_query::{Answer, ask};
+use rounds::plain_rounds;
+use std::alloc::{AllocError, Global};
+use timetable::{Rides, StopId};
+
+/// The best journeys from a stop to a stop at a moment of at most 4,000,000,000 seconds, by rising rides: one for each of the best
+/// numbers over all journeys of at most `rides` rides, the way on foot among them, with its rides.
+///
+/// The rounds find the numbers (RAPTOR), and the pattern of a journey that has them; along each such pattern the earliest rides are
+/// taken (Transfer Patterns). It looks at each instance once for each number of rides. It fails only where memory runs out.
+pub fn scan_journeys(
+    alloc: Global,
+    network: &Network,
+    from: StopId,
+    to: StopId,
+    depart: u32,
+    rides: Rides,
+) -> Result<Answer, AllocError>
+    requires from { from < stops_of network.now }
+    requires to { to < stops_of network.now }
+    requires early { depart ≤ 4_000_000_000 }
+    ensures journeys { IfOk result (λ answer. All (IsJourney network.now from to depart) answer) }
+    ensures best { IfOk result (λ answer. AreFront network.now rides from to depart (map numbers answer)) }
+{
+    let rounds = plain_rounds(alloc, network.timetable(), from, depart, rides)?;
+    let patterns = patterns_to(alloc, &rounds.view(), from, to, rides)?;
+    Ok(ask(network, &patterns, to, depart))
+}
