@@ -1,6 +1,7 @@
 //! Stores trees as they come.
 
 ghost use Rattle.std.specs.Prelude.{◌≡◌, ◌↔◌, ◌++◌, true};
+ghost use Rattle.std.specs.List.{All, Contains};
 ghost use Rattle.disk_model.specs.Disk.{Grew};
 ghost use Rattle.section_store.specs.Going.{HoldsAll, IsKept, GoesOn};
 ghost use Rattle.section_store.specs.Lasting.{IsTrusted};
@@ -18,6 +19,8 @@ use section_store::{SectionStore, Step};
 /// Takes trees, puts each, tells of it once it has its receipt, and acknowledges it as kept; one that the store refuses, for want of
 /// memory too, is acknowledged as discarded. It ends once no more trees come, or at the first at which the device fails.
 ///
+/// Where whoever is told shows stored trees alone, so it does afterwards.
+///
 /// At each moment a crash leaves a front of the new list that holds the old one; at the tree at which the device failed it may leave
 /// that one more. Of a disk that was trusted each crash leaves such trees alone, then as before.
 pub fn flush<D: Disk, I: Intake, N: Notice>(
@@ -30,6 +33,9 @@ pub fn flush<D: Disk, I: Intake, N: Notice>(
     ensures flushed { Flushes result
         (flow (I.taken intake.old) (I.acked intake.old) store.old.stored.items)
         (flow (I.taken intake.new) (I.acked intake.new) store.new.stored.items) }
+    ensures told { N.goes notice.old notice.new }
+    ensures shown { All (Contains store.old.stored.items) (N.shows notice.old)
+        → All (Contains store.new.stored.items) (N.shows notice.new) }
     ensures drained { result ≡ FlushEnd.Drained → I.closed intake.new ≡ true }
     ensures failed { result ≡ FlushEnd.DeviceFailed → Grew (D.failures store.old.disk) (D.failures store.new.disk) }
     ensures counted { result ≡ FlushEnd.Drained → D.failures store.new.disk ≡ D.failures store.old.disk }

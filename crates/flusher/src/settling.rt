@@ -1,6 +1,7 @@
 //! What becomes of one tree.
 
 ghost use Rattle.std.specs.Prelude.{◌≡◌, ◌↔◌, ◌<◌, ◌++◌, length, MatchBool, true};
+ghost use Rattle.std.specs.List.{All, Contains};
 ghost use Rattle.disk_model.specs.Disk.{Grew};
 ghost use Rattle.section_store.specs.Going.{IsKept, GoesOn};
 ghost use Rattle.flusher.specs.Flow.{flow};
@@ -35,6 +36,9 @@ pub(crate) fn settle<D: Disk, I: Intake, N: Notice>(
     ensures ready { result ≡ true → store.new.next ≡ Step.WriteBody }
     ensures form { store.new.form ≡ store.old.form }
     ensures notice { N.form notice.new ≡ N.form notice.old }
+    ensures told { N.goes notice.old notice.new }
+    ensures shown { All (Contains store.old.stored.items) (N.shows notice.old)
+        → All (Contains store.new.stored.items) (N.shows notice.new) }
     ensures left { I.left intake.new ≡ I.left intake.old }
     ensures honest { D.honest store.old.disk ↔ D.honest store.new.disk }
     ensures kept { D.honest store.old.disk

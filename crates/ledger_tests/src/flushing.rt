@@ -84,6 +84,12 @@ struct Heard {
 impl Notice for Heard {
     ghost form = { λ h. h.form };
 
+    ghost goes = { λ old new. Unit {0} };
+
+    ghost stays = { λ h. tt };
+
+    ghost goes_in_turn = { λ old mid new first second. tt };
+
     fn stored(&mut self, _tree: Finished, receipt: Receipt) {
         let _ = self.numbers.push(receipt.number());
     }

@@ -14,6 +14,8 @@ loop-tree-init g c =
       ready = c.requires.ready;
       form = refl;
       notice = refl;
+      told = g.N.Notice.stays c.args.notice.now;
+      shown = λ all. all;
       counted = refl;
       honest = (λ h. h, λ h. h);
       kept = λ honest kept. kept;
@@ -36,6 +38,8 @@ loop-tree-preserved g c =
       ready = did.ready refl;
       form = did.form ∙ inv.form;
       notice = did.notice ∙ inv.notice;
+      told = g.N.Notice.goes_in_turn c.args.notice.now c.loop-tree.notice c.settle.new.notice inv.told did.told;
+      shown = λ all. did.shown (inv.shown all);
       counted = did.counted ∙ inv.counted;
       honest = (λ h. did.honest.0 (inv.honest.0 h), λ h. inv.honest.1 (did.honest.1 h));
       kept = λ honest kept.
@@ -99,3 +103,7 @@ pub returns-clause-held : goal.returns-clause-held
 returns-clause-held g c = λ honest kept.
     let is = c.loop-tree.store in
     c.goes_on.ensures.held c.args.store.now.form is.place is.stored.items (g.D.Disk.state is.disk) (c.loop-tree.invariant.kept honest kept)
+
+pub returns-then-not-settle-clause-told : goal.returns-then-not-settle-clause-told
+returns-then-not-settle-clause-told g c =
+    g.N.Notice.goes_in_turn c.args.notice.now c.loop-tree.notice c.settle.new.notice c.loop-tree.invariant.told c.if-not-settle.ensures.told

@@ -1,4 +1,5 @@
 use Rattle.std.proofs.Common.{◌≡◌, ◌↔◌}
+use Rattle.std.specs.List.{All, Contains}
 use Rattle.section_store.specs.Going.{IsKept, GoesOn}
 use Rattle.section_store.specs.declared.step.Step.TheVariants.{WriteBody}
 use Rattle.flusher.specs.declared.end.FlushEnd.TheVariants.{Drained}
@@ -15,6 +16,8 @@ invariant-loop-tree g l =
       ready : is.next ≡ WriteBody;
       form : is.form ≡ was.form;
       notice : g.N.Notice.form l.notice ≡ g.N.Notice.form l.fn.notice;
+      told : g.N.Notice.goes l.fn.notice l.notice;
+      shown : All (Contains was.stored.items) (g.N.Notice.shows l.fn.notice) → All (Contains is.stored.items) (g.N.Notice.shows l.notice);
       counted : g.D.Disk.failures is.disk ≡ g.D.Disk.failures was.disk;
       honest : g.D.Disk.honest was.disk ↔ g.D.Disk.honest is.disk;
       kept : g.D.Disk.honest was.disk → IsKept was.form was.place was.stored.items (g.D.Disk.state was.disk)

@@ -1,0 +1,4 @@
+pub mod Showing
+pub mod FlushFacts
+pub mod MissingFacts
+pub mod Sending

@@ -1,0 +1,68 @@
+//! What a worker builds with.
+
+ghost use Rattle.std.specs.Prelude.{◌≡◌};
+
+use pattern_building::finish;
+use pattern_tree::{Arena, Finished};
+use rounds::Scratch;
+use std::alloc::{AllocError, Global};
+use std::marker::Model;
+use std::sync::Arc;
+use timetable::{Rides, StopId, Timetable};
+
+/// The scratch and the arena of one worker, over a timetable that all share.
+#[derive(Drop)]
+pub(crate) struct Bench {
+    table: Arc<Timetable>,
+    rides: Rides,
+    scratch: Scratch,
+    arena: Arena,
+}
+
+impl Model for Bench {
+    ghost use Rattle.std.specs.Prelude.{◌≡◌};
+    ghost use Rattle.std.specs.Arc.{arc_value};
+    ghost use Rattle.timetable.specs.Table.{Table};
+    ghost use Rattle.rounds.specs.Scratch.{IsMadeFor, rides_of};
+
+    ghost Value = { Table };
+
+    ghost view = { λ b. arc_value b.table };
+
+    ghost invariant = { λ b. IsMadeFor b.scratch (arc_value b.table) × (rides_of b.scratch ≡ b.rides) };
+}
+
+impl Bench {
+    /// For trees of this timetable and at most so many rides. It fails only where memory runs out.
+    pub(crate) fn new(
+        alloc: Global,
+        table: &Arc<Timetable>,
+        rides: Rides,
+    ) -> Result<Bench, AllocError> {
+        let table = Arc::try_clone(table)?;
+        let scratch = Scratch::new(alloc, &table, rides)?;
+        let arena = Arena::new(alloc)?;
+        Ok(Bench {
+            table,
+            rides,
+            scratch,
+            arena,
+        })
+    }
+
+    /// The finished tree of a stop of the timetable; none where it is too large or memory is refused.
+    pub(crate) fn build(&mut self, alloc: Global, source: StopId) -> Option<Finished> {
+        if source.number() >= self.table.stops() {
+            return None;
+        }
+        finish(
+            alloc,
+            &self.table,
+            source,
+            self.rides,
+            &mut self.scratch,
+            &mut self.arena,
+        )
+        .ok()
+    }
+}

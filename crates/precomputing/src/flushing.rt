@@ -1,0 +1,41 @@
+//! Stores trees at a desk as they come.
+
+ghost use Rattle.std.specs.Prelude.{◌≡◌, []};
+ghost use Rattle.precomputing.specs.Flushed.{Flushed};
+
+use crate::publishing::Publisher;
+use crate::taking::Taker;
+use disk_model::Disk;
+use flusher::{FlushEnd, flush};
+use section_store::Step;
+use section_store::going_laws::goes_on;
+use shared_ledger::Basis;
+use shared_planner::Desk;
+use std::alloc::Global;
+use std::sync::Wait;
+
+/// Stores and shows trees, until no more come or the device fails.
+pub(crate) fn flush_desk<D: Disk, B: Basis, R: Wait>(
+    rt: &R,
+    alloc: Global,
+    taker: Taker<'_, B, R>,
+    desk: Desk<D>,
+) -> (Desk<D>, FlushEnd)
+    requires ready { desk.next ≡ Step.WriteBody }
+    requires fresh { (taker.taken.items ≡ []) × (taker.acked.items ≡ []) }
+    requires table { B.table ≡ desk.form.table }
+    ensures { Flushed D.honest D.state D.failures result.1 desk result.0 }
+{
+    goes_on();
+    let mut taker = taker;
+    let (store, writer) = desk.apart();
+    let mut store = store;
+    let mut publisher = Publisher { rt, alloc, writer };
+    let end = flush(&mut store, &mut taker, &mut publisher);
+    let Publisher {
+        rt: _,
+        alloc: _,
+        writer,
+    } = publisher;
+    (Desk::new(store, writer), end)
+}

@@ -1,0 +1,21 @@
+//! Builds the trees that a store lacks, in many threads, while readers ask: workers claim sources and build their trees, each with a
+//! scratch and an arena of its own, and the calling thread stores what they hand in and shows it.
+#![tactic(auto)]
+
+mod bench;
+mod flushing;
+mod gate;
+mod held;
+mod missing;
+mod outcome;
+mod precomputing;
+mod publishing;
+mod running;
+mod stop;
+mod taking;
+mod worker;
+
+pub use gate::{Free, Gate};
+pub use outcome::Outcome;
+pub use precomputing::{precompute, precompute_until};
+pub use stop::Stop;

@@ -1,0 +1,151 @@
+//! Builds the trees that a store lacks.
+
+ghost use Rattle.std.specs.Prelude.{◌≡◌, ◌<◌, ◌≤◌, [], IfOk, length, take, vec_capacity};
+ghost use Rattle.timetable.specs.Table.{stops_of};
+ghost use Rattle.section_store.specs.Sources.{IsSetOf};
+ghost use Rattle.precomputing.specs.Missing.{missing_of};
+ghost use Rattle.precomputing.specs.Outcome.{IsLeft, IsPrecomputed};
+
+use crate::gate::Gate;
+use crate::missing::{mark, missing_stops};
+use crate::outcome::Outcome;
+use crate::running::run_over;
+use crate::stop::Stop;
+use disk_model::Disk;
+use flusher::FlushEnd;
+use section_store::going_laws::goes_on;
+use section_store::{Step, StopSet};
+use shared_planner::{Desk, Planner};
+use std::alloc::{AllocError, Global};
+use std::marker::Brand;
+use std::sync::Wait;
+use std::thread::Threads;
+use timetable::StopId;
+use work_ledger::Ledger;
+
+// How many finished trees wait to be stored at most.
+const ROOM: usize = 64;
+
+// What is made before anything is started: the ledger, the set of the stored stops, and the stops that lack a tree, with room for
+// those that lack one at the end.
+#[derive(Drop)]
+struct Prepared {
+    ledger: Ledger,
+    set: StopSet,
+    missing: Vec<StopId>,
+    room: Vec<StopId>,
+}
+
+// Makes all that is made before anything is started.
+fn prepare<D: Disk>(
+    alloc: Global,
+    planner: &Planner,
+    desk: &Desk<D>,
+) -> Result<Prepared, AllocError>
+    requires own { desk.now.form ≡ planner.now.form }
+    ensures ledger { IfOk result (λ p. p.ledger.table ≡ desk.now.form.table) }
+    ensures set { IfOk result (λ p. IsSetOf (stops_of desk.now.form.table) p.set desk.now.stored) }
+    ensures missing { IfOk result (λ p. p.missing.items ≡ missing_of (stops_of desk.now.form.table) desk.now.stored) }
+    ensures bare { IfOk result (λ p. p.room.items ≡ []) }
+    ensures room { IfOk result (λ p. stops_of desk.now.form.table ≤ vec_capacity p.room) }
+{
+    let stops = planner.network().timetable().stops();
+    let stored = desk.stored();
+    let ledger = Ledger::new(alloc, planner.network().shared(), planner.k(), stored, ROOM)?;
+    let set = StopSet::of(alloc, stops, stored)?;
+    let missing = missing_stops(&set, stops, Vec::with_capacity(alloc, stops)?);
+    let room = Vec::with_capacity(alloc, stops)?;
+    Ok(Prepared {
+        ledger,
+        set,
+        missing,
+        room,
+    })
+}
+
+// What is left, where the set has those that were stored before.
+fn left(set: StopSet, stored: &[StopId], before: usize, stops: usize, room: Vec<StopId>) -> Outcome
+    requires before { before ≤ length stored.now }
+    requires set { IsSetOf stops set (take before stored.now) }
+    requires few { stops ≤ 65_534 }
+    requires bare { room.items ≡ [] }
+    requires room { stops ≤ vec_capacity room }
+    ensures { IsLeft stops stored.now result }
+{
+    let mut set = set;
+    mark(&mut set, stored, before);
+    let missing = missing_stops(&set, stops, room);
+    if missing.len() == 0 {
+        return Outcome::Done;
+    }
+    Outcome::Partial(missing)
+}
+
+/// Builds the trees that the desk's store lacks, in so many threads, while the calling thread stores them and shows each once it is stored.
+/// All threads have ended when this returns. The gate is told of each build, by the thread that makes it. Once the flag is set no
+/// source is claimed any more, and what is in hand ends.
+///
+/// A source whose tree is too large, or for which memory is refused, stays missing. A thread that can't be made is left out. After
+/// `DeviceFailed` the store has to be opened again.
+///
+/// Of an honest disk: at each moment since, each outcome of a crash stands for a front of the new list that holds the old one; where the
+/// device failed, one source more may be there. What each outcome held each one holds, and a trusted disk stays trusted.
+pub fn precompute_until<D: Disk + Drop, R: Threads + Wait + Sync, G: Gate + Sync>(
+    alloc: Global,
+    rt: &R,
+    desk: Desk<D>,
+    planner: &Planner,
+    workers: usize,
+    gate: &G,
+    stop: &Stop,
+) -> (Desk<D>, Outcome)
+    requires own { desk.form ≡ planner.now.form }
+    requires workers { (0 < workers) × (workers ≤ 64) }
+    requires ready { desk.next ≡ Step.WriteBody }
+    ensures { IsPrecomputed D.honest D.state D.failures desk result.0 result.1 }
+{
+    goes_on();
+    let stops = planner.network().timetable().stops();
+    let Ok(prepared) = prepare(alloc, planner, &desk) else {
+        return (desk, Outcome::NoMemory);
+    };
+    let Prepared {
+        ledger,
+        set,
+        missing,
+        room,
+    } = prepared;
+    if missing.len() == 0 {
+        return (desk, Outcome::Done);
+    }
+    let before = desk.stored().len();
+    let (desk, end) = run_over::<Brand, D, R, G>(
+        rt, alloc, planner, ledger, workers, gate, stop, desk,
+    );
+    match end {
+        None => (desk, Outcome::NoMemory),
+        Some(FlushEnd::DeviceFailed) => (desk, Outcome::DeviceFailed),
+        Some(FlushEnd::Drained) => {
+            let outcome = left(set, desk.stored(), before, stops, room);
+            (desk, outcome)
+        }
+    }
+}
+
+/// The same, without a flag.
+pub fn precompute<D: Disk + Drop, R: Threads + Wait + Sync, G: Gate + Sync>(
+    alloc: Global,
+    rt: &R,
+    desk: Desk<D>,
+    planner: &Planner,
+    workers: usize,
+    gate: &G,
+) -> (Desk<D>, Outcome)
+    requires own { desk.form ≡ planner.now.form }
+    requires workers { (0 < workers) × (workers ≤ 64) }
+    requires ready { desk.next ≡ Step.WriteBody }
+    ensures { IsPrecomputed D.honest D.state D.failures desk result.0 result.1 }
+{
+    let stop = Stop::new();
+    precompute_until(alloc, rt, desk, planner, workers, gate, &stop)
+}

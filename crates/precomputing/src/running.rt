@@ -1,0 +1,131 @@
+//! The threads in which trees are built.
+
+ghost use Rattle.std.specs.Prelude.{◌≡◌, ◌<◌, ◌≤◌, ◌+◌, [], MatchOption};
+ghost use denote.Param.Send.{IsSend, IsSync};
+ghost use Rattle.std.specs.Arc.{arc_value};
+ghost use Rattle.timetable.specs.Table.{stops_of};
+ghost use Rattle.precomputing.specs.Flushed.{Flushed};
+
+use crate::flushing::flush_desk;
+use crate::gate::Gate;
+use crate::held::Held;
+use crate::stop::Stop;
+use crate::taking::Taker;
+use crate::worker::work;
+use disk_model::Disk;
+use flusher::FlushEnd;
+use section_store::Step;
+use shared_ledger::{Basis, Seat, Shared};
+use shared_planner::{Desk, Planner};
+use std::alloc::Global;
+use std::sync::{Mutex, Wait};
+use std::thread;
+use std::thread::Threads;
+use work_ledger::Ledger;
+
+// Leaves a seat at which nobody sits, since its thread couldn't be made.
+fn leave_one<B: Basis, R: Wait>(rt: &R, shared: &Shared<B>, seats: &Mutex<Vec<Seat>>) {
+    if let Some(seat) = seats.lock(rt).pop() {
+        shared.leave(rt, seat);
+    }
+}
+
+// Starts a worker at each of the seats, and stores what they hand in. They have all ended when this returns. None where no thread
+// could be made, so that nothing was done.
+fn run<B: Basis + Send + Sync, D: Disk + Drop, R: Threads + Wait + Sync, G: Gate + Sync>(
+    rt: &R,
+    alloc: Global,
+    planner: &Planner,
+    shared: &Shared<B>,
+    workers: usize,
+    seats: &Mutex<Vec<Seat>>,
+    seat: &Seat,
+    taker: Taker<'_, B, R>,
+    gate: &G,
+    stop: &Stop,
+    desk: Desk<D>,
+) -> (Desk<D>, Option<FlushEnd>)
+    requires ready { desk.next ≡ Step.WriteBody }
+    requires fresh { (taker.taken.items ≡ []) × (taker.acked.items ≡ []) }
+    requires table { B.table ≡ desk.form.table }
+    ensures { MatchOption result.1
+        (result.0 ≡ desk)
+        (λ end. Flushed D.honest D.state D.failures end desk result.0) }
+{
+    let table = planner.network().shared();
+    let rides = &planner.k();
+    let heap = &alloc;
+    let held = Held::new(rt, desk);
+    thread::scope(
+        thread::scope_env(),
+        rt,
+        move |scope| -> (Desk<D>, Option<FlushEnd>)
+            requires { IsSync R.row × IsSync G.row × IsSend B.row × (held.desk.next ≡ Step.WriteBody) × (taker.taken.items ≡ [])
+                × (taker.acked.items ≡ []) × (B.table ≡ held.desk.form.table) }
+            ensures { MatchOption result.1
+                (result.0 ≡ held.entry.desk)
+                (λ end. Flushed D.honest D.state D.failures end held.entry.desk result.0) }
+        {
+            let mut started = false;
+            for _ in 0..workers {
+                let thread = scope.spawn(move || {
+                    work(rt, heap, table, rides, shared, seats, gate, stop)
+                });
+                if thread.is_ok() {
+                    started = true;
+                } else {
+                    leave_one(rt, shared, seats);
+                }
+            }
+            let desk = held.into_desk();
+            if !started {
+                return (desk, None);
+            }
+            let (desk, end) = flush_desk(rt, alloc, taker, desk);
+            shared.close(rt, seat);
+            (desk, Some(end))
+        },
+    )
+}
+
+/// Builds trees in so many threads, as the ledger gives out their sources, and stores them. None where memory is refused or no thread could
+/// be made, and then nothing was done.
+pub(crate) fn run_over<
+    B: Basis + Send + Sync,
+    D: Disk + Drop,
+    R: Threads + Wait + Sync,
+    G: Gate + Sync,
+>(
+    rt: &R,
+    alloc: Global,
+    planner: &Planner,
+    ledger: Ledger,
+    workers: usize,
+    gate: &G,
+    stop: &Stop,
+    desk: Desk<D>,
+) -> (Desk<D>, Option<FlushEnd>)
+    requires workers { (0 < workers) × (workers ≤ 64) }
+    requires table { ledger.table ≡ B.table }
+    requires rides { ledger.rides ≡ B.rides }
+    requires own { B.table ≡ desk.form.table }
+    requires ready { desk.next ≡ Step.WriteBody }
+    ensures { MatchOption result.1
+        (result.0 ≡ desk)
+        (λ end. Flushed D.honest D.state D.failures end desk result.0) }
+{
+    let stops = ledger.timetable().stops();
+    let Ok((shared, mut seats)) = Shared::<B>::open(alloc, ledger, workers + 1) else {
+        return (desk, None);
+    };
+    let Some(seat) = seats.pop() else {
+        return (desk, None);
+    };
+    let Ok(taker) = Taker::new(alloc, rt, &shared, &seat, stops) else {
+        return (desk, None);
+    };
+    let seats = Mutex::new(seats);
+    run(
+        rt, alloc, planner, &shared, workers, &seats, &seat, taker, gate, stop, desk,
+    )
+}

@@ -1,0 +1,4 @@
+pub mod PlannerView
+pub mod Asking
+pub mod Desk
+pub mod Opening
