@@ -6,7 +6,7 @@ mod progress;
 use crate::progress::Meter;
 use commands::run_words;
 use disk_model::FileDisk;
-use program_inputs::{given_words, open_feed, out_of_memory, texts, unread};
+use program_inputs::{given_words, list_folder, open_feed, out_of_memory, texts, unread};
 use std::hash::RandomState;
 use std::process::ExitCode;
 
@@ -27,6 +27,7 @@ fn status(rt: &HostRuntime) -> u8 {
         keys,
         texts.as_slice(),
         |folder| open_feed(rt, alloc, folder),
+        |folder| list_folder(rt, folder),
         |path| FileDisk::open(rt, path),
         |asked| Meter::new(rt, asked),
         &mut out,
