@@ -61,7 +61,8 @@ pub fn print<T: Display + Drop, W: Write>(
     out: &mut W,
 ) -> Result<(), PrintFault>
     ensures ok { OnOk result (IfSome (T.output text) (Appends (W.contents out.old) (W.contents out.new))) }
-    ensures refused { result ≡ Err PrintFault.Refused → IfSome (T.output text) (AppendsBeginning (W.contents out.old) (W.contents out.new)) }
+    ensures refused { result ≡ Err PrintFault.Refused
+        → IfSome (T.output text) (AppendsBeginning (W.contents out.old) (W.contents out.new)) }
     ensures memory { result ≡ Err PrintFault.Memory → Keeps (W.contents out.old) (W.contents out.new) }
 {
     let text = format!(in alloc; "{text}")?;

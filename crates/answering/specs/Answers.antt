@@ -77,7 +77,8 @@ pub record AreTreePoints (basis : BasisData) (held : Held) (wanted : Bool) (from
   pub exact : (k : ℕ) → AreComplete basis.timetable held k froms → AreBest (ReachesBetween basis.timetable k froms tos d) front
 
 -- the question's ids stand for these stops, and its moment is this one, which is covered
-pub record IsAsked (stops : List ℕ → Option (List ℕ)) (table : Table) (moment : Option ℕ) (question : Question) (froms tos : List ℕ) (depart : ℕ) : Type 0 where
+pub record IsAsked (stops : List ℕ → Option (List ℕ)) (table : Table) (moment : Option ℕ) (question : Question) (froms tos : List ℕ)
+    (depart : ℕ) : Type 0 where
   pub leaves : stops question.from.now ≡ Some froms
   pub reaches : stops question.to.now ≡ Some tos
   pub leaves_at : moment ≡ Some depart

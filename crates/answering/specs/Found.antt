@@ -21,4 +21,5 @@ pub record AreFound (basis : BasisData) (held : Held) (question : Question) (d :
   pub reaches : stops_at basis.names question.to.now ≡ Some tos
   pub stored : All (IsStored held) froms
   pub each : All (IsJourneyBetween basis.timetable froms tos d) points
-  pub exact : (k : ℕ) → AreComplete basis.timetable held k froms → AreBest (ReachesBetween basis.timetable k froms tos d) (map numbers points)
+  pub exact : (k : ℕ) → AreComplete basis.timetable held k froms
+      → AreBest (ReachesBetween basis.timetable k froms tos d) (map numbers points)

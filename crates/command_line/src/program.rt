@@ -29,7 +29,7 @@ the row, where row 0 is the header or the whole file:
   F8 BadCsv            the record isn't UTF-8
   F9 ReadFailed        the file can't be read, or DIR is no folder: unpack a zipped feed first
   F10 EndTimeMissing   the first or the last call of a trip has no times
-  R1 NoRandomness      the system gives no randomness: nothing of the feed was read
+  NoRandomness         the system gives no randomness: nothing of the feed was read
   S1 BadRange          --days is 1 to 14, and days lie from 1900-01-01 to 9998-12-31
   S2 BadZone           --zone is a POSIX rule, as CET-1CEST,M3.5.0,M10.5.0/3
   S3 ZoneJump          by --zone a day lasts less than 1 or more than 172,800 seconds

@@ -7,7 +7,8 @@ use Rattle.disk_model.specs.declared.fault.ReadFault.TheVariants.{Failed, Memory
 -- a write and a sync behind it: both were done; or the write failed; or it was done and the sync failed
 abbrev pub WritesAndSyncs : {E : Type 0} → ℕ → List ℕ → Result Unit E → State → State → Type 0
 WritesAndSyncs at bytes result old new =
-    MatchResult result (λ _. new ≡ after_sync (after_write at bytes old)) (λ _. WriteFailed at (length bytes) old new ⊎ (new ≡ after_write at bytes old))
+    MatchResult result (λ _. new ≡ after_sync (after_write at bytes old))
+        (λ _. WriteFailed at (length bytes) old new ⊎ (new ≡ after_write at bytes old))
 
 -- a cut and a sync behind it: both were done; or the cut failed; or it was done and the sync failed
 abbrev pub CutsAndSyncs : {E : Type 0} → ℕ → Result Unit E → State → State → Type 0
@@ -20,4 +21,5 @@ FailsByCalls result before after = MatchResult result (λ _. after ≡ before) (
 
 -- a fault comes only where a call failed, or memory was refused
 abbrev pub FailsByReads : {T : Type 0} → Result T ReadFault → ℕ → ℕ → Type 0
-FailsByReads result before after = MatchResult result (λ _. after ≡ before) (λ fault. (fault ≡ Memory) ⊎ ((fault ≡ Failed) × Grew before after))
+FailsByReads result before after =
+    MatchResult result (λ _. after ≡ before) (λ fault. (fault ≡ Memory) ⊎ ((fault ≡ Failed) × Grew before after))

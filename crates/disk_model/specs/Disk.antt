@@ -45,7 +45,8 @@ pub record IsShortened (len : ℕ) (old new : List ℕ) : Type 0 where
 
 -- A write that failed was done in part, in any way, or not at all.
 abbrev pub WriteFailed : ℕ → ℕ → State → State → Type 0
-WriteFailed at count old new = (new ≡ old) ⊎ ((read : List ℕ) × IsTorn at count old.read read × (new ≡ next_state read (with_write at count old.now) old))
+WriteFailed at count old new = (new ≡ old)
+    ⊎ ((read : List ℕ) × IsTorn at count old.read read × (new ≡ next_state read (with_write at count old.now) old))
 
 -- A cut that failed was done in part, in any way, or not at all.
 abbrev pub CutFailed : ℕ → State → State → Type 0

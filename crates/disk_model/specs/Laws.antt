@@ -8,7 +8,8 @@ use Rattle.disk_model.specs.declared.fault.DiskFault.{DiskFault}
 
 -- after a sync or a crash the bytes that reads give are an outcome, and the only one
 abbrev pub LeavesTheReads : Type 0
-LeavesTheReads = (bytes : List ℕ) → IsOutcome (settled_image bytes) bytes × ((left : List ℕ) → IsOutcome (settled_image bytes) left → left ≡ bytes)
+LeavesTheReads = (bytes : List ℕ)
+    → IsOutcome (settled_image bytes) bytes × ((left : List ℕ) → IsOutcome (settled_image bytes) left → left ≡ bytes)
 
 -- what a crash may leave before a write it may leave during it and after it
 abbrev pub WritesAddOutcomes : Type 0
@@ -20,11 +21,13 @@ CutsAddOutcomes = (image : Image) (len : ℕ) (bytes : List ℕ) → IsOutcome i
 
 -- what reads may give after a write that failed is among what a crash may leave
 abbrev pub TornReadsAreOutcomes : Type 0
-TornReadsAreOutcomes = (image : Image) (at count : ℕ) (old new : List ℕ) → IsOutcome image old → IsTorn at count old new → IsOutcome (with_write at count image) new
+TornReadsAreOutcomes = (image : Image) (at count : ℕ) (old new : List ℕ) → IsOutcome image old → IsTorn at count old new
+    → IsOutcome (with_write at count image) new
 
 -- what reads may give after a cut that failed is among what a crash may leave
 abbrev pub ShortenedReadsAreOutcomes : Type 0
-ShortenedReadsAreOutcomes = (image : Image) (len : ℕ) (old new : List ℕ) → IsOutcome image old → IsShortened len old new → IsOutcome (with_cut len image) new
+ShortenedReadsAreOutcomes = (image : Image) (len : ℕ) (old new : List ℕ) → IsOutcome image old → IsShortened len old new
+    → IsOutcome (with_cut len image) new
 
 -- the moments before stay, and there is at most one more
 abbrev pub GoesOn : State → State → Type 0
@@ -52,7 +55,8 @@ MakesOutcomes = (image : Image) (len : ℕ) (fill : List ℕ) → CanCrash image
 
 -- each outcome is made by its length and some fill
 abbrev pub MakesEachOutcome : Type 0
-MakesEachOutcome = (image : Image) (bytes : List ℕ) → IsOutcome image bytes → (fill : List ℕ) × CanCrash image (length bytes) fill × (filled_bytes image 0 (length bytes) fill ≡ bytes)
+MakesEachOutcome = (image : Image) (bytes : List ℕ) → IsOutcome image bytes
+    → (fill : List ℕ) × CanCrash image (length bytes) fill × (filled_bytes image 0 (length bytes) fill ≡ bytes)
 
 -- since a write began, done or not, a crash leaves what it may leave during that write
 abbrev pub WritesLeave : Type 0
@@ -63,7 +67,8 @@ WritesLeave =
 
 -- since a cut began, done or not, a crash leaves what it may leave during that cut
 abbrev pub CutsLeave : Type 0
-CutsLeave = (result : Result Unit DiskFault) (len : ℕ) (old new : State) → Cuts len result old new → LeavesOnly old new (IsOutcome (with_cut len old.now))
+CutsLeave = (result : Result Unit DiskFault) (len : ℕ) (old new : State) → Cuts len result old new
+    → LeavesOnly old new (IsOutcome (with_cut len old.now))
 
 -- at each moment that a sync adds, a crash leaves what reads gave before it
 abbrev pub SyncsLeave : Type 0
@@ -71,4 +76,5 @@ SyncsLeave = (result : Result Unit DiskFault) (old new : State) → Syncs result
 
 -- a call that failed is seen by the counts before and after it, however many calls lie between
 abbrev pub FailuresGrow : Type 0
-FailuresGrow = (fault : DiskFault) (before old new after : ℕ) → before ≤ old → Counts {T = Unit {0}} (Err fault) old new → new ≤ after → Grew before after
+FailuresGrow = (fault : DiskFault) (before old new after : ℕ) → before ≤ old → Counts {T = Unit {0}} (Err fault) old new → new ≤ after
+    → Grew before after

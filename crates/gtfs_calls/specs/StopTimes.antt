@@ -69,7 +69,8 @@ is_time_or_empty text = is_empty text || is_some (time_of text)
 
 -- a pickup_type or drop_off_type is 0, 1, 2, 3 or empty, which means 0
 abbrev pub is_boarding_rule : List ℕ → Bool
-is_boarding_rule text = is_empty text || bytes_eq text (codes "0") || bytes_eq text (codes "1") || bytes_eq text (codes "2") || bytes_eq text (codes "3")
+is_boarding_rule text = is_empty text || bytes_eq text (codes "0") || bytes_eq text (codes "1") || bytes_eq text (codes "2")
+    || bytes_eq text (codes "3")
 
 -- only 1 says that passengers may not board, or alight
 abbrev pub is_allowed : List ℕ → Bool
@@ -112,7 +113,8 @@ call_values stops trips table = map (call_value stops trips table) (kept_rows ta
 
 -- the calls of each trip, in the order of stop_sequence
 abbrev pub call_lists : List (List ℕ) → List (List ℕ) → Table → List (List StopTime)
-call_lists stops trips table = map (λ trip. in_sequence (calls_of_trip (call_values stops trips table) trip)) (range_with_len 0 (length trips))
+call_lists stops trips table = map (λ trip. in_sequence (calls_of_trip (call_values stops trips table) trip))
+    (range_with_len 0 (length trips))
 
 -- the tests of the table, and then those of each trip
 abbrev pub stop_times_tests : List (List ℕ) → List (List ℕ) → Table → List Test
@@ -136,10 +138,12 @@ stay_stands table row =
     is_time_or_empty (arrival_time table row) && is_time_or_empty (departure_time table row)
     && is_boarding_rule (pickup_type table row) && is_boarding_rule (drop_off_type table row)
 
--- each field of a row is one that its column takes, and names a trip and a stop that are there: all tests of a row that is kept, but for that of its place
+-- each field of a row is one that its column takes, and names a trip and a stop that are there: all tests of a row that is kept, but
+-- for that of its place
 abbrev pub stands : List (List ℕ) → List (List ℕ) → Table → ℕ → Bool
 stands stops trips table row =
-    has_text trips (trip_id table row) && has_text stops (stop_id table row) && is_some (whole_of (stop_sequence table row)) && stay_stands table row
+    has_text trips (trip_id table row) && has_text stops (stop_id table row) && is_some (whole_of (stop_sequence table row))
+        && stay_stands table row
 
 -- when a row's call arrives and departs, and who may board and alight
 abbrev pub stay_at : Table → ℕ → Stay

@@ -17,7 +17,8 @@ end_test call = test kinds.EndTimeMissing files.StopTimes call.row (is_some (tim
 -- a call with times doesn't arrive before the last departure, or depart before it arrives
 abbrev pub order_test : ℕ → ℕ → Option CallTimes → List Test
 order_test row since None = []
-order_test row since (Some times) = test kinds.TimesDecrease files.StopTimes row (nat_le since times.arrival && nat_le times.arrival times.departure) ∷ []
+order_test row since (Some times) =
+    test kinds.TimesDecrease files.StopTimes row (nat_le since times.arrival && nat_le times.arrival times.departure) ∷ []
 
 abbrev pub departure_or : ℕ → Option CallTimes → ℕ
 departure_or since None = since

@@ -69,7 +69,8 @@ pub record ScheduleBytes : Type 0 where
   pub times : TimeBytes
 
 -- the readers give these bytes
-pub record AreScheduleReaders {R : Type 0} (remaining : R → Option (List ℕ)) (given : ScheduleFiles R) (bytes : ScheduleBytes) : Type 0 where
+pub record AreScheduleReaders {R : Type 0} (remaining : R → Option (List ℕ)) (given : ScheduleFiles R)
+    (bytes : ScheduleBytes) : Type 0 where
   pub trips : IsContent remaining given.trips bytes.trips
   pub calendar : IsContent remaining given.calendar bytes.times.calendar
   pub calendar_dates : IsContent remaining given.calendar_dates bytes.times.calendar_dates
@@ -85,7 +86,8 @@ schedule_in schedule = record { services = schedule.services.items; trips = sche
 
 abbrev pub schedule_tests : List (List ℕ) → ScheduleBytes → List Test
 schedule_tests stops bytes =
-    opening_tests files.Trips bytes.trips ++ (trips_tests (table_in bytes.trips) ++ times_tests stops (trip_ids (table_in bytes.trips)) bytes.times)
+    opening_tests files.Trips bytes.trips
+        ++ (trips_tests (table_in bytes.trips) ++ times_tests stops (trip_ids (table_in bytes.trips)) bytes.times)
 
 abbrev pub schedule_values : List (List ℕ) → ScheduleBytes → ScheduleValues
 schedule_values stops bytes = record {

@@ -1,4 +1,5 @@
--- What a file of a feed is: records, as the crate csv states them, and cells by row and column (GTFS Schedule reference, "File requirements").
+-- What a file of a feed is: records, as the crate csv states them, and cells by row and column (GTFS Schedule reference, "File
+-- requirements").
 use Rattle.std.specs.Prelude.{Bool, true, not, ℕ, ◌-◌, ◌≡◌, List, [], ◌∷◌, map, length, get_or, Option, Some, if◌then◌else◌, ◌==◌, ◌&&◌}
 use Rattle.std.specs.List.{list_all, position_from, range_with_len}
 use Rattle.std.specs.Str.{is_utf8, bytes_eq}
@@ -13,7 +14,8 @@ without_marks (a ∷ []) = a ∷ []
 without_marks (a ∷ b ∷ []) = a ∷ b ∷ []
 without_marks (a ∷ b ∷ c ∷ rest) = if is_bom a b c then without_marks rest else a ∷ b ∷ c ∷ rest
 
--- the records of a file, each a list of fields: by commas, quotes and line ends alone, in records of any length, the header among them ("File requirements", after RFC 4180)
+-- the records of a file, each a list of fields: by commas, quotes and line ends alone, in records of any length, the header among
+-- them ("File requirements", after RFC 4180)
 abbrev pub records_of : List ℕ → List (List (List ℕ))
 records_of bytes = records default_config (without_marks bytes)
 

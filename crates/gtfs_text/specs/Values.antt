@@ -33,7 +33,9 @@ seconds_of hours minutes seconds = 3600 * decimal hours + 60 * decimal (drop 1 m
 abbrev pub time_of : List ℕ → Option ℕ
 time_of text =
     let split = length text - 6 in
-    if is_time (take split text) (take 3 (drop split text)) (drop (split + 3) text) then Some (seconds_of (take split text) (take 3 (drop split text)) (drop (split + 3) text)) else None
+    if is_time (take split text) (take 3 (drop split text)) (drop (split + 3) text)
+    then Some (seconds_of (take split text) (take 3 (drop split text)) (drop (split + 3) text))
+    else None
 
 -- the Gregorian calendar has this day
 abbrev pub is_day : ℕ → ℕ → ℕ → Bool

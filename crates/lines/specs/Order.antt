@@ -54,7 +54,8 @@ numbers_of keys = map (λ key. key.number) keys
 
 -- keys by fingerprint, then by the first arrival, then instances by their times
 abbrev pub key_order : Table → Key → Key → Ordering
-key_order table a b = ordering_then (ordering_then (nat_cmp a.fingerprint b.fingerprint) (nat_cmp a.arrival b.arrival)) (by_times table a.number b.number)
+key_order table a b = ordering_then (ordering_then (nat_cmp a.fingerprint b.fingerprint) (nat_cmp a.arrival b.arrival))
+    (by_times table a.number b.number)
 
 -- instances by fingerprint, then by their times
 abbrev pub line_order : Table → ℕ → ℕ → Ordering

@@ -11,7 +11,8 @@ noted rows stop = slice_index_or rows stop []
 -- of the places before this one: at each stop exactly those at which lines call there, in order
 pub record AreNoted (lines : List LineData) (line place : ℕ) (rows : List (List LinePlace)) : Type 0 where
   pub each : (stop : ℕ) → All (λ at. CallsAt lines stop at × IsBefore at (record { line = line; place = place })) (noted rows stop)
-  pub all : (stop : ℕ) (at : LinePlace) → CallsAt lines stop at → IsBefore at (record { line = line; place = place }) → Contains (noted rows stop) at
+  pub all : (stop : ℕ) (at : LinePlace) → CallsAt lines stop at → IsBefore at (record { line = line; place = place })
+      → Contains (noted rows stop) at
   pub ordered : (stop : ℕ) → AllPairs IsBefore (noted rows stop)
 
 -- a line calls at known stops, at no more places than a trip has calls

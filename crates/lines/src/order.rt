@@ -46,6 +46,15 @@ fn compare_times(table: &Timetable, first: u32, second: u32) -> Ordering
     times.cmp(calls_of(table, second).iter().map(Times::of))
 }
 
+// 2^64 divided by the golden ratio, made odd: it spreads what is mixed in over all bits.
+const MULTIPLIER: u64 = 11_400_714_819_323_198_485;
+
+// 2^16: what of the mixed number makes room for the first stop.
+const LOWER_PART: u64 = 65_536;
+
+// 2^48: the first stop stands in front of the rest of the fingerprint.
+const BEHIND_THE_STOP: u64 = 281_474_976_710_656;
+
 // What of a call goes into a fingerprint.
 fn code(call: &Call) -> u64
     ensures { result ≡ code (halt_of call.now) }
@@ -62,7 +71,7 @@ fn hash(calls: &[Call]) -> u64
     let mut hash: u64 = 0;
     for call in calls {
         hash = hash
-            .wrapping_mul(11_400_714_819_323_198_485)
+            .wrapping_mul(MULTIPLIER)
             .wrapping_add(code(call));
     }
     hash
@@ -77,7 +86,7 @@ fn fingerprint(calls: &[Call]) -> u64
         Some(call) => call.stop.number() as u64,
         None => 0,
     };
-    first * 281_474_976_710_656 + hash(calls) / 65_536
+    first * BEHIND_THE_STOP + hash(calls) / LOWER_PART
 }
 
 // What is compared of an instance before its times, so that its calls are seldom looked at: the fingerprint of its stops and

@@ -25,8 +25,8 @@ pub record ArePlaces (places : List (Option PointData)) : Type 0 where
   pub nine : length places ≡ 9
   pub counted : (r : ℕ) (p : PointData) → at places r ≡ Some p → p.rides ≡ r
 
--- a point of `new` was there or is a journey of the tree in its place; what arrives with few rides by some moment is not lost; and each journey
--- of the tree has a point that arrives as early with as few rides
+-- a point of `new` was there or is a journey of the tree in its place; what arrives with few rides by some moment is not lost; and
+-- each journey of the tree has a point that arrives as early with as few rides
 pub record AddsTree (table : Table) (tree : Content) (t d : ℕ) (old new : List (Option PointData)) : Type 0 where
   pub attained : (r : ℕ) (p : PointData) → at new r ≡ Some p → (at old r ≡ Some p) ⊎ ((p.rides ≡ r) × IsPoint table tree t d p)
   pub kept : (n a : ℕ) → ThereBy old n a → ThereBy new n a

@@ -17,4 +17,5 @@ pub record AddsAsked (table : Table) (Asked : Content → ℕ → Type 0) (d : �
   pub attained : (r : ℕ) (p : PointData) → at new r ≡ Some p
       → (at old r ≡ Some p) ⊎ ((p.rides ≡ r) × (tree : Content) × Asked tree p.to × IsPoint table tree p.to d p)
   pub kept : (n a : ℕ) → ThereBy old n a → ThereBy new n a
-  pub least : (tree : Content) (t : ℕ) (legs : List Leg) (z : ℕ) → Asked tree t → TreeJourney table tree t d legs z → ThereBy new (suc (length legs)) z
+  pub least : (tree : Content) (t : ℕ) (legs : List Leg) (z : ℕ) → Asked tree t → TreeJourney table tree t d legs z
+      → ThereBy new (suc (length legs)) z

@@ -74,4 +74,5 @@ IsRefusal table names held from to d (faults.UnknownStop id) =
 IsRefusal table names held from to d faults.NotCovered = IsKnown names from × IsKnown names to × (table.horizon < d)
 IsRefusal table names held from to d (faults.NotStored id) =
     IsKnown names to × (d ≤ table.horizon)
-    × (froms : List ℕ) × (s : ℕ) × (stops_at names from ≡ Some froms) × IsFirstMissing held froms s × (id.now ≡ slice_index_or names.stops s [])
+    × (froms : List ℕ) × (s : ℕ) × (stops_at names from ≡ Some froms) × IsFirstMissing held froms s
+    × (id.now ≡ slice_index_or names.stops s [])

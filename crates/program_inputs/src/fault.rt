@@ -74,7 +74,7 @@ pub enum Fault<'a> {
     #[error("A2 BadTime")]
     BadTime,
     /// The system gave no randomness for keys under which ids are looked up, so nothing of the feed was read.
-    #[error("R1 NoRandomness")]
+    #[error("NoRandomness")]
     NoRandomness,
     #[error("{0}")]
     Feed(FeedFault),

@@ -212,7 +212,7 @@ fn without_randomness_nothing_is_read(rt: HostRuntime) -> Result<(), Fail> {
             words,
             Err(FileFault::Failed),
         );
-        assert!(rt; std::str::from_utf8(left.err.as_slice())?.starts_with("tp: R1 NoRandomness\n"));
+        assert!(rt; std::str::from_utf8(left.err.as_slice())?.starts_with("tp: NoRandomness\n"));
         assert_eq!(rt; left.out.len(), 0);
         assert_eq!(rt; left.status, 1);
     }

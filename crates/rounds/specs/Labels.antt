@@ -2,7 +2,6 @@
 use Rattle.std.specs.Prelude.{Option, ◌≡◌, ℕ, List, [], ◌∷◌, length, Some, None}
 use Rattle.rounds.specs.Mark.{Mark, at, arrival_of}
 use Rattle.rounds.specs.Row.{when}
-use Rattle.rounds.specs.Row.{when}
 
 -- a label, where there is a moment
 abbrev pub kept : Option ℕ → Option Mark → Option Mark

@@ -42,7 +42,8 @@ fn list(line: u32, listed: &mut Vec<u32>)
 // Takes the places of these lines away.
 fn clear(listed: &[u32], earliest: &mut [u16])
     requires { (l : ℕ) → Contains listed.now l → l < length earliest.old }
-    ensures { (l : ℕ) → (slice_index earliest.new l ≡ no_place) ⊎ (¬ Contains listed.now l × (slice_index earliest.new l ≡ slice_index earliest.old l)) }
+    ensures { (l : ℕ) → (slice_index earliest.new l ≡ no_place)
+        ⊎ (¬ Contains listed.now l × (slice_index earliest.new l ≡ slice_index earliest.old l)) }
 {
     for line in listed {
         earliest[*line as usize] = NO_PLACE;

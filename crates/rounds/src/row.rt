@@ -59,7 +59,8 @@ fn list(stop: StopId, listed: &mut Vec<StopId>)
 fn settle(labels: &Labels, listed: &[StopId], settled: &mut [Option<u32>])
     requires size { length settled.old ≡ length labels.now }
     requires known { (p : ℕ) → Contains listed.now p → p < length labels.now }
-    ensures { (p : ℕ) → (when settled.new p ≡ arrival_of (at labels.now p)) ⊎ (¬ Contains listed.now p × (when settled.new p ≡ when settled.old p)) }
+    ensures { (p : ℕ) → (when settled.new p ≡ arrival_of (at labels.now p))
+        ⊎ (¬ Contains listed.now p × (when settled.new p ≡ when settled.old p)) }
 {
     for stop in listed {
         settled[stop.number()] = labels.arrival(stop.number());

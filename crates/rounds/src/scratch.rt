@@ -197,7 +197,8 @@ fn run_layers(
     requires sized { All (IsSized (stops_of table.now)) layers.old }
     requires kept { IsTable table.now → AreKept table.now source depart layers.old rounds.old }
     ensures done { DoneTo table.now source depart (length rounds.old) layers.new rounds.new }
-    ensures settled { (r : ℕ) → r < length rounds.old → (stop : ℕ) → settled_of (round_at rounds.new r) stop ≡ arrivals_of (round_at rounds.old r) stop }
+    ensures settled { (r : ℕ) → r < length rounds.old → (stop : ℕ)
+        → settled_of (round_at rounds.new r) stop ≡ arrivals_of (round_at rounds.old r) stop }
     ensures same { length noted.new ≡ length noted.old }
 {
     settle_rounds(rounds);
@@ -265,7 +266,8 @@ impl Scratch {
         requires early { depart ≤ 4_000_000_000 }
         requires kept { MayGoOn table.now depart self.old }
         ensures on { GoesOn table.now depart self.old self.new }
-        ensures before { (rides t : ℕ) → moment_in (map (λ (row : RowData). row.settled) self.new.rounds.items) rides t ≡ arrival_in (kept_of self.old) rides t }
+        ensures before { (rides t : ℕ)
+            → moment_in (map (λ (row : RowData). row.settled) self.new.rounds.items) rides t ≡ arrival_in (kept_of self.old) rides t }
     {
         run_layers(
             table,

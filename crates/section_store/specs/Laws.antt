@@ -11,7 +11,8 @@ use Rattle.section_store.specs.Sections.{Form, IsFresh, IsBeforeOrAfter, Stands}
 
 -- bytes stand for at most one list
 abbrev pub StandsForOne : Type 0
-StandsForOne = (form : Form) (bytes : List ℕ) (trees others : List Content) → Stands form bytes trees → Stands form bytes others → trees ≡ others
+StandsForOne = (form : Form) (bytes : List ℕ) (trees others : List Content) → Stands form bytes trees → Stands form bytes others
+    → trees ≡ others
 
 -- two things that lose nothing lose nothing one after the other
 abbrev pub LosesNothingInTurn : Type 0
@@ -20,7 +21,8 @@ LosesNothingInTurn = (form : Form) (old mid new : State) → LosesNothing form o
 -- a sync loses nothing
 abbrev pub SyncsLoseNothing : Type 0
 SyncsLoseNothing =
-    (form : Form) (result : Result Unit DiskFault) (old new : State) → IsOutcome old.now old.read → Syncs result old new → LosesNothing form old new
+    (form : Form) (result : Result Unit DiskFault) (old new : State) → IsOutcome old.now old.read → Syncs result old new
+        → LosesNothing form old new
 
 -- a disk that a crash leaves fresh is trusted, for any form
 abbrev pub FreshIsTrusted : Type 0

@@ -33,6 +33,7 @@ HasPlans c rows old new = (service : List ℕ) (day : ℕ) (date : Date) → IsC
     → is_noted new service day ≡ (is_noted old service day || list_any (plans service date) rows)
 
 -- each service has the covered days that it had, but for those that these exceptions add, or those that they remove
-abbrev pub HasChanges : CoverDays → DateChange → List CalendarDate → BTreeMap (Bor (List ℕ)) (List Bool) → BTreeMap (Bor (List ℕ)) (List Bool) → Type 0
+abbrev pub HasChanges : CoverDays → DateChange → List CalendarDate → BTreeMap (Bor (List ℕ)) (List Bool)
+    → BTreeMap (Bor (List ℕ)) (List Bool) → Type 0
 HasChanges c change rows old new = (service : List ℕ) (day : ℕ) (date : Date) → IsCovered c day date
     → is_noted new service day ≡ (if list_any (changes change service date) rows then is_added change else is_noted old service day)

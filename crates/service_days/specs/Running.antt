@@ -14,4 +14,5 @@ AreDaysOf t c service days =
 -- the same of each service
 pub record AreRunning (t : TableValues) (c : CoverDays) (running : List (List Bool)) : Type 0 where
   pub count : length running ≡ length t.services
-  pub days : (service : ℕ) → service < length t.services → AreDaysOf t c (slice_index_or t.services service []) (slice_index_or running service [])
+  pub days : (service : ℕ) → service < length t.services
+      → AreDaysOf t c (slice_index_or t.services service []) (slice_index_or running service [])

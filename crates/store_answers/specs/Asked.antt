@@ -22,7 +22,8 @@ use Rattle.store_answers.specs.Stores.{IsUnopened, form_over}
 
 -- The trees of the first stops are among these, and each point is a journey with its numbers. Wherever the trees of the first stops are
 -- complete, the points are the best over all journeys of at most k rides.
-pub record AreStoredPoints (basis : BasisData) (k : ℕ) (trees : List Content) (legs : Bool) (froms tos : List ℕ) (d : ℕ) (answer : Answer) : Type 0 where
+pub record AreStoredPoints (basis : BasisData) (k : ℕ) (trees : List Content) (legs : Bool) (froms tos : List ℕ) (d : ℕ)
+    (answer : Answer) : Type 0 where
   pub stored : All (Contains (sources trees)) froms
   pub front : List Numbers
   pub journeys : All (IsReached basis.timetable froms tos d) front
@@ -31,7 +32,8 @@ pub record AreStoredPoints (basis : BasisData) (k : ℕ) (trees : List Content) 
 
 -- The answer, from the trees that the file stands for; and nothing was done but to open it. Of a trusted disk all these trees are complete,
 -- so that the points are the best of all.
-pub record IsStoredAnswer (basis : BasisData) (k : ℕ) (moment : Option ℕ) (question : Question) (legs : Bool) (old new : State) (answer : Answer) : Type 0 where
+pub record IsStoredAnswer (basis : BasisData) (k : ℕ) (moment : Option ℕ) (question : Question) (legs : Bool) (old new : State)
+    (answer : Answer) : Type 0 where
   pub trees : List Content
   pub stands : Stands (form_over basis k) old.read trees
   pub answered : IsAnswered (stops_at basis.names) (AreStoredPoints basis k trees legs) basis.timetable moment question answer
@@ -53,7 +55,8 @@ IsUnstored basis list question id =
     × (id ≡ slice_index_or basis.names.stops s [])
 
 -- why the question has no answer from the trees of the list that the file stands for
-pub record IsUnansweredFrom (basis : BasisData) (k : ℕ) (moment : Option ℕ) (question : Question) (old new : State) (fault : Fault) : Type 0 where
+pub record IsUnansweredFrom (basis : BasisData) (k : ℕ) (moment : Option ℕ) (question : Question) (old new : State)
+    (fault : Fault) : Type 0 where
   pub list : List ℕ
   pub stands : StandsForSources (form_over basis k) list old.read
   pub why : IsUnanswered (stops_at basis.names) (IsUnstored basis list question) basis.timetable moment question fault

@@ -28,5 +28,6 @@ leaves_station t station n = unwrap_or (option_map (λ row. is_the_station row.f
 -- for each place the numbers of the rows that lead from it, in file order
 pub record IsIndex (t : TableValues) (index : TransferIndex) : Type 0 where
   pub from_stop : (stop : ℕ) → group index.from_stop stop ≡ filter (leaves_stop t stop) (range_with_len 0 (length t.transfers))
-  pub from_station : (station : ℕ) → group index.from_station station ≡ filter (leaves_station t station) (range_with_len 0 (length t.transfers))
+  pub from_station : (station : ℕ)
+      → group index.from_station station ≡ filter (leaves_station t station) (range_with_len 0 (length t.transfers))
   pub children : AreChildren t index.children
