@@ -30,6 +30,7 @@ pub fn flush<D: Disk, I: Intake, N: Notice>(
 ) -> FlushEnd
     requires ready { store.old.next ≡ Step.WriteBody }
     requires form { N.form notice.old ≡ store.old.form }
+    requires own { I.form intake.old ≡ store.old.form }
     ensures flushed { Flushes result
         (flow (I.taken intake.old) (I.acked intake.old) store.old.stored.items)
         (flow (I.taken intake.new) (I.acked intake.new) store.new.stored.items) }

@@ -4,6 +4,7 @@ ghost use Rattle.std.specs.Prelude.{◌≡◌, ◌↔◌, ◌<◌, ◌++◌, len
 ghost use Rattle.std.specs.List.{All, Contains};
 ghost use Rattle.disk_model.specs.Disk.{Grew};
 ghost use Rattle.section_store.specs.Going.{IsKept, GoesOn};
+ghost use Rattle.section_store.specs.Sections.{form_of};
 ghost use Rattle.flusher.specs.Flow.{flow};
 ghost use Rattle.flusher.specs.Settling.{Settles, unsettled};
 
@@ -25,6 +26,7 @@ pub(crate) fn settle<D: Disk, I: Intake, N: Notice>(
 ) -> bool
     requires ready { store.old.next ≡ Step.WriteBody }
     requires form { N.form notice.old ≡ store.old.form }
+    requires own { form_of tree.table tree.rides ≡ store.old.form }
     requires taken { length (I.acked intake.old) < length (I.taken intake.old) }
     ensures settled { MatchBool result
         (Settles tree.tree.source (flow (I.taken intake.old) (I.acked intake.old) store.old.stored.items)
@@ -36,6 +38,7 @@ pub(crate) fn settle<D: Disk, I: Intake, N: Notice>(
     ensures ready { result ≡ true → store.new.next ≡ Step.WriteBody }
     ensures form { store.new.form ≡ store.old.form }
     ensures notice { N.form notice.new ≡ N.form notice.old }
+    ensures intake { I.form intake.new ≡ I.form intake.old }
     ensures told { N.goes notice.old notice.new }
     ensures shown { All (Contains store.old.stored.items) (N.shows notice.old)
         → All (Contains store.new.stored.items) (N.shows notice.new) }
@@ -51,7 +54,7 @@ pub(crate) fn settle<D: Disk, I: Intake, N: Notice>(
 {
     goes_on();
     let source = tree.tree().source();
-    match store.put(&tree) {
+    match store.put_own(&tree) {
         Ok(receipt) => {
             notice.stored(tree, receipt);
             intake.ack(Ack {

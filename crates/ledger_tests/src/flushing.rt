@@ -17,9 +17,10 @@ use std::test::Fail;
 use timetable::{Rides, StopId, Timetable};
 use work_ledger::Outcome;
 
-// Trees that wait, the last of them the next; the sources that were taken, and what became of them.
+// Trees that wait, the last of them the next, which are for one timetable and rides; the sources that were taken, and what became of them.
 #[derive(Drop)]
 struct Waiting {
+    form: Form,
     trees: Vec<Finished>,
     taken: Vec<StopId>,
     acks: Vec<Ack>,
@@ -30,10 +31,13 @@ struct Waiting {
 }
 
 impl Waiting {
-    fn new(alloc: Global, trees: Vec<Finished>) -> Result<Waiting, AllocError> {
+    fn new(alloc: Global, form: Form, trees: Vec<Finished>) -> Result<Waiting, AllocError>
+        ensures { IfOk result (λ waiting. waiting.form ≡ form) }
+    {
         let taken = Vec::with_capacity(alloc, trees.len())?;
         let acks = Vec::with_capacity(alloc, taken.capacity())?;
         Ok(Waiting {
+            form,
             trees,
             taken,
             acks,
@@ -44,6 +48,8 @@ impl Waiting {
 
 impl Intake for Waiting {
     ghost use Rattle.std.specs.Prelude.{length};
+
+    ghost form = { λ w. w.form };
 
     ghost taken = { λ w. w.taken.items };
 
@@ -57,14 +63,14 @@ impl Intake for Waiting {
 
     fn take(&mut self) -> Option<Finished> {
         match self.trees.pop() {
-            None => {
-                self.closed = true;
-                None
-            }
-            Some(tree) => {
+            Some(tree) if self.form.is_of(&tree) => {
                 self.closed = false;
                 self.taken.push_reserved(tree.tree().source());
                 Some(tree)
+            }
+            _ => {
+                self.closed = true;
+                None
             }
         }
     }
@@ -102,7 +108,7 @@ fn store_and_heard(
     fails_at: u64,
 ) -> Result<(SectionStore<MemDisk>, Heard), Fail>
     ensures ready { IfOk result (λ r. r.0.next ≡ Step.WriteBody) }
-    ensures form { IfOk result (λ r. r.1.form ≡ r.0.form) }
+    ensures form { IfOk result (λ r. (r.1.form ≡ r.0.form) × (r.0.form ≡ form_of (arc_value table.now) 3)) }
 {
     let rides = Rides::new(3);
     let Ok(mut store) = begin(alloc, MemDisk::new(alloc), table, rides) else {
@@ -117,15 +123,17 @@ fn store_and_heard(
     Ok((store, heard))
 }
 
-// The trees of A, B and C, between them one of A again and one for journeys of two rides alone; the first to be taken last.
+// The trees of A, B, C and D, between them one of A again; the first to be taken last.
 fn trees_waiting(alloc: Global, table: &Arc<Timetable>) -> Result<Waiting, Fail>
     requires { stops_of (arc_value table.now) ≡ 5 }
+    ensures { IfOk result (λ waiting. waiting.form ≡ form_of (arc_value table.now) 3) }
 {
     let mut trees = Vec::new(alloc);
-    for (k, source) in [(3, 2), (2, 3), (3, 0), (3, 1), (3, 0)] {
-        trees.push(tree(alloc, table, k, source)?)?;
+    for source in [2, 3, 0, 1, 0] {
+        trees.push(tree(alloc, table, 3, source)?)?;
     }
-    Ok(Waiting::new(alloc, trees)?)
+    let form = Form::new(Arc::try_clone(table)?, Rides::new(3));
+    Ok(Waiting::new(alloc, form, trees)?)
 }
 
 // What became of each, by its outcome, and which receipts were heard of.
@@ -146,8 +154,8 @@ fn stored_as_they_come(rt: HostRuntime) -> Result<(), Fail> {
     let (mut store, mut heard) = store_and_heard(alloc, &table, 0)?;
     let end = flush(&mut store, &mut waiting, &mut heard);
     assert!(rt; end == FlushEnd::Drained && waiting.closed);
-    assert_eq!(rt; told(&waiting, &heard), (5, 3, 3));
-    assert!(rt; store.stored() == [StopId::new(0), StopId::new(1), StopId::new(2)].as_slice());
+    assert_eq!(rt; told(&waiting, &heard), (5, 4, 4));
+    assert!(rt; store.stored() == [StopId::new(0), StopId::new(1), StopId::new(3), StopId::new(2)].as_slice());
     Ok(())
 }
 

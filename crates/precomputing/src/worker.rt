@@ -39,7 +39,7 @@ fn build_one<B: Basis, R: Wait, G: Gate>(
     let built = bench.build(alloc, source);
     gate.after(seat.number(), source);
     if let Some(tree) = built {
-        let Err(_refused) = shared.hand_in(rt, seat, tree) else {
+        let Err(_refused) = shared.hand_in_own(rt, seat, tree) else {
             return;
         };
     }

@@ -26,9 +26,10 @@ const LIMIT: u64 = 1_099_511_627_776;
 const OPEN: u8 = 0xA5;
 
 impl<D: Disk> SectionStore<D> {
-    /// Writes a tree's length and text behind the closed gate, and a closed gate behind them. All that a put can be refused
-    /// for, but a fault of the disk, it is refused for here, before the call.
+    /// Writes the length and the text of a tree, which is for the store's timetable and rides, behind the closed gate, and a closed gate
+    /// behind them. All else that a put can be refused for, but a fault of the disk, it is refused for here, before the call.
     pub fn write_body(&mut self, tree: &Finished) -> Result<(), PutFault>
+        requires own { (tree.now.table ≡ self.old.form.table) × (tree.now.rides ≡ self.old.form.rides) }
         ensures body { (trees : List Content) → D.honest self.old.disk
             → Holds self.old.form trees self.old.place self.old.stored.items (D.state self.old.disk)
             → OnOk result (IsBody self.old.form trees tree.now.tree self.new.place self.new.extent (D.state self.new.disk)) }
@@ -61,9 +62,6 @@ impl<D: Disk> SectionStore<D> {
         stands_for_one();
         if self.next != Step::WriteBody {
             return Err(PutFault::Failed);
-        }
-        if !self.form.is_of(tree) {
-            return Err(PutFault::OtherTimetable);
         }
         if self.present.contains(tree.tree().source()) {
             return Err(PutFault::AlreadyStored);

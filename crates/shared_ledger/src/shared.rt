@@ -1,6 +1,6 @@
 //! The ledger under its lock.
 
-ghost use Rattle.std.specs.Prelude.{◌≡◌, ◌<◌, ◌≤◌, IfErr, IfOk};
+ghost use Rattle.std.specs.Prelude.{◌≡◌, ◌<◌, ◌≤◌, IfErr, IfOk, IfSome};
 ghost use Rattle.std.specs.Arc.{arc_value};
 ghost use Rattle.shared_ledger.specs.Seats.{all_seats};
 
@@ -64,7 +64,8 @@ impl<B: Basis> Shared<B> {
     }
 
     /// Hands in the tree of a source that the seat claimed. It waits for room, each time with an entry that the ledger was full, until
-    /// the ledger is closed. A refused tree comes back. The tree is compared with the ledger's timetable before the lock is taken.
+    /// the ledger is closed. A refused tree comes back. The tree is compared with the ledger's timetable before the lock is taken, so
+    /// both are read whole; who knows that they are the same calls `hand_in_own`.
     pub fn hand_in<R: Wait>(
         &self,
         rt: &R,
@@ -73,7 +74,34 @@ impl<B: Basis> Shared<B> {
     ) -> Result<(), (Refusal, Finished)>
         ensures back { IfErr result (λ r. r.1 ≡ tree) }
     {
-        let mut kept = Compared::new(tree, &self.table, self.rides);
+        self.hand_in_compared(rt, seat, Compared::new(tree, &self.table, self.rides))
+    }
+
+    /// Hands in as `hand_in` does a tree that is known to be for the ledger's timetable and rides. So it reads no timetable.
+    pub fn hand_in_own<R: Wait>(
+        &self,
+        rt: &R,
+        seat: &Seat,
+        tree: Finished,
+    ) -> Result<(), (Refusal, Finished)>
+        requires own { (tree.table ≡ B.table) × (tree.rides ≡ B.rides) }
+        ensures back { IfErr result (λ r. r.1 ≡ tree) }
+    {
+        self.hand_in_compared(rt, seat, Compared::own(tree, &self.table, self.rides))
+    }
+
+    // Hands in a tree that was compared with the ledger's timetable and rides.
+    fn hand_in_compared<R: Wait>(
+        &self,
+        rt: &R,
+        seat: &Seat,
+        tree: Compared,
+    ) -> Result<(), (Refusal, Finished)>
+        requires table { tree.table ≡ B.table }
+        requires rides { tree.rides ≡ B.rides }
+        ensures back { IfErr result (λ r. r.1 ≡ tree.tree) }
+    {
+        let mut kept = tree;
         let mut desk = self.desk.lock(rt);
         for _ in rt.forever() {
             match desk.hand_in(seat.number(), kept) {
@@ -97,8 +125,10 @@ impl<B: Basis> Shared<B> {
     }
 
     /// Takes the tree that has waited longest. It waits for one, each time with an entry that the ledger was empty. None where no tree
-    /// will come: the ledger says so, or all other seats were left.
-    pub fn take<R: Wait>(&self, rt: &R, _seat: &Seat) -> Result<Option<Finished>, AllocError> {
+    /// will come: the ledger says so, or all other seats were left. It is for the ledger's timetable and rides.
+    pub fn take<R: Wait>(&self, rt: &R, _seat: &Seat) -> Result<Option<Finished>, AllocError>
+        ensures own { IfOk result (λ taken. IfSome taken (λ tree. (tree.table ≡ B.table) × (tree.rides ≡ B.rides))) }
+    {
         let others = self.others;
         let mut desk = self.desk.lock(rt);
         for _ in rt.forever() {

@@ -16,6 +16,7 @@ invariant-loop-tree g l =
       ready : is.next ≡ WriteBody;
       form : is.form ≡ was.form;
       notice : g.N.Notice.form l.notice ≡ g.N.Notice.form l.fn.notice;
+      intake : g.I.Intake.form l.intake ≡ was.form;
       told : g.N.Notice.goes l.fn.notice l.notice;
       shown : All (Contains was.stored.items) (g.N.Notice.shows l.fn.notice) → All (Contains is.stored.items) (g.N.Notice.shows l.notice);
       counted : g.D.Disk.failures is.disk ≡ g.D.Disk.failures was.disk;

@@ -8,7 +8,7 @@ use Rattle.pattern_tree.specs.Content.{Content}
 use Rattle.section_store.specs.Sections.{Form, IsSections, IsBeforeOrAfter, sources}
 use Rattle.section_store.specs.Store.{IsRest, Holds}
 use Rattle.section_store.proofs.Lasting.{in_turn, before_trusted, after_trusted}
-use Rattle.section_store.proofs.store.SectionStore.put.Goals as goal
+use Rattle.section_store.proofs.store.SectionStore.put_own.Goals as goal
 
 -- the list before, or that list and the tree
 module _ (form : Form) (trees : List Content) (tree : Content) (old new : State) where
