@@ -12,14 +12,13 @@ use denote.Struct.Declared.{shape}
 use denote.Struct.Tuple.{parts, type_at, TupleAt}
 use denote.Param.{param, arg}
 use denote.Param.Send.{IsSend, IsSync, AllSend, sendable, param_send, arg_send, recorded_send, struct_send, shr_send}
-use Rattle.std.proofs.Crossing.{crosses, sync, Arc-sync, Vec-send}
+use Rattle.std.proofs.Crossing.{crosses, sync, Vec-send}
 use Rattle.std.specs.contracts.alloc.Global as heap
 use Rattle.std.specs.contracts.impls.GlobalAllocator.TheImpl.{ghosts}
-use Rattle.std.specs.contracts.sync.Arc as arc
 use Rattle.std.specs.contracts.sync.Mutex as mutex
 use Rattle.std.specs.contracts.vec.Vec as vector
-use Rattle.timetable.specs.contracts.table.Timetable as table
-use Rattle.timetable.proofs.table.Timetable.TheSendSync as tables
+use Rattle.direct_connections.specs.contracts.network.Network as network
+use Rattle.direct_connections.proofs.network.Network.TheSendSync as networks
 use Rattle.timetable.specs.contracts.rides.Rides as rides
 use Rattle.timetable.proofs.rides.Rides.TheSendSync as rides_send
 use Rattle.shared_ledger.specs.declared.basis.Basis.{Ghosts}
@@ -42,12 +41,12 @@ captures_send ν Ts s =
 pub closure_sends : (i : ℕ) (δ : Ty) (ν : Sym) (Ts : List RattleType) → AllSend Ts → IsSend (param i (arg δ yes (TupleAt ν Ts)))
 closure_sends i δ ν Ts s = param_send i (arg δ yes (TupleAt ν Ts)) (arg_send δ yes (TupleAt ν Ts) (captures_send ν Ts s))
 
--- what the closure captures by reference: the allocator, the timetable, the most rides, the shared ledger, the seats and the flag
+-- what the closure captures by reference: the allocator, the network, the most rides, the shared ledger, the seats and the flag
 pub heap_goes : {ℓ : Lifetime} {κ : Lft} → IsSend (ShrRef ℓ κ heap.the_row)
 heap_goes {ℓ = ℓ} {κ = κ} = shr_send ℓ κ heap.the_row sync
 
-pub table_goes : {ℓ : Lifetime} {κ : Lft} → IsSend (ShrRef ℓ κ (arc.the_row table.the_row heap.the_row ghosts))
-table_goes {ℓ = ℓ} {κ = κ} = shr_send ℓ κ (arc.the_row table.the_row heap.the_row ghosts) (Arc-sync table.the_row tables.the_send tables.the_sync)
+pub network_goes : {ℓ : Lifetime} {κ : Lft} → IsSend (ShrRef ℓ κ network.the_row)
+network_goes {ℓ = ℓ} {κ = κ} = shr_send ℓ κ network.the_row networks.the_sync
 
 pub rides_go : {ℓ : Lifetime} {κ : Lft} → IsSend (ShrRef ℓ κ rides.the_row)
 rides_go {ℓ = ℓ} {κ = κ} = shr_send ℓ κ rides.the_row rides_send.the_sync

@@ -2,6 +2,7 @@
 
 ghost use Rattle.std.specs.Prelude.{◌≡◌};
 
+use direct_connections::Network;
 use pattern_building::finish;
 use pattern_tree::{Arena, Finished};
 use rounds::Scratch;
@@ -10,7 +11,7 @@ use std::marker::Model;
 use std::sync::Arc;
 use timetable::{Rides, StopId, Timetable};
 
-/// The scratch and the arena of one worker, over a timetable that all share.
+/// The scratch and the arena of one worker, over a timetable and lines that all share.
 #[derive(Drop)]
 pub(crate) struct Bench {
     table: Arc<Timetable>,
@@ -33,14 +34,11 @@ impl Model for Bench {
 }
 
 impl Bench {
-    /// For trees of this timetable and at most so many rides. It fails only where memory runs out.
-    pub(crate) fn new(
-        alloc: Global,
-        table: &Arc<Timetable>,
-        rides: Rides,
-    ) -> Result<Bench, AllocError> {
-        let table = Arc::try_clone(table)?;
-        let scratch = Scratch::new(alloc, &table, rides)?;
+    /// For trees of the network's timetable and at most so many rides, over the lines that it has. It fails only where memory runs out.
+    pub(crate) fn new(alloc: Global, network: &Network, rides: Rides) -> Result<Bench, AllocError> {
+        let table = Arc::try_clone(network.shared())?;
+        let lines = Arc::try_clone(network.shared_lines())?;
+        let scratch = Scratch::over(alloc, &table, lines, rides)?;
         let arena = Arena::new(alloc)?;
         Ok(Bench {
             table,

@@ -9,6 +9,7 @@ mod held;
 mod missing;
 mod outcome;
 mod precomputing;
+mod progress;
 mod publishing;
 mod running;
 mod stop;
@@ -17,5 +18,6 @@ mod worker;
 
 pub use gate::{Free, Gate};
 pub use outcome::Outcome;
-pub use precomputing::{precompute, precompute_until};
+pub use precomputing::{precompute, precompute_telling, precompute_until};
+pub use progress::{Progress, Silent};
 pub use stop::Stop;

@@ -55,6 +55,11 @@ impl<'a, B: Basis, R: Wait> Taker<'a, B, R> {
         })
     }
 
+    /// How many stops the timetable has.
+    pub(crate) fn stops(&self) -> usize {
+        self.stops
+    }
+
     // The next tree; none where no more come.
     fn next(&self) -> Option<Finished>
         ensures known { IfSome result (λ tree. tree.tree.source < self.now.stops) }

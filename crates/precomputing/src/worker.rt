@@ -3,10 +3,11 @@
 use crate::bench::Bench;
 use crate::gate::Gate;
 use crate::stop::{Leave, Stop};
+use direct_connections::Network;
 use shared_ledger::{Basis, Seat, Shared};
 use std::alloc::Global;
-use std::sync::{Arc, Mutex, Wait};
-use timetable::{Rides, StopId, Timetable};
+use std::sync::{Mutex, Wait};
+use timetable::{Rides, StopId};
 use work_ledger::Claimed;
 
 // Claims a source; none where none is given out, or memory is refused.
@@ -51,7 +52,7 @@ fn build_one<B: Basis, R: Wait, G: Gate>(
 pub(crate) fn work<B: Basis, R: Wait, G: Gate>(
     rt: &R,
     heap: &Global,
-    table: &Arc<Timetable>,
+    network: &Network,
     rides: &Rides,
     shared: &Shared<B>,
     seats: &Mutex<Vec<Seat>>,
@@ -63,7 +64,7 @@ pub(crate) fn work<B: Basis, R: Wait, G: Gate>(
         return;
     };
     let sitting = shared.sit(rt, seat);
-    let Ok(mut bench) = Bench::new(alloc, table, *rides) else {
+    let Ok(mut bench) = Bench::new(alloc, network, *rides) else {
         return;
     };
     for _ in rt.forever() {
