@@ -49,9 +49,9 @@ fn lesser(one: Option<usize>, other: Option<usize>) -> Option<usize> {
     }
 }
 
-/// At most three stops and stations whose id or name is nearest to the text, the nearest first: so near that a third of the text's characters,
-/// or one, have to be put in, taken out, changed or swapped with the next, without regard to case and accents. None for a text of more than
-/// 64 characters. It fails only where memory runs out.
+/// At most three stops and stations whose id or name is nearest to the text, the nearest first: so near that no more characters have to be put
+/// in, taken out, changed or swapped with the next than a third of the text's, without regard to case and accents. One whose id is the text is
+/// passed over. None for a text of more than 64 characters. It fails only where memory runs out.
 pub fn near_stops<'a>(
     alloc: Global,
     sheet: &'a Sheet,
@@ -61,10 +61,13 @@ pub fn near_stops<'a>(
     let length = asked.as_str().chars().count();
     let mut near = Vec::new(alloc);
     if length <= LONGEST {
-        let most = (length / 3).max(1);
+        let most = length / 3;
         let columns = Columns::of(sheet);
         for before in 0..sheet.rows() {
             let stop = columns.stop_of(sheet, before + 1);
+            if stop.id == text {
+                continue;
+            }
             let by_id = distance_to(alloc, asked.as_str(), stop.id, most)?;
             let by_name = distance_to(alloc, asked.as_str(), stop.name, most)?;
             if let Some(distance) = lesser(by_id, by_name) {
