@@ -17,10 +17,9 @@ pub use geo::geojson;
 pub use itinerary::{Itinerary, StopList};
 pub use names::{NameSheets, Names};
 pub use people::people_text;
-pub use telling::{Asked, itinerary_of, stop_list_of};
-
 use serde::Serialize;
 use std::alloc::{AllocError, Global};
+pub use telling::{Asked, itinerary_of, stop_list_of};
 
 /// A value as JSON, on one line, without a line's end. It fails only where memory runs out.
 pub fn json<T: Serialize>(alloc: Global, value: &T) -> Result<String, AllocError> {

@@ -64,7 +64,12 @@ impl fmt::Display for Leg {
         let (departure, arrival) = (self.departure.clock.as_str(), self.arrival.clock.as_str());
         match (self.kind, &self.trip) {
             (Kind::Ride, Some(trip)) => {
-                writeln!(f, "  {departure} board {} at {}", TripText(trip), PlaceText(&self.from))?;
+                writeln!(
+                    f,
+                    "  {departure} board {} at {}",
+                    TripText(trip),
+                    PlaceText(&self.from)
+                )?;
                 writeln!(f, "  {arrival} alight at {}", PlaceText(&self.to))
             }
             _ => writeln!(
@@ -101,7 +106,12 @@ impl fmt::Display for Journey {
 
 impl fmt::Display for Itinerary<'_> {
     fn fmt<W: fmt::Write>(&self, f: &mut fmt::Formatter<W>) -> fmt::Result {
-        writeln!(f, "from {} to {}", PlaceText(&self.from), PlaceText(&self.to))?;
+        writeln!(
+            f,
+            "from {} to {}",
+            PlaceText(&self.from),
+            PlaceText(&self.to)
+        )?;
         if self.journeys.is_empty() {
             writeln!(f, "no journey")?;
         }

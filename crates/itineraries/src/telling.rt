@@ -22,10 +22,10 @@ pub struct Asked<'a> {
 
 // What an answer is told by.
 #[derive(Clone, Copy)]
-struct Teller<'a> {
+struct Teller<'a, 'n> {
     basis: &'a Basis,
     clock: Clock,
-    names: &'a Names<'a>,
+    names: &'n Names<'a>,
 }
 
 // The stops and trips whose names are wanted.
@@ -79,7 +79,7 @@ fn wanted_of<'a>(
     Ok(wanted)
 }
 
-impl<'a> Teller<'a> {
+impl Teller<'_, '_> {
     // The seconds from one time to a later one.
     fn seconds(&self, departs: DayTime, arrives: DayTime) -> Option<u32> {
         let departs = self.basis.moment(departs.date, departs.seconds)?;
@@ -125,12 +125,22 @@ impl<'a> Teller<'a> {
     }
 
     // A journey of one who is there at this time.
-    fn journey(&self, alloc: Global, begins: DayTime, point: &Point) -> Result<Journey, AllocError> {
+    fn journey(
+        &self,
+        alloc: Global,
+        begins: DayTime,
+        point: &Point,
+    ) -> Result<Journey, AllocError> {
         let mut legs = Vec::with_capacity(alloc, point.stages.len())?;
         let mut at = begins;
         let mut departs = begins;
         for (place, stage) in point.stages.iter().enumerate() {
-            if let Stage::Ride { departs: leaves, .. } = stage && place == 0 {
+            if let Stage::Ride {
+                departs: leaves,
+                ..
+            } = stage
+                && place == 0
+            {
                 departs = *leaves;
             }
             legs.push(self.leg(alloc, at, stage)?)?;
@@ -183,11 +193,11 @@ fn arrival_of(stage: &Stage) -> DayTime {
 /// sheets have. It fails only where memory runs out.
 pub fn itinerary_of<'a>(
     alloc: Global,
-    basis: &Basis,
+    basis: &'a Basis,
     clock: Clock,
     sheets: &NameSheets,
     asked: &Asked<'a>,
-    answer: &Answer,
+    answer: &'a Answer,
 ) -> Result<Itinerary<'a>, AllocError> {
     let wanted = wanted_of(alloc, basis, asked, answer)?;
     let names = Names::of(alloc, sheets, &wanted.stops, &wanted.trips)?;

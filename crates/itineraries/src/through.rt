@@ -48,14 +48,11 @@ fn stop_at<'a>(basis: &'a Basis, call: &Call) -> &'a str {
 
 // The calls of the ride's trip, from the one at which it boards to the one at which it alights, where these are calls of it.
 fn calls_of<'a>(basis: &Basis, ride: &Ride<'_>, calls: &'a [Call]) -> Option<&'a [Call]> {
-    let boards = calls
-        .iter()
-        .position(|call| call.departure == ride.departs && stop_at(basis, call) == ride.from)?;
+    let boards = calls.iter().position(|call| call.departure == ride.departs
+        && stop_at(basis, call) == ride.from)?;
     let behind = &calls[boards..];
-    let alights = behind
-        .iter()
-        .skip(1)
-        .position(|call| call.arrival == ride.arrives && stop_at(basis, call) == ride.to)?;
+    let alights = behind.iter().skip(1).position(|call| call.arrival == ride.arrives
+        && stop_at(basis, call) == ride.to)?;
     behind.get(1..alights + 1)
 }
 
