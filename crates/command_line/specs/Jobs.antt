@@ -4,6 +4,7 @@ use Rattle.std.specs.Option.{option_map}
 use Rattle.clap.specs.Words.{Row, Text, first_of}
 use Rattle.program_inputs.specs.Settings.{HasSettings}
 use Rattle.program_inputs.specs.Values.{HasFlag, HasText}
+use Rattle.command_line.specs.Formats.{IsStyle}
 use Rattle.command_line.specs.declared.job.Command.{Command}
 use Rattle.command_line.specs.declared.job.Command.TheVariants as command
 use Rattle.command_line.specs.declared.job.Job.{Job}
@@ -50,6 +51,7 @@ NamesNoCommand name rows = (command : Command) → ¬ IsCommand name rows comman
 pub record IsPlan (name : Text) (rows : List Row) (plan : Plan) : Type 0 where
   pub settings : HasSettings rows plan.settings
   pub command : IsCommand name rows plan.command
+  pub style : IsStyle rows plan.style
 
 -- no command over a timetable has this name and these rows
 abbrev pub NamesNoPlan : Text → List Row → Type 0
@@ -58,6 +60,9 @@ NamesNoPlan name rows = (plan : Plan) → ¬ IsPlan name rows plan
 -- a command's name and rows give this job
 abbrev pub IsJobOf : Text → List Row → Job → Type 0
 IsJobOf name rows (job.Check feed) = (name ≡ codes "check") × HasText rows (codes "feed") feed.now
+IsJobOf name rows (job.Stops feed text all) =
+    (name ≡ codes "stops") × HasText rows (codes "feed") feed.now × (option_map (λ text. text.now) text ≡ first_of (codes "text") rows)
+    × (IsTrue all ↔ HasFlag rows (codes "all"))
 IsJobOf name rows (job.Plan plan) = IsPlan name rows plan
 
 abbrev pub IsJob : Option (Text × List Row) → Job → Type 0

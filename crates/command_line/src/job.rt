@@ -3,6 +3,7 @@
 ghost use Rattle.std.specs.Prelude.{◌≡◌};
 ghost use Rattle.command_line.specs.Tasks.{question_of, day_from, feed_of};
 
+use crate::format::Style;
 use program_inputs::Settings;
 
 /// From which place to which, and when.
@@ -85,6 +86,8 @@ pub enum Command<'a> {
 pub struct Plan<'a> {
     pub settings: Settings<'a>,
     pub command: Command<'a>,
+    /// How the answer is told.
+    pub style: Style,
 }
 
 /// What the words of the program ask for.
@@ -94,6 +97,15 @@ pub enum Job<'a> {
     Check {
         /// The folder of the feed.
         feed: &'a str,
+    },
+    /// Lists stops and stations.
+    Stops {
+        /// The folder of the feed.
+        feed: &'a str,
+        /// What their id or name contains: all are meant where there is none.
+        text: Option<&'a str>,
+        /// Whether all of them are listed, not the first alone.
+        all: bool,
     },
     /// Does a command.
     Plan(Plan<'a>),
@@ -105,7 +117,7 @@ impl<'a> Job<'a> {
         ensures { result.now ≡ feed_of self.now }
     {
         match self {
-            Job::Check { feed } => feed,
+            Job::Check { feed } | Job::Stops { feed, .. } => feed,
             Job::Plan(plan) => plan.settings.feed,
         }
     }

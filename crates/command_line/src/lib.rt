@@ -1,9 +1,11 @@
 //! The command line of the journey planner's program: from its words to what it is asked to do.
 #![tactic(auto)]
 
+mod format;
 mod job;
 mod program;
 mod words;
 
+pub use format::{Format, Style};
 pub use job::{Command, Job, Plan, Question, Task};
 pub use words::read_words;

@@ -1,12 +1,12 @@
 //! The commands and the words that each takes.
 
 ghost use Rattle.std.specs.Prelude.{◌≡◌, codes, false, IfOk, IfErr, IsOkAnd, map};
-ghost use Rattle.clap.specs.Words.{app_of, kind_of, subcommand_of, subcommand_rows_of, fault_of, with_subcommand, FailsBy};
+ghost use Rattle.clap.specs.Words.{app_of, rule_of, kind_of, subcommand_of, subcommand_rows_of, fault_of, with_subcommand, FailsBy};
 ghost use Rattle.clap.specs.declared.error.kind.ErrorKind.TheVariants.{OutOfMemory};
 ghost use Rattle.clap.specs.declared.builder.command.Command.TheViews.{out-Command as fields_of};
-ghost use Rattle.command_line.specs.CommandLine.{ask_app, build_app, check_app, journey_app, list_app, program_app, scan_app, store_app};
+ghost use Rattle.command_line.specs.CommandLine.{ask_app, build_app, check_app, journey_app, list_app, program_app, scan_app, stops_app, store_app, text_rule};
 
-use clap::{ArgMatches, Command, Error};
+use clap::{Arg, ArgMatches, Command, Error};
 use program_inputs::{common, flag, optional, required};
 use std::alloc::Global;
 
@@ -118,6 +118,25 @@ const LEGS: &str = "Print the rides and walks of each journey below its line";
 
 const STORE: &str = "The file of the stored trees, which is made where it isn't there";
 
+const NAMES: &str = "Tell the rides and walks with names, for people";
+
+const FORMAT: &str = "lines, json for machines, or geojson for a map";
+
+const FORMAT_OF_STOPS: &str = "lines, or json for machines";
+
+const STOPS: &str = "The stops and stations whose id or name contains a text";
+
+const STOPS_MORE: &str = "\
+Prints a line for each, with tabs between: its id, its name, the id of its station, its latitude and
+its longitude, empty where the feed has none; by name, then by id. Case and accents don't count. Of
+more than 20 stops the first 20 are printed, and `more N`.
+
+Example: tp stops --feed demo/feed-m a";
+
+const TEXT: &str = "What the id or name contains; all stops without it";
+
+const ALL: &str = "Print all of them";
+
 const PROGRESS: &str = "Tell how far the build is, also if standard error is no terminal";
 
 // The command that tells what a feed has.
@@ -130,6 +149,28 @@ fn check<'a>(alloc: Global) -> Result<Command<'a>, Error>
         .about(CHECK)
         .arg(required(alloc, "feed", "DIR", FEED))?;
     Ok(command.after_help(CHECK_MORE))
+}
+
+// A word that stands without an option, and may be left out. `shown` is how it is shown in the help.
+fn word<'a>(alloc: Global, name: &'a str, shown: &'a str, help: &'a str) -> Arg<'a>
+    ensures rule { rule_of result ≡ text_rule name.entry.now }
+    ensures local { result.global ≡ false }
+{
+    Arg::new(alloc, name).value_name(shown).help(help)
+}
+
+// The command that lists stops.
+fn stops<'a>(alloc: Global) -> Result<Command<'a>, Error>
+    ensures shape { IfOk result (λ c. app_of c ≡ stops_app) }
+    ensures local { IfOk result (λ c. (fields_of c).has_globals ≡ false) }
+    ensures err { IfErr result (λ e. kind_of e ≡ OutOfMemory) }
+{
+    let command = Command::new(alloc, "stops")
+        .about(STOPS)
+        .arg(required(alloc, "feed", "DIR", FEED))?
+        .arg(flag(alloc, "all", ALL))?
+        .arg(word(alloc, "text", "TEXT", TEXT))?;
+    Ok(command.after_help(STOPS_MORE))
 }
 
 // A command that goes from one stop to another, at a time, and more to be told below its options.
@@ -146,7 +187,8 @@ fn journey<'a>(
     let command = common(alloc, name, about)?
         .arg(required(alloc, "from", "STOP", FROM))?
         .arg(required(alloc, "to", "STOP", TO))?
-        .arg(required(alloc, "at", "HH:MM:SS", AT))?;
+        .arg(required(alloc, "at", "HH:MM:SS", AT))?
+        .arg(optional(alloc, "format", "FORMAT", FORMAT))?;
     Ok(command.after_help(more))
 }
 
@@ -156,7 +198,9 @@ fn scan<'a>(alloc: Global) -> Result<Command<'a>, Error>
     ensures local { IfOk result (λ c. (fields_of c).has_globals ≡ false) }
     ensures err { IfErr result (λ e. kind_of e ≡ OutOfMemory) }
 {
-    let command = journey(alloc, "scan", SCAN, SCAN_MORE)?.arg(flag(alloc, "legs", LEGS))?;
+    let command = journey(alloc, "scan", SCAN, SCAN_MORE)?
+        .arg(flag(alloc, "legs", LEGS))?
+        .arg(flag(alloc, "names", NAMES))?;
     Ok(command)
 }
 
@@ -194,8 +238,24 @@ fn ask<'a>(alloc: Global) -> Result<Command<'a>, Error>
     let command = journey(alloc, "ask", ASK, ASK_MORE)?
         .arg(required(alloc, "store", "FILE", STORE))?
         .arg(optional(alloc, "on", "YYYYMMDD", ON))?
-        .arg(flag(alloc, "legs", LEGS))?;
+        .arg(flag(alloc, "legs", LEGS))?
+        .arg(flag(alloc, "names", NAMES))?;
     Ok(command.override_usage(ASK_USAGE))
+}
+
+// The command that tells the stored stops.
+fn list<'a>(alloc: Global) -> Result<Command<'a>, Error>
+    ensures shape { IfOk result (λ c. app_of c ≡ list_app) }
+    ensures local { IfOk result (λ c. (fields_of c).has_globals ≡ false) }
+    ensures err { IfErr result (λ e. kind_of e ≡ OutOfMemory) }
+{
+    let command = store(alloc, "list", LIST, LIST_MORE)?.arg(optional(
+        alloc,
+        "format",
+        "FORMAT",
+        FORMAT_OF_STOPS,
+    ))?;
+    Ok(command)
 }
 
 // The program with one more command, where that could be made.
@@ -222,10 +282,11 @@ fn program<'a>(alloc: Global) -> Result<Command<'a>, Error>
         .after_help(FAULTS)
         .subcommand_required(true);
     let program = with_command(program, check(alloc))?;
+    let program = with_command(program, stops(alloc))?;
     let program = with_command(program, journey(alloc, "direct", DIRECT, DIRECT_MORE))?;
     let program = with_command(program, scan(alloc))?;
     let program = with_command(program, build(alloc))?;
-    let program = with_command(program, store(alloc, "list", LIST, LIST_MORE))?;
+    let program = with_command(program, list(alloc))?;
     let program = with_command(program, ask(alloc))?;
     Ok(program)
 }

@@ -7,6 +7,7 @@ ghost use Rattle.command_line.specs.CommandLine.{program_app};
 ghost use Rattle.command_line.specs.Jobs.{IsCommand, IsJob, IsJobOf, IsPlan, IsQuestion, IsTask, LacksQuestion};
 ghost use Rattle.command_line.specs.Jobs.{NamesNoCommand, NamesNoJob, NamesNoJobOf, NamesNoPlan, NamesNoTask};
 
+use crate::format::style_of;
 use crate::job::{Command, Job, Plan, Question, Task};
 use crate::program::matches_of;
 use clap::error::ErrorKind;
@@ -65,14 +66,20 @@ fn command_of<'a>(name: &str, found: &ArgMatches<'a>) -> Option<Command<'a>>
     }
 }
 
-// The command of a name and words, with its settings: none where there is no such command, or a word isn't there.
+// The command of a name and words, with its settings and its style: none where there is no such command, a word isn't there, or there
+// is no such format.
 fn plan_of<'a>(name: &str, found: &ArgMatches<'a>) -> Option<Plan<'a>>
     ensures plan { IfSome result (IsPlan name.now (rows_of (found_of found.now))) }
     ensures none { IfNone result (NamesNoPlan name.now (rows_of (found_of found.now))) }
 {
     let settings = settings_of(found)?;
     let command = command_of(name, found)?;
-    Some(Plan { settings, command })
+    let style = style_of(found)?;
+    Some(Plan {
+        settings,
+        command,
+        style,
+    })
 }
 
 // The job of a name and words: none where no job has the name, or a word isn't there.
@@ -83,6 +90,11 @@ fn named_job<'a>(name: &str, found: &ArgMatches<'a>) -> Option<Job<'a>>
     match name {
         "check" => Some(Job::Check {
             feed: text_of(found, "feed")?,
+        }),
+        "stops" => Some(Job::Stops {
+            feed: text_of(found, "feed")?,
+            text: text_of(found, "text"),
+            all: flag_of(found, "all"),
         }),
         _ => Some(Job::Plan(plan_of(name, found)?)),
     }
@@ -98,6 +110,9 @@ fn job_of<'a>(matches: &ArgMatches<'a>) -> Option<Job<'a>>
 }
 
 const RANGES: &str = "--days is 1 to 14, --rides 1 to 8, --default-walk 0 to 86400 seconds.";
+
+// What is told of words that clap takes and that name no job: of these only a format can be one that isn't there.
+const FORMATS: &str = "tp: --format is lines, json or geojson";
 
 // Tells the ranges of all numbers, where one of the words is out of its range. Of the days, 0 and 15 to 255 are within that of a byte,
 // and refused only where the days are covered.
@@ -121,7 +136,13 @@ pub fn read_words<'a, E: Write>(
         (NamesNoJob (subcommand_of program_app (map (λ w. w.now) words.entry.now)))) }
 {
     match matches_of(alloc, words) {
-        Ok(matches) => job_of(&matches).ok_or(2),
+        Ok(matches) => {
+            let job = job_of(&matches);
+            if job.is_none() {
+                let _ = writeln!(err, "{FORMATS}");
+            }
+            job.ok_or(2)
+        }
         Err(error) => {
             let status = refuse("tp", &error, err);
             tell_ranges(&error, err);

@@ -1,6 +1,7 @@
 -- What a command leaves, by its words as they were read.
 use Rattle.std.proofs.Common.{ℕ, List, Option, Bor, subst}
 use Rattle.service_days.specs.Answers.{IsMoment}
+use Rattle.command_line.specs.declared.format.Style.{Style}
 use Rattle.command_line.specs.declared.job.Command.{Command}
 use Rattle.command_line.specs.declared.job.Command.TheVariants as commands
 use Rattle.command_line.specs.declared.job.Task.{Task}
@@ -8,6 +9,7 @@ use Rattle.program_inputs.specs.declared.settings.Settings.{Settings}
 use Rattle.feed_basis.specs.Basis.{BasisData}
 use Rattle.commands.specs.Errands.{IsErrand}
 use Rattle.commands.specs.Runs.{IsBuildRun, IsCommandRun, IsListRun, IsOverStore, IsTaskRun, Opening, Run}
+use Rattle.commands.specs.Tellings.{Telling}
 use Rattle.commands.specs.Words.{HasWords}
 use Rattle.commands.specs.declared.errand.Errand.{Errand}
 use Rattle.commands.specs.declared.errand.Errand.TheVariants as errands
@@ -20,30 +22,30 @@ has_words first (commands.Answer task) (errands.List path) h = absurd h
 has_words first (commands.Build store progress) errand h = tt
 has_words first (commands.List store) errand h = tt
 
-module _ {D : Type 0} (o : Opening D) (settings : Settings) (basis : BasisData) (run : Run) (disk : Option D) where
+module _ {D : Type 0} (o : Opening D) (t : Telling) (style : Style) (settings : Settings) (basis : BasisData) (run : Run) (disk : Option D) where
   pub question_run : (command : Command) (task : Task) (leaving : Leaving) (moment : Option ℕ)
       → IsErrand settings.date.now command (errands.Answer task leaving) → IsMoment basis.cover leaving.day leaving.seconds moment
-      → IsTaskRun o basis settings.rides moment task run disk → IsCommandRun o settings basis command run disk
+      → IsTaskRun o t style basis settings.rides moment task run disk → IsCommandRun o t style settings basis command run disk
   question_run (commands.Answer asked) task leaving moment h is done = (
     moment,
     record { day = leaving.day; seconds = leaving.seconds; words = h.1; is = is },
-    subst (λ (t : Task). IsTaskRun o basis settings.rides moment t run disk) h.0 done,
+    subst (λ (asked : Task). IsTaskRun o t style basis settings.rides moment asked run disk) h.0 done,
   )
   question_run (commands.Build store progress) task leaving moment h is done = absurd h
   question_run (commands.List store) task leaving moment h is done = absurd h
 
   pub build_run : (command : Command) (path : Bor (List ℕ)) → IsErrand settings.date.now command (errands.Build path)
       → IsOverStore o path.now (IsBuildRun basis settings.rides) run disk
-      → IsCommandRun o settings basis command run disk
+      → IsCommandRun o t style settings basis command run disk
   build_run (commands.Build store progress) path h done =
       subst (λ p. IsOverStore o p (IsBuildRun basis settings.rides) run disk) h done
   build_run (commands.Answer task) path h done = absurd h
   build_run (commands.List store) path h done = absurd h
 
   pub list_run : (command : Command) (path : Bor (List ℕ)) → IsErrand settings.date.now command (errands.List path)
-      → IsOverStore o path.now (IsListRun basis settings.rides) run disk
-      → IsCommandRun o settings basis command run disk
+      → IsOverStore o path.now (IsListRun t style basis settings.rides) run disk
+      → IsCommandRun o t style settings basis command run disk
   list_run (commands.List store) path h done =
-      subst (λ p. IsOverStore o p (IsListRun basis settings.rides) run disk) h done
+      subst (λ p. IsOverStore o p (IsListRun t style basis settings.rides) run disk) h done
   list_run (commands.Answer task) path h done = absurd h
   list_run (commands.Build store progress) path h done = absurd h

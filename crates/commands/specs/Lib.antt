@@ -2,5 +2,6 @@ pub mod Words
 pub mod Errands
 pub mod Feeds
 pub mod Prints
+pub mod Tellings
 pub mod Runs
 pub mod Programs

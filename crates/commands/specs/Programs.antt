@@ -12,6 +12,7 @@ use Rattle.feed_report.specs.Reports.{Names}
 use Rattle.program_inputs.specs.Statuses.{IsShown, IsStatus}
 use Rattle.program_inputs.specs.declared.fault.Fault.TheVariants.{Memory}
 use Rattle.commands.specs.Runs.{IsCheckRun, IsRun, Opening, Run, Tells}
+use Rattle.commands.specs.Tellings.{IsStopsText, Telling}
 
 -- the words give no job: help was asked for and is shown, or there is a fault of words, or memory ran out, and nothing is printed
 pub record IsNoJob (words : List Text) (run : Run) : Type 0 where
@@ -25,10 +26,11 @@ pub record NameJob (words : List Text) (job : Job) : Type 0 where
   pub faultless : fault_of program_app words ≡ []
   pub is : IsJob (subcommand_of program_app words) job
 
--- What a job leaves over a feed: `lists` says which names a folder was said to have, `keyed` whether there are keys to look ids up with.
-abbrev pub IsDone : {D N : Type 0} → Opening D → (List ℕ → Result Names N → Type 0) → Bool → Feed → Job → Run → Option D → Type 0
-IsDone o lists keyed feed (jobs.Check folder) run disk = IsCheckRun (lists folder.now) keyed feed run × (disk ≡ None)
-IsDone o lists keyed feed (jobs.Plan plan) run disk = IsRun o keyed feed plan run disk
+-- What a job over a feed's files leaves: `lists` says which names a folder was said to have, `keyed` whether there are keys to look ids up with.
+abbrev pub IsDone : {D N : Type 0} → Opening D → Telling → (List ℕ → Result Names N → Type 0) → Bool → Feed → Job → Run → Option D → Type 0
+IsDone o t lists keyed feed (jobs.Check folder) run disk = IsCheckRun (lists folder.now) keyed feed run × (disk ≡ None)
+IsDone o t lists keyed feed (jobs.Stops folder text all) run disk = ⊥
+IsDone o t lists keyed feed (jobs.Plan plan) run disk = IsRun o t keyed feed plan run disk
 
 -- The job is done over the files that opening the feed's folder gave, whatever feed they are; or memory ran out as they were opened.
 abbrev pub IsJobRun : {F E : Type 0} → (List ℕ → Result F E → Type 0) → (F → Feed → Type 0) → (Feed → Type 0) → Type 0 → List ℕ → Type 0
@@ -36,11 +38,18 @@ IsJobRun {F} {E} opens reads Done Unopened folder =
     ((files : F) × opens folder (Ok files) × ((feed : Feed) → reads files feed → Done feed))
     ⊎ ((error : E) × opens folder (Err error) × Unopened)
 
+-- The list of stops is as the telling finds them: the files that answers are read from aren't opened for it.
+abbrev pub IsStopsRun : Telling → Job → Run → Type 0
+IsStopsRun t (jobs.Check folder) run = ⊥
+IsStopsRun t (jobs.Stops folder text all) run = IsStopsText (t.finds folder.now) text all run.before run.after run.status
+IsStopsRun t (jobs.Plan plan) run = ⊥
+
 -- These words, over the feed that their folder opens to, the names that this folder was said to have, and the disk that their store's file
 -- opens to, leave these lines, this status and this disk.
-abbrev pub IsProgramRun : {D F E N : Type 0} → Opening D → (List ℕ → Result F E → Type 0) → (F → Feed → Type 0)
+abbrev pub IsProgramRun : {D F E N : Type 0} → Opening D → Telling → (List ℕ → Result F E → Type 0) → (F → Feed → Type 0)
     → (List ℕ → Result Names N → Type 0) → Bool → List Text → Run → Option D → Type 0
-IsProgramRun o opens reads lists keyed words run disk =
+IsProgramRun o t opens reads lists keyed words run disk =
     (IsNoJob words run × (disk ≡ None))
     ⊎ ((job : Job) × NameJob words job
-    × IsJobRun opens reads (λ feed. IsDone o lists keyed feed job run disk) (Tells (λ f. f ≡ Memory) run × (disk ≡ None)) (feed_of job))
+    × ((IsStopsRun t job run × (disk ≡ None))
+    ⊎ IsJobRun opens reads (λ feed. IsDone o t lists keyed feed job run disk) (Tells (λ f. f ≡ Memory) run × (disk ≡ None)) (feed_of job)))

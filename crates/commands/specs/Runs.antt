@@ -5,6 +5,8 @@ use Rattle.disk_model.specs.declared.fault.FileFault.{FileFault}
 use Rattle.disk_model.specs.declared.fault.FileFault.TheVariants as files
 use Rattle.gtfs_tables.specs.Feed.{Feed}
 use Rattle.recovery.specs.declared.fault.RecoverFault.TheVariants.{Device}
+use Rattle.command_line.specs.declared.format.Format.{Format}
+use Rattle.command_line.specs.declared.format.Style.{Style}
 use Rattle.command_line.specs.declared.job.Command.{Command}
 use Rattle.command_line.specs.declared.job.Command.TheVariants as commands
 use Rattle.command_line.specs.declared.job.Plan.{Plan}
@@ -28,6 +30,7 @@ use Rattle.store_answers.specs.Listings.{IsListed, IsUnlisted}
 use Rattle.store_answers.specs.Stores.{OnlyFailing}
 use Rattle.commands.specs.Feeds.{IsGround, IsGroundFault, LeavesAt}
 use Rattle.commands.specs.Prints.{AreAnswerLines, AreReportLines, IsFaulted, IsPrint}
+use Rattle.commands.specs.Tellings.{IsAnswerPrint, IsReportPrint, Telling, tells_legs}
 
 -- a run: standard output before it and after it, and its status
 pub record Run : Type 0 where
@@ -86,16 +89,20 @@ pub record IsOverDisk {D : Type 0} (o : Opening D) (path : List ℕ) (Uses : Use
 abbrev pub IsOverStore : {D : Type 0} → Opening D → List ℕ → Use → Run → Option D → Type 0
 IsOverStore o path Uses run disk = IsRefusedFile o path run disk ⊎ IsOverDisk o path Uses run disk
 
+-- an answer of the basis in a style, as the telling has it
+abbrev pub PrintsAnswer : Telling → Style → BasisData → (Answer → Type 0) → (Fault → Type 0) → Run → Type 0
+PrintsAnswer t style basis Right Wrong run = IsAnswerPrint (λ format. t.tells format basis) style Right Wrong run.before run.after run.status
+
 -- a question between stops, without a store
-abbrev pub IsStopRun : BasisData → Option ℕ → Question → (List ℕ → List ℕ → ℕ → Answer → Type 0) → Run → Type 0
-IsStopRun basis moment question Right run =
-    Prints (AreAnswerLines (IsAnswered (stop_alone basis.names) Right basis.timetable moment question))
+abbrev pub IsStopRun : Telling → Style → BasisData → Option ℕ → Question → (List ℕ → List ℕ → ℕ → Answer → Type 0) → Run → Type 0
+IsStopRun t style basis moment question Right run =
+    PrintsAnswer t style basis (IsAnswered (stop_alone basis.names) Right basis.timetable moment question)
     (IsUnanswered (stop_alone basis.names) NoneMissing basis.timetable moment question) run
 
 -- a question between places, over a store
-abbrev pub IsAskRun : BasisData → ℕ → Option ℕ → Question → Bool → Use
-IsAskRun basis k moment question legs old new MayTell run =
-    Prints (AreAnswerLines (IsStoredAnswer basis k moment question legs old new))
+abbrev pub IsAskRun : Telling → Style → BasisData → ℕ → Option ℕ → Question → Bool → Use
+IsAskRun t style basis k moment question legs old new MayTell run =
+    PrintsAnswer t style basis (IsStoredAnswer basis k moment question (tells_legs style legs) old new)
     (λ fault. IsStoredRefusal basis k moment question old new fault × MayTell fault) run
 
 -- a build of what a store lacks
@@ -104,33 +111,35 @@ IsBuildRun basis k old new MayTell run =
     Prints (AreReportLines (IsBuilt basis k old new)) (λ fault. IsUnbuilt basis k old new fault × MayTell fault) run
 
 -- a list of what a store has
-abbrev pub IsListRun : BasisData → ℕ → Use
-IsListRun basis k old new MayTell run =
-    Prints (AreReportLines (IsListed basis k old new)) (λ fault. IsUnlisted basis k old new fault × MayTell fault) run
+abbrev pub IsListRun : Telling → Style → BasisData → ℕ → Use
+IsListRun t style basis k old new MayTell run =
+    IsReportPrint t.reports style (IsListed basis k old new) (λ fault. IsUnlisted basis k old new fault × MayTell fault)
+    run.before run.after run.status
 
 -- a question, over the timetable, at the moment of its words
-abbrev pub IsTaskRun : {D : Type 0} → Opening D → BasisData → ℕ → Option ℕ → Task → Run → Option D → Type 0
-IsTaskRun o basis k moment (tasks.Direct question) run disk = IsStopRun basis moment question (IsDirect basis) run × (disk ≡ None)
-IsTaskRun o basis k moment (tasks.Scan question legs) run disk =
-    IsStopRun basis moment question (ArePoints basis k legs) run × (disk ≡ None)
-IsTaskRun o basis k moment (tasks.Ask question on legs store) run disk =
-    IsOverStore o store.now (IsAskRun basis k moment question legs) run disk
+abbrev pub IsTaskRun : {D : Type 0} → Opening D → Telling → Style → BasisData → ℕ → Option ℕ → Task → Run → Option D → Type 0
+IsTaskRun o t style basis k moment (tasks.Direct question) run disk =
+    IsStopRun t style basis moment question (IsDirect basis) run × (disk ≡ None)
+IsTaskRun o t style basis k moment (tasks.Scan question legs) run disk =
+    IsStopRun t style basis moment question (ArePoints basis k (tells_legs style legs)) run × (disk ≡ None)
+IsTaskRun o t style basis k moment (tasks.Ask question on legs store) run disk =
+    IsOverStore o store.now (IsAskRun t style basis k moment question legs) run disk
 
 -- a command, over the timetable
-abbrev pub IsCommandRun : {D : Type 0} → Opening D → Settings → BasisData → Command → Run → Option D → Type 0
-IsCommandRun o settings basis (commands.Answer task) run disk =
-    (moment : Option ℕ) × LeavesAt settings task basis moment × IsTaskRun o basis settings.rides moment task run disk
-IsCommandRun o settings basis (commands.Build store progress) run disk =
+abbrev pub IsCommandRun : {D : Type 0} → Opening D → Telling → Style → Settings → BasisData → Command → Run → Option D → Type 0
+IsCommandRun o t style settings basis (commands.Answer task) run disk =
+    (moment : Option ℕ) × LeavesAt settings task basis moment × IsTaskRun o t style basis settings.rides moment task run disk
+IsCommandRun o t style settings basis (commands.Build store progress) run disk =
     IsOverStore o store.now (IsBuildRun basis settings.rides) run disk
-IsCommandRun o settings basis (commands.List store) run disk =
-    IsOverStore o store.now (IsListRun basis settings.rides) run disk
+IsCommandRun o t style settings basis (commands.List store) run disk =
+    IsOverStore o store.now (IsListRun t style basis settings.rides) run disk
 
 -- What a run leaves, in the order in which faults are looked for: the words, the feed and its days; then the store, and then the question.
 -- The store is opened only where the feed and its days are without fault.
-abbrev pub IsRun : {D : Type 0} → Opening D → Bool → Feed → Plan → Run → Option D → Type 0
-IsRun o keyed feed plan run disk =
+abbrev pub IsRun : {D : Type 0} → Opening D → Telling → Bool → Feed → Plan → Run → Option D → Type 0
+IsRun o t keyed feed plan run disk =
     (Tells (IsGroundFault keyed feed plan) run × (disk ≡ None))
-    ⊎ ((basis : BasisData) × IsGround keyed feed plan.settings basis × IsCommandRun o plan.settings basis plan.command run disk)
+    ⊎ ((basis : BasisData) × IsGround keyed feed plan.settings basis × IsCommandRun o t plan.style plan.settings basis plan.command run disk)
 
 -- the lines that tell what the feed has, and what else is among the names that its folder was said to have
 abbrev pub AreFeedLines : {E : Type 0} → (Result Names E → Type 0) → Bool → Feed → List ℕ → ℕ → Type 0

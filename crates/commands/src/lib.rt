@@ -8,6 +8,9 @@ mod printing;
 mod program;
 mod running;
 mod storing;
+mod telling;
 
 pub use program::run_words;
+pub use errand::Leaving;
 pub use running::run;
+pub use telling::{Asked, Teller};

@@ -28,8 +28,8 @@ pub fn tell_fault<E: Write>(fault: &Fault<'_>, err: &mut E) -> u8
     fault.status()
 }
 
-// Prints a text that goes with this status on `out`, or tells on `err` that it couldn't. Gives the status.
-fn print_text<T: Display + Drop, W: Write, E: Write>(
+/// Prints a text that goes with this status on `out`, or tells on `err` that it couldn't. Gives the status.
+pub fn print_text<T: Display + Drop, W: Write, E: Write>(
     alloc: Global,
     text: T,
     meant: u8,
@@ -44,24 +44,6 @@ fn print_text<T: Display + Drop, W: Write, E: Write>(
         Ok(()) => meant,
         Err(PrintFault::Refused) => unwritten("tp", err),
         Err(PrintFault::Memory) => out_of_memory("tp", err),
-    }
-}
-
-/// Prints an answer on `out`, and a line's end behind it, or tells why there is none on `err`. Gives the status.
-pub fn print_answer<W: Write, E: Write>(
-    alloc: Global,
-    answer: Result<Answer, Fault<'_>>,
-    out: &mut W,
-    err: &mut E,
-) -> u8
-    ensures told { MatchResult answer.entry
-        (λ answer. IsTextPrinted (answer_text answer ++ 10 ∷ []) 0 (W.contents out.old) (W.contents out.new) result)
-        (λ fault. (result ≡ status_of fault) × Keeps (W.contents out.old) (W.contents out.new)) }
-    ensures statuses { Contains statuses result }
-{
-    match answer {
-        Ok(answer) => print_text(alloc, format_args!("{answer}\n"), 0, out, err),
-        Err(fault) => tell_fault(&fault, err),
     }
 }
 

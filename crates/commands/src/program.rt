@@ -5,9 +5,11 @@ ghost use Rattle.std.specs.Fn.{FnOnceReturnsAt};
 ghost use Rattle.gtfs_tables.specs.Feed.{AreReaders};
 ghost use Rattle.commands.specs.Programs.{IsProgramRun};
 ghost use Rattle.commands.specs.Runs.{opening_of, run_of};
+ghost use Rattle.commands.specs.Tellings.{telling_of};
 
 use crate::checking::run_check;
 use crate::running::run;
+use crate::telling::{Teller, run_stops};
 use command_line::{Command, Job, Plan, read_words};
 use disk_model::{Disk, FileFault};
 use gtfs_tables::Files;
@@ -26,7 +28,7 @@ fn shows_progress(plan: &Plan<'_>) -> bool {
 /// Reads the program's words, the first of which is its name, and does what they say: `open_feed` opens the files of the feed in the
 /// folder that they name, and `list_folder` gives the names in it; both fail only where memory runs out; `open_store` opens the file of
 /// the store; `progress` gives who is told how far a build is, by whether the words ask that it is shown. Each is called at its turn, or
-/// not at all. The answer goes to `out`, a fault to `err`.
+/// not at all; `teller` has the texts of formats beside lines, and of stops that are listed. The answer goes to `out`, a fault to `err`.
 ///
 /// Gives the status to end with, and the disk of the store where it was opened. Ids are looked up under `keys`: where the system gave no
 /// randomness for them, that is the fault.
@@ -39,11 +41,13 @@ pub fn run_words<
     L: FnOnce(&str) -> io::Result<Option<Vec<String>>>,
     S: FnOnce(&str) -> Result<D, FileFault>,
     M: FnOnce(bool) -> P,
+    T: Teller,
     W: Write,
     E: Write,
 >(
     alloc: Global,
     keys: Option<RandomState>,
+    teller: &T,
     words: &'a [&'a str],
     open_feed: O,
     list_folder: L,
@@ -57,7 +61,7 @@ pub fn run_words<
     requires store { S.IsAlwaysCallable open_store }
     requires progress { M.IsAlwaysCallable progress }
     ensures { IsProgramRun (opening_of (FnOnceReturnsAt S.FnOnce open_store) D.honest D.state D.failures)
-        (FnOnceReturnsAt O.FnOnce open_feed) (AreReaders R.remaining) (FnOnceReturnsAt L.FnOnce list_folder) (is_some keys)
+        (telling_of T.tells T.reports T.finds) (FnOnceReturnsAt O.FnOnce open_feed) (AreReaders R.remaining) (FnOnceReturnsAt L.FnOnce list_folder) (is_some keys)
         (map (λ word. word.now) words.entry.now)
         (run_of (W.contents out.old) (W.contents out.new) result.0) result.1 }
 {
@@ -66,21 +70,30 @@ pub fn run_words<
         Ok(job) => job,
         Err(status) => return (show("tp", shown.as_slice(), status, out, err), None),
     };
-    let files = match open_feed(job.feed()) {
-        Ok(files) => files,
-        Err(_) => return (out_of_memory("tp", err), None),
-    };
-    match &job {
+    match job {
         Job::Check { feed } => {
+            let files = match open_feed(feed) {
+                Ok(files) => files,
+                Err(_) => return (out_of_memory("tp", err), None),
+            };
             let status = run_check(alloc, keys, feed, files, list_folder, out, err);
             (status, None)
         }
+        Job::Stops { feed, text, all } => {
+            let status = run_stops(alloc, teller, feed, text, all, out, err);
+            (status, None)
+        }
         Job::Plan(plan) => {
-            let mut progress = progress(shows_progress(plan));
+            let files = match open_feed(plan.settings.feed) {
+                Ok(files) => files,
+                Err(_) => return (out_of_memory("tp", err), None),
+            };
+            let mut progress = progress(shows_progress(&plan));
             run(
                 alloc,
                 keys,
-                plan,
+                teller,
+                &plan,
                 files,
                 open_store,
                 &mut progress,

@@ -7,10 +7,11 @@ ghost use Rattle.gtfs_tables.specs.Feed.{Feed, AreReaders};
 ghost use Rattle.commands.specs.Errands.{IsErrand};
 ghost use Rattle.commands.specs.Feeds.{IsGround, IsGroundFault};
 ghost use Rattle.commands.specs.Prints.{statuses};
+ghost use Rattle.commands.specs.Tellings.{telling_of};
 ghost use Rattle.commands.specs.Runs.{IsRun, IsTaskRun, opening_of, run_of};
 
 use crate::errand::{Errand, words_of};
-use crate::printing::{print_answer, tell_fault};
+use crate::telling::{Asked, Teller, print_answer_as, tell_plan_fault, tells_legs};
 use crate::storing::{run_ask, run_build, run_list};
 use answering::{direct, scan};
 use command_line::{Plan, Task};
@@ -25,29 +26,38 @@ use store_building::Progress;
 use timetable::Rides;
 
 // Answers a question, for one who leaves at the moment of its words.
-fn run_task<D: Disk, S: FnOnce(&str) -> Result<D, FileFault>, W: Write, E: Write>(
+fn run_task<
+    D: Disk,
+    S: FnOnce(&str) -> Result<D, FileFault>,
+    T: Teller,
+    W: Write,
+    E: Write,
+>(
     alloc: Global,
+    teller: &T,
     basis: &Basis,
     rides: Rides,
     moment: Option<u32>,
-    task: &Task<'_>,
+    asked: &Asked<'_>,
     open_store: S,
     out: &mut W,
     err: &mut E,
 ) -> (u8, Option<D>)
     requires { S.IsAlwaysCallable open_store }
-    ensures run { IsTaskRun (opening_of (FnOnceReturnsAt S.FnOnce open_store) D.honest D.state D.failures) basis.now rides moment task.now
+    ensures run { IsTaskRun (opening_of (FnOnceReturnsAt S.FnOnce open_store) D.honest D.state D.failures)
+        (telling_of T.tells T.reports T.finds) asked.now.plan.style basis.now rides moment asked.now.task
         (run_of (W.contents out.old) (W.contents out.new) result.0) result.1 }
     ensures statuses { Contains statuses result.0 }
 {
-    match task {
+    let style = asked.plan.style;
+    match &asked.task {
         Task::Direct(question) => {
             let answer = direct(alloc, basis, question, moment);
-            (print_answer(alloc, answer, out, err), None)
+            (print_answer_as(alloc, teller, asked, basis, answer, out, err), None)
         }
         Task::Scan { question, legs } => {
-            let answer = scan(alloc, basis, question, moment, rides, *legs);
-            (print_answer(alloc, answer, out, err), None)
+            let answer = scan(alloc, basis, question, moment, rides, tells_legs(style, *legs));
+            (print_answer_as(alloc, teller, asked, basis, answer, out, err), None)
         }
         Task::Ask {
             question,
@@ -55,7 +65,7 @@ fn run_task<D: Disk, S: FnOnce(&str) -> Result<D, FileFault>, W: Write, E: Write
             store,
             ..
         } => run_ask(
-            alloc, basis, rides, moment, question, *legs, store, open_store, out, err,
+            alloc, teller, asked, basis, rides, moment, question, *legs, store, open_store, out, err,
         ),
     }
 }
@@ -82,7 +92,7 @@ fn ground<'a, R: Read + Drop>(
 
 /// Does the plan over the feed's files, and over the disk of the store that it names: `open_store` opens the file of that path, and is
 /// called only where the feed and its days are without fault. The answer goes to `out`; a fault goes to `err` behind `tp: `, with a line
-/// beneath it where there is something to do about it. While a build goes on, `progress` is told how far it is.
+/// beneath it where there is something to do about it. In a style that isn't lines, `teller` has the texts. While a build goes on, `progress` is told how far it is.
 ///
 /// Gives the status to end with, and the disk where it was opened: 0 done; 1 the feed or its days are at fault; 2 the dates or the time
 /// are; 3 a stop has no tree, since it would be too large; 4 the store is at fault, or its device; 6 the question is at fault; 7 memory ran
@@ -92,11 +102,13 @@ pub fn run<
     D: Disk,
     S: FnOnce(&str) -> Result<D, FileFault>,
     P: Progress,
+    T: Teller,
     W: Write,
     E: Write,
 >(
     alloc: Global,
     keys: Option<RandomState>,
+    teller: &T,
     plan: &Plan<'_>,
     files: Files<R>,
     open_store: S,
@@ -106,23 +118,33 @@ pub fn run<
 ) -> (u8, Option<D>)
     requires { S.IsAlwaysCallable open_store }
     ensures run { (feed : Feed) → AreReaders R.remaining files feed
-        → IsRun (opening_of (FnOnceReturnsAt S.FnOnce open_store) D.honest D.state D.failures) (is_some keys) feed plan.now
+        → IsRun (opening_of (FnOnceReturnsAt S.FnOnce open_store) D.honest D.state D.failures)
+        (telling_of T.tells T.reports T.finds) (is_some keys) feed plan.now
         (run_of (W.contents out.old) (W.contents out.new) result.0) result.1 }
     ensures statuses { Contains statuses result.0 }
 {
     let (basis, errand) = match ground(alloc, keys, plan, files) {
         Ok(ground) => ground,
-        Err(fault) => return (tell_fault(&fault, err), None),
+        Err(fault) => return (tell_plan_fault(alloc, teller, plan, &fault, err), None),
     };
     let rides = Rides::new(plan.settings.rides);
     match errand {
         Errand::Answer(task, leaving) => {
             let moment = basis.moment(leaving.day, leaving.seconds);
-            run_task(alloc, &basis, rides, moment, &task, open_store, out, err)
+            let asked = Asked {
+                plan: *plan,
+                task,
+                leaving,
+            };
+            run_task(
+                alloc, teller, &basis, rides, moment, &asked, open_store, out, err,
+            )
         }
         Errand::Build(path) => run_build(
             alloc, &basis, rides, path, open_store, progress, out, err,
         ),
-        Errand::List(path) => run_list(alloc, &basis, rides, path, open_store, out, err),
+        Errand::List(path) => run_list(
+            alloc, teller, plan, &basis, rides, path, open_store, out, err,
+        ),
     }
 }

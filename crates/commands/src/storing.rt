@@ -4,10 +4,12 @@ ghost use Rattle.std.specs.Prelude.{◌≡◌};
 ghost use Rattle.std.specs.Fn.{FnOnceReturnsAt};
 ghost use Rattle.std.specs.List.{Contains};
 ghost use Rattle.commands.specs.Prints.{statuses};
+ghost use Rattle.commands.specs.Tellings.{telling_of};
 ghost use Rattle.commands.specs.Runs.{IsAskRun, IsBuildRun, IsListRun, IsOverStore, of_file, opening_of, run_of};
 
-use crate::printing::{print_answer, print_report, tell_fault};
-use command_line::Question;
+use crate::printing::{print_report, tell_fault};
+use crate::telling::{Asked, Teller, print_answer_as, print_report_as, tell_plan_fault, tells_legs};
+use command_line::{Plan, Question};
 use disk_model::{Disk, FileFault};
 use feed_basis::Basis;
 use program_inputs::Fault;
@@ -28,9 +30,17 @@ fn file_fault<'a>(fault: FileFault) -> Fault<'a>
     }
 }
 
-/// Prints the ids of the stops whose trees the file of that path has.
-pub fn run_list<D: Disk, S: FnOnce(&str) -> Result<D, FileFault>, W: Write, E: Write>(
+/// Prints the ids of the stops whose trees the file of that path has, as the plan's style has them.
+pub fn run_list<
+    D: Disk,
+    S: FnOnce(&str) -> Result<D, FileFault>,
+    T: Teller,
+    W: Write,
+    E: Write,
+>(
     alloc: Global,
+    teller: &T,
+    plan: &Plan<'_>,
     basis: &Basis,
     rides: Rides,
     path: &str,
@@ -40,15 +50,19 @@ pub fn run_list<D: Disk, S: FnOnce(&str) -> Result<D, FileFault>, W: Write, E: W
 ) -> (u8, Option<D>)
     requires { S.IsAlwaysCallable open_store }
     ensures run { IsOverStore (opening_of (FnOnceReturnsAt S.FnOnce open_store) D.honest D.state D.failures) path.now
-        (IsListRun basis.now rides)
+        (IsListRun (telling_of T.tells T.reports T.finds) plan.now.style basis.now rides)
         (run_of (W.contents out.old) (W.contents out.new) result.0) result.1 }
     ensures statuses { Contains statuses result.0 }
 {
     match open_store(path) {
-        Err(fault) => (tell_fault(&file_fault(fault), err), None),
+        Err(fault) => {
+            let fault = file_fault(fault);
+            (tell_plan_fault(alloc, teller, plan, &fault, err), None)
+        }
         Ok(disk) => {
             let (report, disk) = list(alloc, basis, rides, disk);
-            (print_report(alloc, report, out, err), Some(disk))
+            let status = print_report_as(alloc, teller, plan, report, out, err);
+            (status, Some(disk))
         }
     }
 }
@@ -79,9 +93,18 @@ pub fn run_build<D: Disk, S: FnOnce(&str) -> Result<D, FileFault>, P: Progress, 
     }
 }
 
-/// Answers a question between places from the trees that the file of that path has, for one who leaves at the moment.
-pub fn run_ask<D: Disk, S: FnOnce(&str) -> Result<D, FileFault>, W: Write, E: Write>(
+/// Answers a question between places from the trees that the file of that path has, for one who leaves at the moment, as the plan's style
+/// has it.
+pub fn run_ask<
+    D: Disk,
+    S: FnOnce(&str) -> Result<D, FileFault>,
+    T: Teller,
+    W: Write,
+    E: Write,
+>(
     alloc: Global,
+    teller: &T,
+    asked: &Asked<'_>,
     basis: &Basis,
     rides: Rides,
     moment: Option<u32>,
@@ -94,15 +117,20 @@ pub fn run_ask<D: Disk, S: FnOnce(&str) -> Result<D, FileFault>, W: Write, E: Wr
 ) -> (u8, Option<D>)
     requires { S.IsAlwaysCallable open_store }
     ensures run { IsOverStore (opening_of (FnOnceReturnsAt S.FnOnce open_store) D.honest D.state D.failures) path.now
-        (IsAskRun basis.now rides moment question.now legs)
+        (IsAskRun (telling_of T.tells T.reports T.finds) asked.now.plan.style basis.now rides moment question.now legs)
         (run_of (W.contents out.old) (W.contents out.new) result.0) result.1 }
     ensures statuses { Contains statuses result.0 }
 {
     match open_store(path) {
-        Err(fault) => (tell_fault(&file_fault(fault), err), None),
+        Err(fault) => {
+            let fault = file_fault(fault);
+            (tell_plan_fault(alloc, teller, &asked.plan, &fault, err), None)
+        }
         Ok(disk) => {
+            let legs = tells_legs(asked.plan.style, legs);
             let (answer, disk) = ask_stored(alloc, basis, rides, disk, question, moment, legs);
-            (print_answer(alloc, answer, out, err), Some(disk))
+            let status = print_answer_as(alloc, teller, asked, basis, answer, out, err);
+            (status, Some(disk))
         }
     }
 }

@@ -2,8 +2,10 @@
 #![tactic(auto)]
 
 mod progress;
+mod teller;
 
 use crate::progress::Meter;
+use crate::teller::FolderTeller;
 use commands::run_words;
 use disk_model::FileDisk;
 use program_inputs::{given_words, list_folder, open_feed, out_of_memory, texts, unread};
@@ -25,6 +27,7 @@ fn status(rt: &HostRuntime) -> u8 {
     let (status, _disk) = run_words(
         alloc,
         keys,
+        &FolderTeller::new(rt),
         texts.as_slice(),
         |folder| open_feed(rt, alloc, folder),
         |folder| list_folder(rt, folder),

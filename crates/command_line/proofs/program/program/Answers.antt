@@ -4,7 +4,7 @@ use Rattle.clap.specs.Words.{App, app_of, with_subcommand}
 use Rattle.clap.specs.Simple.{app_of_fields}
 use Rattle.clap.specs.declared.builder.command.Command.{Command}
 use Rattle.clap.specs.declared.error.Error.{Error}
-use Rattle.command_line.specs.CommandLine.{ask_app, build_app, check_app, journey_app, list_app, needs_subcommand, scan_app, tells_version}
+use Rattle.command_line.specs.CommandLine.{ask_app, build_app, check_app, journey_app, list_app, needs_subcommand, scan_app, stops_app, tells_version}
 use Rattle.command_line.proofs.program.program.Goals as goal
 
 -- a program with a command more whose command line is known
@@ -23,18 +23,21 @@ returns-clause-shape c =
     let four : Command = c.in_ok-program-4.program in
     let five : Command = c.in_ok-program-5.program in
     let six : Command = c.in_ok-program-6.program in
-    added c.ask.result five six ask_app c.in_ok-program-6.ensures.shape c.ask.ensures.shape
+    let seven : Command = c.in_ok-program-7.program in
+    added c.ask.result six seven ask_app c.in_ok-program-7.ensures.shape c.ask.ensures.shape
     ∙ ap (λ (a : App). with_subcommand a ask_app.top) (
-    added c.store.result four five list_app c.in_ok-program-5.ensures.shape c.store.ensures.shape
+    added c.list.result five six list_app c.in_ok-program-6.ensures.shape c.list.ensures.shape
     ∙ ap (λ (a : App). with_subcommand a list_app.top) (
-    added c.build.result three four build_app c.in_ok-program-4.ensures.shape c.build.ensures.shape
+    added c.build.result four five build_app c.in_ok-program-5.ensures.shape c.build.ensures.shape
     ∙ ap (λ (a : App). with_subcommand a build_app.top) (
-    added c.scan.result two three scan_app c.in_ok-program-3.ensures.shape c.scan.ensures.shape
+    added c.scan.result three four scan_app c.in_ok-program-4.ensures.shape c.scan.ensures.shape
     ∙ ap (λ (a : App). with_subcommand a scan_app.top) (
-    added c.journey.result one two direct c.in_ok-program-2.ensures.shape c.journey.ensures.shape
+    added c.journey.result two three direct c.in_ok-program-3.ensures.shape c.journey.ensures.shape
     ∙ ap (λ (a : App). with_subcommand a direct.top) (
+    added c.stops.result one two stops_app c.in_ok-program-2.ensures.shape c.stops.ensures.shape
+    ∙ ap (λ (a : App). with_subcommand a stops_app.top) (
     added c.check.result none one check_app c.in_ok-program.ensures.shape c.check.ensures.shape
     ∙ ap (λ (a : App). with_subcommand a check_app.top) (
     ap app_of_fields c.subcommand_required-program.ensures
     ∙ ap needs_subcommand (ap app_of_fields c.after_help.ensures ∙ ap app_of_fields c.about.ensures
-    ∙ ap app_of_fields c.version.ensures ∙ ap tells_version c.new.ensures.app)))))))
+    ∙ ap app_of_fields c.version.ensures ∙ ap tells_version c.new.ensures.app))))))))

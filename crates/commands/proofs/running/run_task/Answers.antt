@@ -2,7 +2,7 @@ use Rattle.std.proofs.Common.{refl}
 use Rattle.answering.specs.Answers.{ArePoints, IsAnswered, IsDirect}
 use Rattle.answering.specs.Refusals.{IsUnanswered, NoneMissing}
 use Rattle.feed_basis.specs.Ids.{stop_alone}
-use Rattle.commands.proofs.PrintFacts.{answer_printed, matched}
+use Rattle.commands.proofs.PrintFacts.{answer_printed_as, matched}
 use Rattle.commands.proofs.running.run_task.Goals as goal
 
 pub returns-in-Direct-clause-run : goal.returns-in-Direct-clause-run
@@ -12,8 +12,9 @@ returns-in-Direct-clause-run g c =
     let right = IsAnswered (stop_alone basis.names) (IsDirect basis) basis.timetable moment c.in-Direct.question in
     let wrong = IsUnanswered (stop_alone basis.names) NoneMissing basis.timetable moment c.in-Direct.question in
     rw c.in-Direct.is (
-      answer_printed c.direct-answer.result right wrong (g.W.Write.contents c.args.out.now) (g.W.Write.contents c.print_answer.new.out) c.print_answer.result
-          (matched c.direct-answer.result right wrong c.direct-answer.ensures.answer c.direct-answer.ensures.refusal) c.print_answer.ensures.told,
+      answer_printed_as (λ format. g.T.Teller.tells format basis) c.args.asked.now.plan.style c.direct-answer.result right wrong
+          (g.W.Write.contents c.args.out.now) (g.W.Write.contents c.print_answer_as.new.out) c.print_answer_as.result
+          (matched c.direct-answer.result right wrong c.direct-answer.ensures.answer c.direct-answer.ensures.refusal) c.print_answer_as.ensures.told,
       refl,
     )
 
@@ -21,11 +22,11 @@ pub returns-in-Scan-clause-run : goal.returns-in-Scan-clause-run
 returns-in-Scan-clause-run g c =
     let basis = c.args.basis.now in
     let moment = c.args.moment in
-    let right = IsAnswered (stop_alone basis.names) (ArePoints basis c.args.rides c.in-Scan.legs) basis.timetable moment c.in-Scan.question in
+    let right = IsAnswered (stop_alone basis.names) (ArePoints basis c.args.rides c.tells_legs.result) basis.timetable moment c.in-Scan.question in
     let wrong = IsUnanswered (stop_alone basis.names) NoneMissing basis.timetable moment c.in-Scan.question in
-    rw c.in-Scan.is (
-      answer_printed c.scan-answer.result right wrong (g.W.Write.contents c.args.out.now) (g.W.Write.contents c.print_answer-in-Scan.new.out)
-          c.print_answer-in-Scan.result
-          (matched c.scan-answer.result right wrong c.scan-answer.ensures.answer c.scan-answer.ensures.refusal) c.print_answer-in-Scan.ensures.told,
+    rw (c.in-Scan.is, ← c.tells_legs.ensures) (
+      answer_printed_as (λ format. g.T.Teller.tells format basis) c.args.asked.now.plan.style c.scan-answer.result right wrong
+          (g.W.Write.contents c.args.out.now) (g.W.Write.contents c.print_answer_as-in-Scan.new.out) c.print_answer_as-in-Scan.result
+          (matched c.scan-answer.result right wrong c.scan-answer.ensures.answer c.scan-answer.ensures.refusal) c.print_answer_as-in-Scan.ensures.told,
       refl,
     )

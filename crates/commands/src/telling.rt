@@ -1,0 +1,206 @@
+//! Answers and reports in formats beside their lines: who tells them, and how they are printed.
+
+ghost use Rattle.std.specs.Prelude.{◌≡◌, ℕ, List, Bool, IfOk, IfErr, MatchResult, string_bytes, option_map, result_ok};
+ghost use Rattle.std.specs.List.{Contains};
+ghost use Rattle.std.specs.Io.KnownBytes.{Keeps};
+ghost use Rattle.answer_lines.specs.declared.answer.Answer.{Answer};
+ghost use Rattle.answer_lines.specs.declared.report.Report.{Report};
+ghost use Rattle.command_line.specs.declared.format.Format.{Format};
+ghost use Rattle.feed_basis.specs.Basis.{BasisData};
+ghost use Rattle.program_inputs.specs.Faults.{status_of};
+ghost use Rattle.commands.specs.Prints.{statuses};
+ghost use Rattle.commands.specs.Tellings.{IsAnswerText, IsPrintedOf, IsReportText, IsStopsFault, IsStopsText, tells_legs};
+
+use crate::errand::Leaving;
+use crate::printing::{print_text, tell_fault};
+use answer_lines::{Answer, Report};
+use command_line::{Format, Plan, Style, Task};
+use feed_basis::Basis;
+use program_inputs::{Fault, out_of_memory};
+use std::alloc::{AllocError, Global};
+use std::io::Write;
+
+/// What an answer is told of beside itself: the words that asked, and when one leaves.
+#[derive(Clone, Copy)]
+pub struct Asked<'a> {
+    pub plan: Plan<'a>,
+    pub task: Task<'a>,
+    pub leaving: Leaving,
+}
+
+/// Tells answers, reports and faults in formats beside their lines. A text ends with a line's end.
+pub trait Teller {
+    ghost tells: { Format → BasisData → Answer → List ℕ → Type 0 };
+
+    ghost reports: { Format → Report → List ℕ → Type 0 };
+
+    ghost finds: { List ℕ → List ℕ → Bool → List ℕ → Type 0 };
+
+    /// The text of an answer in a format. It fails only where memory runs out.
+    fn answer(
+        &self,
+        alloc: Global,
+        format: Format,
+        asked: &Asked<'_>,
+        basis: &Basis,
+        answer: &Answer,
+    ) -> Result<String, AllocError>
+        ensures { IfOk result (λ text. tells format basis.now answer.now (string_bytes text)) };
+
+    /// The text of a report in a format, over the feed in a folder. It fails only where memory runs out.
+    fn report(
+        &self,
+        alloc: Global,
+        format: Format,
+        folder: &str,
+        report: &Report<'_>,
+    ) -> Result<String, AllocError>
+        ensures { IfOk result (λ text. reports format report.now (string_bytes text)) };
+
+    /// The stops and stations in the folder whose id or name contains a text, the first of them or all. A fault is of the feed, or want of
+    /// memory.
+    fn stops(
+        &self,
+        alloc: Global,
+        folder: &str,
+        text: &str,
+        all: bool,
+    ) -> Result<String, Fault<'static>>
+        ensures text { IfOk result (λ lines. finds folder.now text.now all (string_bytes lines)) }
+        ensures fault { IfErr result IsStopsFault };
+
+    /// What a fault is told as in a format; none where it is told as in lines.
+    fn fault(&self, alloc: Global, format: Format, fault: &Fault<'_>) -> Option<String>;
+
+    /// Lines with the stops in the folder that are near an id which no stop has; none where there are none.
+    fn near(&self, alloc: Global, folder: &str, id: &str) -> Option<String>;
+}
+
+/// Tells a fault of a plan on `err`, as its style has it. Gives the fault's status.
+pub fn tell_plan_fault<T: Teller, E: Write>(
+    alloc: Global,
+    teller: &T,
+    plan: &Plan<'_>,
+    fault: &Fault<'_>,
+    err: &mut E,
+) -> u8
+    ensures status { result ≡ status_of fault.now }
+    ensures statuses { Contains statuses result }
+{
+    if let Style::Told(format) = plan.style
+        && let Some(text) = teller.fault(alloc, format, fault)
+    {
+        let _ = err.write_all(text.as_bytes());
+        return fault.status();
+    }
+    let status = tell_fault(fault, err);
+    if let Fault::UnknownStop(id) = fault
+        && let Some(near) = teller.near(alloc, plan.settings.feed, id)
+    {
+        let _ = err.write_all(near.as_bytes());
+    }
+    status
+}
+
+/// Whether the rides and walks of journeys are told: a format tells them, whether or not the words ask for them.
+pub fn tells_legs(style: Style, legs: bool) -> bool
+    ensures { result ≡ tells_legs style legs }
+{
+    match style {
+        Style::Lines => legs,
+        Style::Told(_) => true,
+    }
+}
+
+// Prints a text that a teller made on `out`, or tells on `err` why that couldn't be. Gives the status.
+fn print_told<W: Write, E: Write>(
+    alloc: Global,
+    text: Result<String, AllocError>,
+    out: &mut W,
+    err: &mut E,
+) -> u8
+    ensures told { IsPrintedOf (option_map string_bytes (result_ok text)) (W.contents out.old) (W.contents out.new) result }
+    ensures statuses { Contains statuses result }
+{
+    match text {
+        Ok(text) => print_text(alloc, text, 0, out, err),
+        Err(_) => out_of_memory("tp", err),
+    }
+}
+
+/// Prints an answer on `out` as the style of the words has it, or tells why there is none on `err`. Gives the status.
+pub fn print_answer_as<T: Teller, W: Write, E: Write>(
+    alloc: Global,
+    teller: &T,
+    asked: &Asked<'_>,
+    basis: &Basis,
+    answer: Result<Answer, Fault<'_>>,
+    out: &mut W,
+    err: &mut E,
+) -> u8
+    ensures told { MatchResult answer.entry
+        (λ answer. IsAnswerText (λ format. T.tells format basis.now answer) asked.now.plan.style answer
+            (W.contents out.old) (W.contents out.new) result)
+        (λ fault. (result ≡ status_of fault) × Keeps (W.contents out.old) (W.contents out.new)) }
+    ensures statuses { Contains statuses result }
+{
+    let answer = match answer {
+        Ok(answer) => answer,
+        Err(fault) => return tell_plan_fault(alloc, teller, &asked.plan, &fault, err),
+    };
+    match asked.plan.style {
+        Style::Lines => print_text(alloc, format_args!("{answer}\n"), 0, out, err),
+        Style::Told(format) => {
+            let text = teller.answer(alloc, format, asked, basis, &answer);
+            print_told(alloc, text, out, err)
+        }
+    }
+}
+
+/// Prints a report on `out` as the plan's style has it, or tells why there is none on `err`. Gives the status.
+pub fn print_report_as<T: Teller, W: Write, E: Write>(
+    alloc: Global,
+    teller: &T,
+    plan: &Plan<'_>,
+    report: Result<Report<'_>, Fault<'_>>,
+    out: &mut W,
+    err: &mut E,
+) -> u8
+    ensures told { MatchResult report.entry
+        (λ report. IsReportText (λ format. T.reports format report) plan.now.style report (W.contents out.old) (W.contents out.new) result)
+        (λ fault. (result ≡ status_of fault) × Keeps (W.contents out.old) (W.contents out.new)) }
+    ensures statuses { Contains statuses result }
+{
+    let report = match report {
+        Ok(report) => report,
+        Err(fault) => return tell_plan_fault(alloc, teller, plan, &fault, err),
+    };
+    match plan.style {
+        Style::Lines => {
+            let status = report.status();
+            print_text(alloc, report, status, out, err)
+        }
+        Style::Told(format) => {
+            let text = teller.report(alloc, format, plan.settings.feed, &report);
+            print_told(alloc, text, out, err)
+        }
+    }
+}
+
+/// Prints the stops and stations in a folder whose id or name contains a text, the first of them or all. Gives the status.
+pub fn run_stops<T: Teller, W: Write, E: Write>(
+    alloc: Global,
+    teller: &T,
+    folder: &str,
+    text: Option<&str>,
+    all: bool,
+    out: &mut W,
+    err: &mut E,
+) -> u8
+    ensures { IsStopsText (T.finds folder.now) text all (W.contents out.old) (W.contents out.new) result }
+{
+    match teller.stops(alloc, folder, text.unwrap_or(""), all) {
+        Ok(lines) => print_text(alloc, lines, 0, out, err),
+        Err(fault) => tell_fault(&fault, err),
+    }
+}

@@ -1,0 +1,199 @@
+//! Answers, reports and faults in formats beside lines, with the names that the feed's folder has.
+
+use answer_lines::{Answer, DayTime, Report};
+use command_line::{Format, Task};
+use commands::{Asked, Teller};
+use feed_basis::Basis;
+use feed_names::open_names;
+use gtfs_tables::{FaultKind, FeedFault, FeedFile};
+use gtfs_text::Sheet;
+use itineraries::{
+    Asked as Question, Clock, FaultText, NameSheets, fault_json, geojson, itinerary_of, json,
+    people_text, stop_list_of,
+};
+use program_inputs::Fault;
+use std::alloc::{AllocError, Global};
+use std::format;
+use stop_search::{list_stops, near_stops};
+
+/// Tells answers with names from the files of a feed's folder, which are read for each answer.
+#[derive(Clone, Copy)]
+pub struct FolderTeller<'r> {
+    rt: &'r HostRuntime,
+}
+
+impl<'r> FolderTeller<'r> {
+    pub fn new(rt: &'r HostRuntime) -> FolderTeller<'r> {
+        FolderTeller { rt }
+    }
+
+    // The sheets of the folder that names are read from.
+    fn sheets(&self, alloc: Global, folder: &str) -> Result<NameSheets, AllocError> {
+        Ok(NameSheets {
+            stops: open_names(self.rt, alloc, folder, "stops.txt")?,
+            trips: open_names(self.rt, alloc, folder, "trips.txt")?,
+            routes: open_names(self.rt, alloc, folder, "routes.txt")?,
+        })
+    }
+
+    // The stops and stations of a sheet, as lines: a fault where there is no sheet.
+    fn listed(
+        &self,
+        alloc: Global,
+        folder: &str,
+        text: &str,
+        all: bool,
+    ) -> Result<Option<String>, AllocError> {
+        match open_names(self.rt, alloc, folder, "stops.txt")? {
+            Some(sheet) => {
+                let listing = list_stops(alloc, &sheet, text, all)?;
+                Ok(Some(format!(in alloc; "{listing}")?))
+            }
+            None => Ok(None),
+        }
+    }
+
+    // Lines with the stops of a sheet that are near a text.
+    fn near_lines(&self, alloc: Global, folder: &str, id: &str) -> Result<String, AllocError> {
+        let mut lines = String::new(alloc);
+        if let Some(sheet) = open_names(self.rt, alloc, folder, "stops.txt")? {
+            for stop in near_stops(alloc, &sheet, id)? {
+                let line = format!(in alloc; "near: {stop}\n")?;
+                lines.push_str(line.as_str())?;
+            }
+        }
+        Ok(lines)
+    }
+}
+
+// The command of a task.
+fn command_of(task: &Task<'_>) -> &'static str {
+    match task {
+        Task::Direct(_) => "direct",
+        Task::Scan { .. } => "scan",
+        Task::Ask { .. } => "ask",
+    }
+}
+
+// A text with a line's end behind it.
+fn line(text: String) -> Result<String, AllocError> {
+    let mut text = text;
+    text.push('\n')?;
+    Ok(text)
+}
+
+// Nothing is claimed of the texts: tests say what they are.
+impl Teller for FolderTeller<'_> {
+    ghost tells = { λ _ _ _ _. Unit {0} };
+
+    ghost reports = { λ _ _ _. Unit {0} };
+
+    ghost finds = { λ _ _ _ _. Unit {0} };
+
+    fn answer(
+        &self,
+        alloc: Global,
+        format: Format,
+        asked: &Asked<'_>,
+        basis: &Basis,
+        answer: &Answer,
+    ) -> Result<String, AllocError> {
+        let settings = asked.plan.settings;
+        let question = asked.task.question();
+        let asked = Question {
+            command: command_of(&asked.task),
+            from: question.from,
+            to: question.to,
+            departs: DayTime {
+                date: asked.leaving.day,
+                seconds: asked.leaving.seconds,
+            },
+        };
+        let sheets = self.sheets(alloc, settings.feed)?;
+        let clock = Clock::of(settings.zone);
+        let itinerary = itinerary_of(alloc, basis, clock, &sheets, &asked, answer)?;
+        match format {
+            Format::Names => people_text(alloc, &itinerary),
+            Format::Json => line(json(alloc, &itinerary)?),
+            Format::GeoJson => line(geojson(alloc, &itinerary)?),
+        }
+    }
+
+    fn report(
+        &self,
+        alloc: Global,
+        format: Format,
+        folder: &str,
+        report: &Report<'_>,
+    ) -> Result<String, AllocError> {
+        let ids = match report {
+            Report::Stored(ids) => ids.as_slice(),
+            Report::Built { .. } => &[],
+        };
+        let sheets = self.sheets(alloc, folder)?;
+        let list = stop_list_of(alloc, &sheets, "list", ids)?;
+        let _ = format;
+        line(json(alloc, &list)?)
+    }
+
+    fn stops(
+        &self,
+        alloc: Global,
+        folder: &str,
+        text: &str,
+        all: bool,
+    ) -> Result<String, Fault<'static>> {
+        match self.listed(alloc, folder, text, all) {
+            Ok(Some(lines)) => Ok(lines),
+            Ok(None) => Err(Fault::Feed(FeedFault::new(
+                FaultKind::MissingFile,
+                FeedFile::Stops,
+                0,
+            ))),
+            Err(_) => Err(Fault::Memory),
+        }
+    }
+
+    fn fault(&self, alloc: Global, format: Format, fault: &Fault<'_>) -> Option<String> {
+        if let Format::Names = format {
+            return None;
+        }
+        told_fault(alloc, fault).ok()
+    }
+
+    fn near(&self, alloc: Global, folder: &str, id: &str) -> Option<String> {
+        self.near_lines(alloc, folder, id).ok()
+    }
+}
+
+// A fault as an object of JSON, on a line.
+fn told_fault(alloc: Global, fault: &Fault<'_>) -> Result<String, AllocError> {
+    let shown = format!(in alloc; "{fault}")?;
+    let mut words = shown.as_str().split_whitespace();
+    let first = words.next().unwrap_or("");
+    let (code, name) = match words.next() {
+        Some(name) => (Some(first), name),
+        None => (None, first),
+    };
+    let file = match fault {
+        Fault::Feed(fault) => Some(format!(in alloc; "{}", fault.file)?),
+        _ => None,
+    };
+    let row = match fault {
+        Fault::Feed(fault) => Some(fault.row),
+        _ => None,
+    };
+    let id = match fault {
+        Fault::UnknownStop(id) | Fault::NotStored(id) => Some(*id),
+        _ => None,
+    };
+    let text = FaultText {
+        code,
+        name,
+        file: file.as_ref().map(|file| file.as_str()),
+        row,
+        id,
+        status: fault.status(),
+    };
+    line(fault_json(alloc, &text)?)
+}
