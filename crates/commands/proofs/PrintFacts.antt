@@ -1,6 +1,8 @@
 -- What is printed of a result.
 use Rattle.std.proofs.Common.{◌≡◌, ◌++◌, [], ◌∷◌, ℕ, List, Option, Result, Ok, Err, MatchResult, IfOk, IfErr, refl, sym, subst, inl, inr}
 use Rattle.std.specs.Io.KnownBytes.{Keeps}
+use Rattle.std.specs.Option.{option_map}
+use Rattle.std.specs.Result.{result_ok}
 use Rattle.answer_lines.specs.Printed.{answer_text}
 use Rattle.answer_lines.specs.Reports.{report_text, report_status}
 use Rattle.answer_lines.specs.declared.answer.Answer.{Answer}
@@ -13,7 +15,7 @@ use Rattle.command_line.specs.declared.format.Format.{Format}
 use Rattle.command_line.specs.declared.format.Style.{Style}
 use Rattle.command_line.specs.declared.format.Style.TheVariants as styles
 use Rattle.commands.specs.Prints.{AreAnswerLines, AreReportLines, IsPrint, IsTextPrinted}
-use Rattle.commands.specs.Tellings.{IsAnswerPrint, IsAnswerText, IsReportPrint, IsReportText, IsTold, IsToldPrint}
+use Rattle.commands.specs.Tellings.{IsAnswerPrint, IsAnswerText, IsPrintedOf, IsReportPrint, IsReportText, IsTold, IsToldPrint}
 
 pub matched : {T E : Type 0} (r : Result T E) (P : T → Type 0) (Q : E → Type 0) → IfOk r P → IfErr r Q → MatchResult r P Q
 matched (Ok x) P Q ok err = ok
@@ -87,3 +89,9 @@ pub report_printed_as : (reports : Format → Report → List ℕ → Type 0) (s
     → IsReportPrint reports style Right Wrong old new status
 report_printed_as reports styles.Lines r Right Wrong old new status right told = report_printed r Right Wrong old new status right told
 report_printed_as reports (styles.Told format) r Right Wrong old new status right told = told_printed (reports format) Right Wrong old new status r right told
+
+-- a text that a teller made is told, where it was made right
+pub told_of : {S E : Type 0} (bytes : S → List ℕ) (tells : List ℕ → Type 0) (old new : Option (List ℕ)) (status : ℕ) (made : Result S E)
+    → IfOk made (λ text. tells (bytes text)) → IsPrintedOf (option_map bytes (result_ok made)) old new status → IsTold tells old new status
+told_of bytes tells old new status (Ok text) right printed = inl (bytes text, right, printed)
+told_of bytes tells old new status (Err e) right printed = inr printed

@@ -10,7 +10,7 @@ mod running;
 mod storing;
 mod telling;
 
-pub use program::run_words;
 pub use errand::Leaving;
+pub use program::run_words;
 pub use running::run;
 pub use telling::{Asked, Teller};

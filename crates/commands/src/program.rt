@@ -72,9 +72,8 @@ pub fn run_words<
     };
     match job {
         Job::Check { feed } => {
-            let files = match open_feed(feed) {
-                Ok(files) => files,
-                Err(_) => return (out_of_memory("tp", err), None),
+            let Ok(files) = open_feed(feed) else {
+                return (out_of_memory("tp", err), None);
             };
             let status = run_check(alloc, keys, feed, files, list_folder, out, err);
             (status, None)

@@ -11,8 +11,8 @@ ghost use Rattle.commands.specs.Tellings.{telling_of};
 ghost use Rattle.commands.specs.Runs.{IsRun, IsTaskRun, opening_of, run_of};
 
 use crate::errand::{Errand, words_of};
-use crate::telling::{Asked, Teller, print_answer_as, tell_plan_fault, tells_legs};
 use crate::storing::{run_ask, run_build, run_list};
+use crate::telling::{Asked, Teller, print_answer_as, tell_plan_fault, tells_legs};
 use answering::{direct, scan};
 use command_line::{Plan, Task};
 use disk_model::{Disk, FileFault};
@@ -26,13 +26,7 @@ use store_building::Progress;
 use timetable::Rides;
 
 // Answers a question, for one who leaves at the moment of its words.
-fn run_task<
-    D: Disk,
-    S: FnOnce(&str) -> Result<D, FileFault>,
-    T: Teller,
-    W: Write,
-    E: Write,
->(
+fn run_task<D: Disk, S: FnOnce(&str) -> Result<D, FileFault>, T: Teller, W: Write, E: Write>(
     alloc: Global,
     teller: &T,
     basis: &Basis,
@@ -53,11 +47,24 @@ fn run_task<
     match &asked.task {
         Task::Direct(question) => {
             let answer = direct(alloc, basis, question, moment);
-            (print_answer_as(alloc, teller, asked, basis, answer, out, err), None)
+            (
+                print_answer_as(alloc, teller, asked, basis, answer, out, err),
+                None,
+            )
         }
         Task::Scan { question, legs } => {
-            let answer = scan(alloc, basis, question, moment, rides, tells_legs(style, *legs));
-            (print_answer_as(alloc, teller, asked, basis, answer, out, err), None)
+            let answer = scan(
+                alloc,
+                basis,
+                question,
+                moment,
+                rides,
+                tells_legs(style, *legs),
+            );
+            (
+                print_answer_as(alloc, teller, asked, basis, answer, out, err),
+                None,
+            )
         }
         Task::Ask {
             question,
@@ -65,7 +72,8 @@ fn run_task<
             store,
             ..
         } => run_ask(
-            alloc, teller, asked, basis, rides, moment, question, *legs, store, open_store, out, err,
+            alloc, teller, asked, basis, rides, moment, question, *legs, store, open_store, out,
+            err,
         ),
     }
 }

@@ -8,7 +8,9 @@ ghost use Rattle.commands.specs.Tellings.{telling_of};
 ghost use Rattle.commands.specs.Runs.{IsAskRun, IsBuildRun, IsListRun, IsOverStore, of_file, opening_of, run_of};
 
 use crate::printing::{print_report, tell_fault};
-use crate::telling::{Asked, Teller, print_answer_as, print_report_as, tell_plan_fault, tells_legs};
+use crate::telling::{
+    Asked, Teller, print_answer_as, print_report_as, tell_plan_fault, tells_legs,
+};
 use command_line::{Plan, Question};
 use disk_model::{Disk, FileFault};
 use feed_basis::Basis;
@@ -31,13 +33,7 @@ fn file_fault<'a>(fault: FileFault) -> Fault<'a>
 }
 
 /// Prints the ids of the stops whose trees the file of that path has, as the plan's style has them.
-pub fn run_list<
-    D: Disk,
-    S: FnOnce(&str) -> Result<D, FileFault>,
-    T: Teller,
-    W: Write,
-    E: Write,
->(
+pub fn run_list<D: Disk, S: FnOnce(&str) -> Result<D, FileFault>, T: Teller, W: Write, E: Write>(
     alloc: Global,
     teller: &T,
     plan: &Plan<'_>,
@@ -95,13 +91,7 @@ pub fn run_build<D: Disk, S: FnOnce(&str) -> Result<D, FileFault>, P: Progress, 
 
 /// Answers a question between places from the trees that the file of that path has, for one who leaves at the moment, as the plan's style
 /// has it.
-pub fn run_ask<
-    D: Disk,
-    S: FnOnce(&str) -> Result<D, FileFault>,
-    T: Teller,
-    W: Write,
-    E: Write,
->(
+pub fn run_ask<D: Disk, S: FnOnce(&str) -> Result<D, FileFault>, T: Teller, W: Write, E: Write>(
     alloc: Global,
     teller: &T,
     asked: &Asked<'_>,
@@ -124,7 +114,10 @@ pub fn run_ask<
     match open_store(path) {
         Err(fault) => {
             let fault = file_fault(fault);
-            (tell_plan_fault(alloc, teller, &asked.plan, &fault, err), None)
+            (
+                tell_plan_fault(alloc, teller, &asked.plan, &fault, err),
+                None,
+            )
         }
         Ok(disk) => {
             let legs = tells_legs(asked.plan.style, legs);

@@ -140,7 +140,7 @@ pub fn print_answer_as<T: Teller, W: Write, E: Write>(
 ) -> u8
     ensures told { MatchResult answer.entry
         (λ answer. IsAnswerText (λ format. T.tells format basis.now answer) asked.now.plan.style answer
-            (W.contents out.old) (W.contents out.new) result)
+        (W.contents out.old) (W.contents out.new) result)
         (λ fault. (result ≡ status_of fault) × Keeps (W.contents out.old) (W.contents out.new)) }
     ensures statuses { Contains statuses result }
 {

@@ -1,7 +1,11 @@
-use commands::run_words;
+use answer_lines::{Answer, Report};
+use command_line::Format;
+use commands::{Asked, Teller, run_words};
 use disk_model::{FileFault, MemDisk};
+use feed_basis::Basis;
 use gtfs_tables::{FeedFile, Files};
-use program_inputs::{out_of_memory, unread};
+use program_inputs::{Fault, out_of_memory, unread};
+use std::alloc::{AllocError, Global};
 use std::hash::RandomState;
 use std::io;
 use std::io::{ErrorKind, Read, Write};
@@ -31,6 +35,12 @@ const ANSWER: &str = "rides 1 arrive 20240102 08:10:00\n";
 const SCAN: [&str; 14] = [
     "tp", "scan", "--feed", "feed", "--date", "20240102", "--rides", "1", "--from", "A", "--to",
     "B", "--at", "08:00:00",
+];
+
+// The same, told to machines.
+const JSON: [&str; 16] = [
+    "tp", "scan", "--feed", "feed", "--date", "20240102", "--rides", "1", "--from", "A", "--to",
+    "B", "--at", "08:00:00", "--format", "json",
 ];
 
 const CHECK: [&str; 4] = ["tp", "check", "--feed", "feed"];
@@ -90,6 +100,69 @@ fn feed(failure: Failure) -> Files<Source> {
     }
 }
 
+// A teller of this text, or one that runs out of memory.
+#[derive(Clone, Copy)]
+struct Saying(Option<&'static str>);
+
+impl Saying {
+    fn text(&self, alloc: Global) -> Result<String, AllocError> {
+        match self.0 {
+            Some(text) => String::from_str(alloc, text),
+            None => Err(AllocError),
+        }
+    }
+}
+
+impl Teller for Saying {
+    ghost tells = { λ _ _ _ _. Unit {0} };
+
+    ghost reports = { λ _ _ _. Unit {0} };
+
+    ghost finds = { λ _ _ _ _. Unit {0} };
+
+    fn answer(
+        &self,
+        alloc: Global,
+        _format: Format,
+        _asked: &Asked<'_>,
+        _basis: &Basis,
+        _answer: &Answer,
+    ) -> Result<String, AllocError> {
+        self.text(alloc)
+    }
+
+    fn report(
+        &self,
+        alloc: Global,
+        _format: Format,
+        _folder: &str,
+        _report: &Report<'_>,
+    ) -> Result<String, AllocError> {
+        self.text(alloc)
+    }
+
+    fn stops(
+        &self,
+        alloc: Global,
+        _folder: &str,
+        _text: &str,
+        _all: bool,
+    ) -> Result<String, Fault<'static>> {
+        match self.text(alloc) {
+            Ok(text) => Ok(text),
+            Err(_) => Err(Fault::Memory),
+        }
+    }
+
+    fn fault(&self, alloc: Global, _format: Format, _fault: &Fault<'_>) -> Option<String> {
+        self.text(alloc).ok()
+    }
+
+    fn near(&self, alloc: Global, _folder: &str, _id: &str) -> Option<String> {
+        self.text(alloc).ok()
+    }
+}
+
 // What the program left: its status, what it printed and told, and the disk of its store.
 #[derive(Drop)]
 struct Left {
@@ -111,6 +184,7 @@ fn outcome_over(
     let (status, disk) = run_words(
         rt.alloc(),
         keys,
+        &Saying(Some("told\n")),
         words,
         |_folder| Ok(feed(failure)),
         |_folder| Ok(None),
@@ -244,6 +318,30 @@ impl Write for Narrow {
     }
 }
 
+// In a format standard output has what the teller says, and nothing where that ran out of memory.
+#[test]
+fn an_answer_in_a_format(rt: HostRuntime) -> Result<(), Fail> {
+    for (teller, status, lines) in [(Saying(Some("told\n")), 0, "told\n"), (Saying(None), 7, "")] {
+        let (mut out, mut err) = (Vec::new(rt.alloc()), Vec::new(rt.alloc()));
+        let keys = RandomState::new(&rt)?;
+        let (ended, _disk) = run_words(
+            rt.alloc(),
+            Some(keys),
+            &teller,
+            &JSON,
+            |_folder| Ok(feed(None)),
+            |_folder| Ok(None),
+            no_store,
+            |_asked| Silent,
+            &mut out,
+            &mut err,
+        );
+        assert_eq!(rt; ended, status);
+        assert_eq!(rt; std::str::from_utf8(out.as_slice())?, lines);
+    }
+    Ok(())
+}
+
 // Wherever the answer is cut off, the status says so; where all of it is taken, it doesn't.
 #[test]
 fn a_writer_that_refuses_the_rest(rt: HostRuntime) -> Result<(), Fail> {
@@ -254,6 +352,7 @@ fn a_writer_that_refuses_the_rest(rt: HostRuntime) -> Result<(), Fail> {
         let (status, _disk) = run_words(
             rt.alloc(),
             Some(keys),
+            &Saying(None),
             &SCAN,
             |_folder| Ok(feed(None)),
             |_folder| Ok(None),
