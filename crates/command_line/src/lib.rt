@@ -5,7 +5,9 @@ mod format;
 mod job;
 mod program;
 mod words;
+mod workers;
 
 pub use format::{Format, Style};
 pub use job::{Command, Job, Plan, Question, Task};
 pub use words::read_words;
+pub use workers::Workers;
