@@ -1,6 +1,7 @@
 //! Stores trees at a desk as they come.
 
 ghost use Rattle.std.specs.Prelude.{◌≡◌, []};
+ghost use Rattle.section_store.specs.Sections.{form_of};
 ghost use Rattle.precomputing.specs.Flushed.{Flushed};
 
 use crate::progress::Progress;
@@ -25,7 +26,7 @@ pub(crate) fn flush_desk<D: Disk, B: Basis, R: Wait, P: Progress>(
 ) -> (Desk<D>, FlushEnd)
     requires ready { desk.next ≡ Step.WriteBody }
     requires fresh { (taker.taken.items ≡ []) × (taker.acked.items ≡ []) }
-    requires table { B.table ≡ desk.form.table }
+    requires form { form_of B.table B.rides ≡ desk.form }
     ensures { Flushed D.honest D.state D.failures result.1 desk result.0 }
 {
     goes_on();

@@ -2,6 +2,7 @@
 
 ghost use Rattle.std.specs.Prelude.{◌≡◌, ◌<◌, ◌≤◌, [], IfOk, length, take, vec_capacity};
 ghost use Rattle.timetable.specs.Table.{stops_of};
+ghost use Rattle.section_store.specs.Sections.{form_of};
 ghost use Rattle.section_store.specs.Sources.{IsSetOf};
 ghost use Rattle.precomputing.specs.Missing.{missing_of};
 ghost use Rattle.precomputing.specs.Outcome.{IsLeft, IsPrecomputed};
@@ -44,7 +45,7 @@ fn prepare<D: Disk>(
     desk: &Desk<D>,
 ) -> Result<Prepared, AllocError>
     requires own { desk.now.form ≡ planner.now.form }
-    ensures ledger { IfOk result (λ p. p.ledger.table ≡ desk.now.form.table) }
+    ensures ledger { IfOk result (λ p. form_of p.ledger.table p.ledger.rides ≡ desk.now.form) }
     ensures set { IfOk result (λ p. IsSetOf (stops_of desk.now.form.table) p.set desk.now.stored) }
     ensures missing { IfOk result (λ p. p.missing.items ≡ missing_of (stops_of desk.now.form.table) desk.now.stored) }
     ensures bare { IfOk result (λ p. p.room.items ≡ []) }

@@ -4,6 +4,7 @@ ghost use Rattle.std.specs.Prelude.{◌≡◌, ◌<◌, ◌≤◌, ◌+◌, [], 
 ghost use denote.Param.Send.{IsSend, IsSync};
 ghost use Rattle.std.specs.Arc.{arc_value};
 ghost use Rattle.timetable.specs.Table.{stops_of};
+ghost use Rattle.section_store.specs.Sections.{form_of};
 ghost use Rattle.precomputing.specs.Flushed.{Flushed};
 
 use crate::flushing::flush_desk;
@@ -55,7 +56,8 @@ fn run<
 ) -> (Desk<D>, Option<FlushEnd>)
     requires ready { desk.next ≡ Step.WriteBody }
     requires fresh { (taker.taken.items ≡ []) × (taker.acked.items ≡ []) }
-    requires table { B.table ≡ desk.form.table }
+    requires form { form_of B.table B.rides ≡ desk.form }
+    requires own { planner.now.form ≡ form_of B.table B.rides }
     ensures { MatchOption result.1
         (result.0 ≡ desk)
         (λ end. Flushed D.honest D.state D.failures end desk result.0) }
@@ -69,16 +71,19 @@ fn run<
         rt,
         move |scope| -> (Desk<D>, Option<FlushEnd>)
             requires { IsSync R.row × IsSync G.row × IsSend B.row × (held.desk.next ≡ Step.WriteBody) × (taker.taken.items ≡ [])
-                × (taker.acked.items ≡ []) × (B.table ≡ held.desk.form.table) }
+                × (taker.acked.items ≡ []) × (form_of B.table B.rides ≡ held.desk.form)
+                × (form_of network.now rides.now ≡ form_of B.table B.rides) }
             ensures { MatchOption result.1
                 (result.0 ≡ held.entry.desk)
                 (λ end. Flushed D.honest D.state D.failures end held.entry.desk result.0) }
         {
             let mut started = false;
             for _ in 0..workers {
-                let thread = scope.spawn(move || {
-                    work(rt, heap, network, rides, shared, seats, gate, stop)
-                });
+                let thread = scope.spawn(
+                    move || -> ()
+                        requires { form_of network.now rides.now ≡ form_of B.table B.rides }
+                    { work(rt, heap, network, rides, shared, seats, gate, stop) },
+                );
                 if thread.is_ok() {
                     started = true;
                 } else {
@@ -118,7 +123,8 @@ pub(crate) fn run_over<
     requires workers { (0 < workers) × (workers ≤ 64) }
     requires table { ledger.table ≡ B.table }
     requires rides { ledger.rides ≡ B.rides }
-    requires own { B.table ≡ desk.form.table }
+    requires form { form_of B.table B.rides ≡ desk.form }
+    requires own { planner.now.form ≡ form_of B.table B.rides }
     requires ready { desk.next ≡ Step.WriteBody }
     ensures { MatchOption result.1
         (result.0 ≡ desk)
