@@ -1,7 +1,9 @@
 //! Replies on the output.
 
 ghost use Rattle.std.specs.Prelude.{OnErr, OnOk};
-ghost use Rattle.serving.specs.Printed.{IsBegun, IsPrinted};
+ghost use Rattle.std.specs.Io.KnownBytes.{Appends};
+ghost use Rattle.answer_lines.specs.Printing.{AppendsBeginning};
+ghost use Rattle.serving.specs.Printed.{IsBegun, IsPrinted, no_memory, reply_text};
 
 use crate::reply::Reply;
 use answer_lines::{PrintFault, print, print_bytes};
@@ -15,6 +17,17 @@ const NO_MEMORY: &[u8] = b"refused Memory\n.\n";
 #[derive(Clone, Copy, Debug, PartialEq, Eq)]
 pub(crate) struct OutputRefused;
 
+// Prints that memory was refused. It takes no memory.
+fn print_no_memory<W: Write>(out: &mut W) -> Result<(), OutputRefused>
+    ensures ok { OnOk result (Appends (W.contents out.old) (W.contents out.new) (reply_text no_memory)) }
+    ensures err { OnErr result (AppendsBeginning (W.contents out.old) (W.contents out.new) (reply_text no_memory)) }
+{
+    match print_bytes(NO_MEMORY, out) {
+        Ok(()) => Ok(()),
+        Err(_) => Err(OutputRefused),
+    }
+}
+
 /// Prints the reply on `out`, and flushes; or that memory was refused, where the reply can't be printed for want of it.
 pub(crate) fn print_reply<W: Write>(
     alloc: Global,
@@ -24,12 +37,9 @@ pub(crate) fn print_reply<W: Write>(
     ensures ok { OnOk result (IsPrinted (W.contents out.old) (W.contents out.new) reply.entry) }
     ensures err { OnErr result (IsBegun (W.contents out.old) (W.contents out.new) reply.entry) }
 {
-    let printed = match print(alloc, reply, out) {
-        Err(PrintFault::Memory) => print_bytes(NO_MEMORY, out),
-        printed => printed,
-    };
-    match printed {
+    match print(alloc, reply, out) {
         Ok(()) => Ok(()),
-        Err(_) => Err(OutputRefused),
+        Err(PrintFault::Refused) => Err(OutputRefused),
+        Err(PrintFault::Memory) => print_no_memory(out),
     }
 }

@@ -51,10 +51,12 @@ fn reply_to<'a>(
     let depart = cover
         .moment(question.day, question.seconds)
         .unwrap_or(u32::MAX);
-    match planner.ask(reader, question.from, question.to, depart) {
-        (reader, Ok(answer)) => (reader, told(alloc, cover, answer.points())),
-        (reader, Err(fault)) => (reader, Reply::Refused(refusal_of(fault))),
-    }
+    let (reader, answer) = planner.ask(reader, question.from, question.to, depart);
+    let reply = match answer {
+        Ok(answer) => told(alloc, cover, answer.points()),
+        Err(fault) => Reply::Refused(refusal_of(fault)),
+    };
+    (reader, reply)
 }
 
 /// The reply to a line; the reader comes back.
