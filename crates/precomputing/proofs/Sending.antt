@@ -27,6 +27,8 @@ use Rattle.shared_ledger.specs.contracts.shared.Shared as shared
 use Rattle.shared_ledger.specs.contracts.seat.Seat as seat
 use Rattle.shared_ledger.proofs.seat.Seat.TheSendSync as seats
 use Rattle.shared_ledger.proofs.Sending.{shared_syncs}
+use Rattle.shared_planner.specs.contracts.plan.Planner as planner
+use Rattle.shared_planner.proofs.plan.Planner.TheSendSync as planners
 use Rattle.precomputing.specs.contracts.stop.Stop as stop
 use Rattle.precomputing.proofs.stop.Stop.TheSendSync as stops
 
@@ -63,3 +65,7 @@ seats_go {ℓ = ℓ} {κ = κ} = shr_send ℓ κ (mutex.the_row (vector.the_row 
 
 pub flag_goes : {ℓ : Lifetime} {κ : Lft} → IsSend (ShrRef ℓ κ stop.the_row)
 flag_goes {ℓ = ℓ} {κ = κ} = shr_send ℓ κ stop.the_row stops.the_sync
+
+-- what a closure captures that stores the trees: the planner too
+pub planner_goes : {ℓ : Lifetime} {κ : Lft} → IsSend (ShrRef ℓ κ planner.the_row)
+planner_goes {ℓ = ℓ} {κ = κ} = shr_send ℓ κ planner.the_row planners.the_sync
