@@ -11,15 +11,17 @@ use crate::printing::{print_report, tell_fault};
 use crate::telling::{
     Asked, Teller, print_answer_as, print_report_as, tell_plan_fault, tells_legs,
 };
-use command_line::{Plan, Question};
+use command_line::{Plan, Question, Workers};
 use disk_model::{Disk, FileFault};
 use feed_basis::Basis;
+use precomputing::Progress;
 use program_inputs::Fault;
 use recovery::RecoverFault;
 use std::alloc::Global;
 use std::io::Write;
+use std::sync::Wait;
+use std::thread::Threads;
 use store_answers::{ask_stored, build, list};
-use store_building::Progress;
 use timetable::Rides;
 
 // Why a file isn't opened, as the program tells it.
@@ -63,12 +65,21 @@ pub fn run_list<D: Disk, S: FnOnce(&str) -> Result<D, FileFault>, T: Teller, W: 
     }
 }
 
-/// Stores the trees that the file of that path lacks, and prints how many it has, and the stops without one.
-pub fn run_build<D: Disk, S: FnOnce(&str) -> Result<D, FileFault>, P: Progress, W: Write, E: Write>(
+/// Stores the trees that the file of that path lacks, which workers build, and prints how many it has, and the stops without one.
+pub fn run_build<
+    H: Threads + Wait + Sync,
+    D: Disk + Drop,
+    S: FnOnce(&str) -> Result<D, FileFault>,
+    P: Progress,
+    W: Write,
+    E: Write,
+>(
     alloc: Global,
+    rt: &H,
     basis: &Basis,
     rides: Rides,
     path: &str,
+    workers: Workers,
     open_store: S,
     progress: &mut P,
     out: &mut W,
@@ -83,7 +94,7 @@ pub fn run_build<D: Disk, S: FnOnce(&str) -> Result<D, FileFault>, P: Progress, 
     match open_store(path) {
         Err(fault) => (tell_fault(&file_fault(fault), err), None),
         Ok(disk) => {
-            let (report, disk) = build(alloc, basis, rides, disk, progress);
+            let (report, disk) = build(alloc, rt, basis, rides, disk, workers, progress);
             (print_report(alloc, report, out, err), Some(disk))
         }
     }
