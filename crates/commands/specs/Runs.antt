@@ -5,7 +5,6 @@ use Rattle.disk_model.specs.declared.fault.FileFault.{FileFault}
 use Rattle.disk_model.specs.declared.fault.FileFault.TheVariants as files
 use Rattle.gtfs_tables.specs.Feed.{Feed}
 use Rattle.recovery.specs.declared.fault.RecoverFault.TheVariants.{Device}
-use Rattle.command_line.specs.declared.format.Format.{Format}
 use Rattle.command_line.specs.declared.format.Style.{Style}
 use Rattle.command_line.specs.declared.job.Command.{Command}
 use Rattle.command_line.specs.declared.job.Command.TheVariants as commands
@@ -29,7 +28,7 @@ use Rattle.store_answers.specs.Builds.{IsBuilt, IsUnbuilt}
 use Rattle.store_answers.specs.Listings.{IsListed, IsUnlisted}
 use Rattle.store_answers.specs.Stores.{OnlyFailing}
 use Rattle.commands.specs.Feeds.{IsGround, IsGroundFault, LeavesAt}
-use Rattle.commands.specs.Prints.{AreAnswerLines, AreReportLines, IsFaulted, IsPrint}
+use Rattle.commands.specs.Prints.{AreReportLines, IsFaulted, IsPrint}
 use Rattle.commands.specs.Tellings.{IsAnswerPrint, IsReportPrint, Telling, tells_legs}
 
 -- a run: standard output before it and after it, and its status

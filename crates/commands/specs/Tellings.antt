@@ -13,7 +13,7 @@ use Rattle.program_inputs.specs.declared.fault.Fault.{Fault}
 use Rattle.program_inputs.specs.declared.fault.Fault.TheVariants as faults
 use Rattle.feed_basis.specs.Basis.{BasisData}
 use Rattle.gtfs_rows.specs.declared.fault.FeedFault.{FeedFault}
-use Rattle.commands.specs.Prints.{AreAnswerLines, AreReportLines, IsFaulted, IsPrint, IsPrinted, IsTextPrinted, IsUnwritten}
+use Rattle.commands.specs.Prints.{AreAnswerLines, AreReportLines, IsPrint, IsTextPrinted}
 use denote.Ref.{Bor}
 
 -- What texts may tell an answer or a report in a format, over a basis, and which lines may list stops.

@@ -16,6 +16,14 @@ use std::alloc::Global;
 use std::fmt::Display;
 use std::io::Write;
 
+/// The status of a fault.
+pub fn status<'a>(fault: &Fault<'a>) -> u8
+    ensures status { result ≡ status_of fault.now }
+    ensures statuses { Contains statuses result }
+{
+    fault.status()
+}
+
 /// Tells a fault on `err`, behind `tp: `, with a line beneath it where it has one that says what to do. Gives the fault's status.
 pub fn tell_fault<E: Write>(fault: &Fault<'_>, err: &mut E) -> u8
     ensures status { result ≡ status_of fault.now }
@@ -25,7 +33,7 @@ pub fn tell_fault<E: Write>(fault: &Fault<'_>, err: &mut E) -> u8
     if let Some(advice) = fault.advice() {
         let _ = writeln!(err, "{advice}");
     }
-    fault.status()
+    status(fault)
 }
 
 /// Prints a text that goes with this status on `out`, or tells on `err` that it couldn't. Gives the status.

@@ -1,6 +1,7 @@
 //! Answers and reports in formats beside their lines: who tells them, and how they are printed.
 
-ghost use Rattle.std.specs.Prelude.{◌≡◌, ℕ, List, Bool, IfOk, IfErr, MatchResult, string_bytes, option_map, result_ok};
+ghost use Rattle.std.specs.Prelude.{◌≡◌, ℕ, List, Bool, IfOk, IfErr, MatchResult, string_bytes, option_map};
+ghost use Rattle.std.specs.Result.{result_ok};
 ghost use Rattle.std.specs.List.{Contains};
 ghost use Rattle.std.specs.Io.KnownBytes.{Keeps};
 ghost use Rattle.answer_lines.specs.declared.answer.Answer.{Answer};
@@ -12,7 +13,7 @@ ghost use Rattle.commands.specs.Prints.{statuses};
 ghost use Rattle.commands.specs.Tellings.{IsAnswerText, IsPrintedOf, IsReportText, IsStopsFault, IsStopsText, tells_legs};
 
 use crate::errand::Leaving;
-use crate::printing::{print_text, tell_fault};
+use crate::printing::{print_text, status, tell_fault};
 use answer_lines::{Answer, Report};
 use command_line::{Format, Plan, Style, Task};
 use feed_basis::Basis;
@@ -91,7 +92,7 @@ pub fn tell_plan_fault<T: Teller, E: Write>(
         && let Some(text) = teller.fault(alloc, format, fault)
     {
         let _ = err.write_all(text.as_bytes());
-        return fault.status();
+        return status(fault);
     }
     let status = tell_fault(fault, err);
     if let Fault::UnknownStop(id) = fault
@@ -197,7 +198,7 @@ pub fn run_stops<T: Teller, W: Write, E: Write>(
     out: &mut W,
     err: &mut E,
 ) -> u8
-    ensures { IsStopsText (T.finds folder.now) text all (W.contents out.old) (W.contents out.new) result }
+    ensures { IsStopsText (T.finds folder.now) text.entry all (W.contents out.old) (W.contents out.new) result }
 {
     match teller.stops(alloc, folder, text.unwrap_or(""), all) {
         Ok(lines) => print_text(alloc, lines, 0, out, err),
