@@ -2,12 +2,12 @@
 use Rattle.std.proofs.Common.{◌≡◌, ℕ, zero, suc, ◌+◌, ◌-◌, ◌<◌, ◌≤◌, Bool, true, false, not, ◌&&◌, List, [], ◌∷◌, ◌++◌, length, filter, refl, cond, arith, sym, ◌∙◌, ap, subst, Option, Some, None, add-zero, zero-add, append_assoc, ⊎_elim}
 use Rattle.std.proofs.lemmas.List.{append-nil}
 use Rattle.std.proofs.lemmas.Bool.{lt-leb, le-leb, cases_eq}
-use Rattle.std.proofs.lemmas.List.Elements.{filter-append}
+use Rattle.std.proofs.lemmas.List.Elements.{All-cons, All-nil, filter-append}
 use Rattle.std.proofs.lemmas.Grind.{flat_map-append}
 use Rattle.gtfs_rows.specs.declared.fault.FaultKind.{FaultKind}
 use Rattle.gtfs_rows.specs.declared.fault.FaultKind.TheVariants as kinds
 use Rattle.std.specs.Prelude.{get_or, is_some, nat_le, option_map}
-use Rattle.std.specs.List.{range_with_len, flat_map, list_all}
+use Rattle.std.specs.List.{All, range_with_len, flat_map, list_all}
 use Rattle.gtfs_text.specs.Sheets.{Table, row_count, column_of, is_blank}
 use Rattle.gtfs_rows.specs.Faults.{Test, test, fault_at, first_fault, Explains}
 use Rattle.gtfs_rows.specs.declared.fault.FeedFile.{FeedFile}
@@ -208,3 +208,28 @@ range_passed tests a (suc n) passed k low high =
 pub under-fields : (table : Table) (row : ℕ) (fields : List (List ℕ)) (column : Option ℕ) → fields ≡ get_or table row [] → field_under fields column ≡ text_under table column row
 under-fields table row fields None same = refl
 under-fields table row fields (Some column) same = ap (λ (texts : List (List ℕ)). get_or texts column []) same
+
+-- of tests that pass each holds
+pub first_holds : (t : Test) (ts : List Test) → first_fault (t ∷ ts) ≡ None → (t.holds ≡ true) × (first_fault ts ≡ None)
+first_holds t ts h = elim t.holds as (λ b. cond b (first_fault ts) (Some t.fault) ≡ None → (b ≡ true) × (first_fault ts ≡ None)) [ true ↦ λ e. (refl, e) | false ↦ λ e. absurd (cc e) ] h
+
+pub each_holds : (ts : List Test) → first_fault ts ≡ None → (k : ℕ) (d : Test) → k < length ts → (get_or ts k d).holds ≡ true
+each_holds [] h k d lt = absurd (omega arith)
+each_holds (t ∷ ts) h zero d lt = (first_holds t ts h).0
+each_holds (t ∷ ts) h (suc k) d lt = each_holds ts (first_holds t ts h).1 k d (omega arith)
+
+-- of rows that pass together each passes
+pub rows_pass : (tests : ℕ → List Test) (rows : List ℕ) → first_fault (flat_map tests rows) ≡ None → All (λ row. first_fault (tests row) ≡ None) rows
+rows_pass tests [] h = All-nil (λ row. first_fault (tests row) ≡ None)
+rows_pass tests (row ∷ rows) h =
+    let here : first_fault (tests row) ≡ None = front_passes (tests row) (flat_map tests rows) h in
+    All-cons (λ row. first_fault (tests row) ≡ None) row rows here (rows_pass tests rows (sym (first_more (tests row) (flat_map tests rows) here) ∙ h))
+
+-- of a table whose tests hold each row passes
+pub table_passes : (file : FeedFile) (columns : List (List ℕ)) (tests : Table → ℕ → List Test) (is_small : Table → Bool) (table : Table)
+    → first_fault (table_tests file columns tests is_small table) ≡ None → All (λ row. first_fault (tests table row) ≡ None) (rows_of table)
+table_passes file columns tests is_small table h =
+    rows_pass (tests table) (rows_of table)
+    (front_passes (flat_map (tests table) (rows_of table)) (test kinds.TooMany file 0 (nat_le (row_count table) 999_999_999 && is_small table) ∷ [])
+    (first_holds (test kinds.MissingColumn file 0 (list_all (λ name. is_some (column_of table name)) columns))
+    (flat_map (tests table) (rows_of table) ++ test kinds.TooMany file 0 (nat_le (row_count table) 999_999_999 && is_small table) ∷ []) h).1)

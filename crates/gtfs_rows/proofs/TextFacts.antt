@@ -6,7 +6,7 @@ use Rattle.std.proofs.lemmas.List.Folds.{list_any-append, list_any_at}
 use Rattle.std.proofs.lemmas.List.Sums.{fold-append}
 use Rattle.std.proofs.lemmas.List.Quantifiers.{all_pairs_push}
 use Rattle.std.proofs.lemmas.Slice.Eq.{bytes_eq-Decides}
-use Rattle.std.specs.Prelude.{position, nat_lt, unwrap_or}
+use Rattle.std.specs.Prelude.{position, nat_lt, slice_get, unwrap_or}
 use Rattle.std.specs.Option.{IfSome}
 use Rattle.std.proofs.lemmas.Bool.{ltb-true, lt-ltb}
 use Rattle.std.specs.List.{list_any, fold, prefix_len, position_or_len}
@@ -88,7 +88,7 @@ apart_push key rows row apart new = all_pairs_push (λ (a b : ℕ). bytes_eq (ke
     (none_at (λ (a : ℕ). bytes_eq (key row) (key a)) rows (sym (any-map (bytes_eq (key row)) key rows) ∙ new))
 
 -- keys of rows that stand apart are distinct
-any_none : {X : Type 0} (p : X → Bool) (xs : List X) → ((k : ℕ) (d : X) → k < length xs → p (get_or xs k d) ≡ false) → list_any p xs ≡ false
+pub any_none : {X : Type 0} (p : X → Bool) (xs : List X) → ((k : ℕ) (d : X) → k < length xs → p (get_or xs k d) ≡ false) → list_any p xs ≡ false
 any_none p [] h = refl
 any_none p (x ∷ xs) h = rw (h 0 x (omega arith)) (any_none p xs (λ k d lt. h (suc k) d (omega arith)))
 
@@ -223,3 +223,39 @@ known_number key rows i d lt =
     ∙ list_any_at (λ row. bytes_eq (key (get_or rows i d)) (key row)) rows i d lt (same_bytes (key (get_or rows i d))) in
     rw (number_of_any (bytes_eq (key (get_or rows i d))) (distinct (map key rows)) there)
     (ltb-true (position_or_len (bytes_eq (key (get_or rows i d))) (distinct (map key rows))) (length (distinct (map key rows))) (first_within (bytes_eq (key (get_or rows i d))) (distinct (map key rows)) there))
+
+-- what has the number of a text is that text
+first_passes : {X : Type 0} (p : X → Bool) (xs : List X) → list_any p xs ≡ true → (x : X) × (slice_get xs (position_or_len p xs) ≡ Some x) × (p x ≡ true)
+first_passes p [] h = cc h
+first_passes p (x ∷ xs) h = elim (p x) as (λ b. p x ≡ b → (b || list_any p xs) ≡ true → (y : _) × (slice_get (x ∷ xs) (cond (not b) (1 + position_or_len p xs) 0) ≡ Some y) × (p y ≡ true)) [
+  | true ↦ λ e h. (x, refl, e)
+  | false ↦ λ e h. let later = first_passes p xs h in let next : 1 + position_or_len p xs ≡ suc (position_or_len p xs) = omega arith in (later.0, ap (slice_get (x ∷ xs)) next ∙ later.1, later.2)
+] refl h
+
+pub numbered_is : (texts : List (List ℕ)) (text : List ℕ) → has_text texts text ≡ true
+    → (number_in texts text ≡ Some (position_or_len (bytes_eq text) texts)) × (slice_get texts (position_or_len (bytes_eq text) texts) ≡ Some text)
+numbered_is texts text h =
+    let first = first_passes (bytes_eq text) texts h in
+    (number_of_any (bytes_eq text) texts h, first.1 ∙ ap (λ t. Some t) (sym (same_text text first.0 first.2)))
+
+-- each of the texts that rows have is one of those that come once
+pub has_own : (key : ℕ → List ℕ) (rows : List ℕ) (i d : ℕ) → i < length rows → has_text (distinct (map key rows)) (key (get_or rows i d)) ≡ true
+has_own key rows i d lt =
+    has-distinct (map key rows) (key (get_or rows i d)) ∙ any-map (bytes_eq (key (get_or rows i d))) key rows
+    ∙ list_any_at (λ row. bytes_eq (key (get_or rows i d)) (key row)) rows i d lt (same_bytes (key (get_or rows i d)))
+
+-- a text that isn't one of others has no number among them
+end_if_none : {X : Type 0} (p : X → Bool) (xs : List X) → list_any p xs ≡ false → position_or_len p xs ≡ length xs
+end_if_none p [] h = refl
+end_if_none p (x ∷ xs) h = elim (p x) as (λ b. (b || list_any p xs) ≡ false → cond (not b) (1 + position_or_len p xs) 0 ≡ suc (length xs)) [
+  | true ↦ λ h. absurd (cc h)
+  | false ↦ λ h. let later = end_if_none p xs h in omega (arith, later)
+] h
+
+pub no_number : (texts : List (List ℕ)) (text : List ℕ) → has_text texts text ≡ false → number_in texts text ≡ None
+no_number texts text h =
+    elim (nat_lt (position_or_len (bytes_eq text) texts) (length texts)) as (λ t. nat_lt (position_or_len (bytes_eq text) texts) (length texts) ≡ t
+    → cond t (Some (position_or_len (bytes_eq text) texts)) None ≡ None) [
+      | true ↦ λ e. absurd (let below = ltb-true (position_or_len (bytes_eq text) texts) (length texts) e in omega (arith, below, end_if_none (bytes_eq text) texts h))
+      | false ↦ λ e. refl
+    ] refl

@@ -1,5 +1,5 @@
 -- The rows of a sheet by column names, and the tests that each file has.
-use Rattle.std.specs.Prelude.{◌≡◌, Bool, false, not, ℕ, ◌-◌, List, [], ◌∷◌, ◌++◌, length, map, filter, get_or, position, Option, None, Some, is_some, is_none, unwrap_or, nat_le, if◌then◌else◌, ◌==◌, ◌&&◌}
+use Rattle.std.specs.Prelude.{◌≡◌, Bool, false, not, ℕ, ◌+◌, ◌-◌, List, [], ◌∷◌, ◌++◌, length, map, filter, get_or, position, Option, None, Some, is_some, is_none, unwrap_or, nat_le, if◌then◌else◌, ◌==◌, ◌&&◌}
 use Rattle.std.specs.List.{list_any, list_all, range_with_len, flat_map, fold, AllPairs}
 use Rattle.std.specs.Str.{bytes_eq}
 use denote.Ref.{Bor}
@@ -31,6 +31,10 @@ rows_to table n = filter (λ row. not (is_blank table row)) (range_with_len 1 n)
 
 abbrev pub rows_of : Table → List ℕ
 rows_of table = rows_to table (row_count table)
+
+-- the rows behind this one that aren't blank
+abbrev pub rows_behind : Table → ℕ → List ℕ
+rows_behind table row = filter (λ row. not (is_blank table row)) (range_with_len (row + 1) (row_count table - row))
 
 -- a text is one of these
 abbrev pub has_text : List (List ℕ) → List ℕ → Bool
@@ -87,7 +91,7 @@ abbrev pub table_tests : FeedFile → List (List ℕ) → (Table → ℕ → Lis
 table_tests file columns row_tests is_small table =
     test kinds.MissingColumn file 0 (list_all (λ name. is_some (column_of table name)) columns)
     ∷ (flat_map (row_tests table) (rows_of table)
-        ++ test kinds.TooMany file 0 (nat_le (row_count table) 999_999_999 && is_small table) ∷ [])
+    ++ test kinds.TooMany file 0 (nat_le (row_count table) 999_999_999 && is_small table) ∷ [])
 
 -- the tests of a file that may be missing
 abbrev pub optional_tests : FeedFile → (Table → List Test) → Option (List ℕ) → List Test
