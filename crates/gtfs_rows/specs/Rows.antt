@@ -25,10 +25,11 @@ text_at table name row = text_under table (column_of table name) row
 abbrev pub is_empty : List ℕ → Bool
 is_empty text = length text == 0
 
--- the rows 1 to n that aren't blank; all of them
+-- the rows 1 to n that aren't blank
 abbrev pub rows_to : Table → ℕ → List ℕ
 rows_to table n = filter (λ row. not (is_blank table row)) (range_with_len 1 n)
 
+-- all rows that aren't blank
 abbrev pub rows_of : Table → List ℕ
 rows_of table = rows_to table (row_count table)
 
@@ -64,11 +65,12 @@ texts_in keys = map (λ k. k.now) keys
 abbrev pub AreApart : (ℕ → List ℕ) → List ℕ → Type 0
 AreApart key rows = AllPairs (λ a b. bytes_eq (key b) (key a) ≡ false) rows
 
--- a file's records, as a table; none where there is no file
+-- a file's records; none where there is no file
 abbrev pub records_in : Option (List ℕ) → List (List (List ℕ))
 records_in None = []
 records_in (Some bytes) = records_of bytes
 
+-- a file's records, as a table
 abbrev pub table_in : Option (List ℕ) → Table
 table_in bytes = table_of (records_in bytes)
 

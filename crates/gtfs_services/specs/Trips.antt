@@ -29,10 +29,11 @@ trip_ids table = map (trip_id table) (rows_of table)
 abbrev pub service_values : Table → List (List ℕ)
 service_values table = distinct (map (service_id table) (rows_of table))
 
--- a trip, and the number of its service
+-- the value of a row: a trip, and the number of its service
 abbrev pub trip_value : Table → ℕ → Trip
 trip_value table row = record { id = trip_id table row; service = unwrap_or (number_in (service_values table) (service_id table row)) 0 }
 
+-- the values of all rows
 abbrev pub trip_values : Table → List Trip
 trip_values table = map (trip_value table) (rows_of table)
 

@@ -47,16 +47,16 @@ stations table passes =
     let of_stops = All-filter (λ row. means row_kinds.Stop (location_type table row)) (λ row. first_fault (stop_tests table row) ≡ None) (rows_of table) rows in
     let own = filter_passes (λ row. means row_kinds.Stop (location_type table row)) (rows_of table) in
     λ k d lt.
-      let row = get_or (rows_of_kind row_kinds.Stop table) k d in
-      let parent = parent_station table row in
-      let stands = (row_holds table row (of_stops k d lt)).1 in
-      record {
-        alone = λ none. no_number ids parent
-            (any-map (bytes_eq parent) (stop_id table) (rows_of_kind row_kinds.Station table)
-            ∙ any_none (λ row. bytes_eq parent (stop_id table row)) (rows_of_kind row_kinds.Station table)
-            (λ j e below. apart parent (stop_id table (get_or (rows_of_kind row_kinds.Station table) j e)) none
-            (row_holds table (get_or (rows_of_kind row_kinds.Station table) j e) (of_stations j e below)).0));
-        named = λ some.
-            let is = numbered_is ids parent (named (means_stop (location_type table row)) (is_empty parent) (has_text ids parent) stands (own k d lt) some) in
-            subst (λ (o : Option ℕ). IsSomeAnd o (λ number. slice_get ids number ≡ Some parent)) (sym is.0) is.1;
-      }
+    let row = get_or (rows_of_kind row_kinds.Stop table) k d in
+    let parent = parent_station table row in
+    let stands = (row_holds table row (of_stops k d lt)).1 in
+    record {
+      alone = λ none. no_number ids parent
+          (any-map (bytes_eq parent) (stop_id table) (rows_of_kind row_kinds.Station table)
+          ∙ any_none (λ row. bytes_eq parent (stop_id table row)) (rows_of_kind row_kinds.Station table)
+          (λ j e below. apart parent (stop_id table (get_or (rows_of_kind row_kinds.Station table) j e)) none
+          (row_holds table (get_or (rows_of_kind row_kinds.Station table) j e) (of_stations j e below)).0));
+      named = λ some.
+          let is = numbered_is ids parent (named (means_stop (location_type table row)) (is_empty parent) (has_text ids parent) stands (own k d lt) some) in
+          subst (λ (o : Option ℕ). IsSomeAnd o (λ number. slice_get ids number ≡ Some parent)) (sym is.0) is.1;
+    }
