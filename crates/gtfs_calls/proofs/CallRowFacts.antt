@@ -1,7 +1,7 @@
 -- Rows of stop_times.txt, their tests and their values.
-use Rattle.std.proofs.Common.{◌≡◌, ◌∙◌, sym, ap, subst, refl, arith, ℕ, zero, suc, ◌+◌, ◌-◌, ◌≤◌, Bool, true, false, not, ◌&&◌, cond, Option, Some, None, List, [], ◌∷◌, ◌++◌, Bor, length, map, filter, length-append, min, get_or}
+use Rattle.std.proofs.Common.{◌≡◌, ◌∙◌, sym, ap, refl, arith, ℕ, zero, suc, ◌+◌, ◌-◌, ◌≤◌, Bool, true, false, not, ◌&&◌, cond, Option, Some, None, List, [], ◌∷◌, ◌++◌, Bor, length, map, filter, length-append, min, get_or}
 use Rattle.std.specs.Prelude.{is_some, unwrap_or, position}
-use Rattle.std.specs.List.{All, IsDistinct, list_any, range_with_len}
+use Rattle.std.specs.List.{All, list_any, range_with_len}
 use Rattle.std.specs.Str.{bytes_eq}
 use Rattle.std.proofs.Math.Nat.{min-eq_left}
 use Rattle.std.proofs.lemmas.List.Elements.{All-cons, All-nil, All-tail, All-filter}
@@ -15,7 +15,7 @@ use Rattle.gtfs_rows.specs.Rows.{field_under, has_text, number_in, text_under, t
 use Rattle.gtfs_rows.proofs.FilledFacts.{IsTurn}
 use Rattle.gtfs_rows.proofs.RowFacts.{filtered_in, filtered_out, under-fields}
 use Rattle.gtfs_rows.proofs.TextFacts.{any-texts_in, position-texts_in}
-use Rattle.gtfs_calls.specs.StopTimes.{AreApart, call_numbered, call_tests, call_values, kept_tests, has_new_place, is_place, is_skipped, kept_rows, kept_to, place_at, place_of}
+use Rattle.gtfs_calls.specs.StopTimes.{call_numbered, call_tests, call_values, kept_tests, has_new_place, is_place, is_skipped, kept_rows, kept_to, place_at, place_of}
 use Rattle.gtfs_calls.specs.TripTests.{calls_by_trip, calls_of_trip, in_sequence}
 
 -- what an answer says that is there where a test holds

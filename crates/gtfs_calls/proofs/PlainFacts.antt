@@ -1,5 +1,5 @@
 -- Rows that pass their tests where their calls stand apart, and calls that are in order.
-use Rattle.std.proofs.Common.{◌≡◌, ◌≢◌, ◌∙◌, sym, ap, subst, refl, arith, ℕ, zero, suc, ◌+◌, ◌-◌, ◌<◌, Bool, true, false, not, ◌&&◌, ◌||◌, ◌==◌, Option, Some, None, List, [], ◌∷◌, ◌++◌, length, map, get_or, nat_eq, length-append, IsPermutation, cond, inl, inr}
+use Rattle.std.proofs.Common.{◌≡◌, ◌≢◌, ◌∙◌, sym, ap, subst, refl, arith, ℕ, zero, suc, ◌+◌, ◌<◌, Bool, true, false, not, ◌&&◌, ◌||◌, ◌==◌, Option, Some, None, List, [], ◌∷◌, ◌++◌, length, map, get_or, nat_eq, length-append, IsPermutation, cond, inl, inr}
 use Rattle.std.specs.Prelude.{is_some, nat_lt, unwrap_or}
 use Rattle.std.specs.List.{flat_map, list_any, position_or_len}
 use Rattle.std.specs.Str.{bytes_eq}
@@ -21,7 +21,7 @@ use Rattle.gtfs_rows.proofs.FilledFacts.{IsTurn}
 use Rattle.gtfs_rows.proofs.RowFacts.{each_holds, first_more, front_passes, row_passes}
 use Rattle.std.proofs.lemmas.Grind.{flat_map-append}
 use Rattle.gtfs_rows.proofs.TextFacts.{number_of_any}
-use Rattle.gtfs_calls.specs.StopTimes.{AreApart, arrival_time, call_tests, departure_time, drop_off_type, has_new_place, is_boarding_rule, is_place, is_skipped, is_time_or_empty, kept_tests, pickup_type, place_at, place_of, stands, stay_stands, stop_id, stop_sequence, trip_id}
+use Rattle.gtfs_calls.specs.StopTimes.{AreApart, arrival_time, call_tests, departure_time, drop_off_type, has_new_place, is_boarding_rule, is_place, is_skipped, is_time_or_empty, kept_tests, pickup_type, place_of, stands, stay_stands, stop_id, stop_sequence, trip_id}
 use Rattle.gtfs_calls.specs.TripTests.{AreInOrder, comes_before}
 use Rattle.gtfs_calls.proofs.CallRowFacts.{call_held, kept_of, new-place, places-before, places-of, stay-holds, tests-kept}
 use Rattle.gtfs_calls.proofs.SortFacts.{place-flips}

@@ -1,8 +1,7 @@
 use Rattle.std.proofs.Common.{◌≡◌, ◌∙◌, sym, ap, refl, rules, ℕ, true, false, Option, List, [], ◌∷◌, ◌++◌, Bor}
 use Rattle.std.specs.Prelude.{is_some}
-use Rattle.gtfs_text.specs.Sheets.{Table}
 use Rattle.gtfs_text.specs.Values.{whole_of}
-use Rattle.gtfs_rows.specs.Rows.{has_text, text_under, texts_in}
+use Rattle.gtfs_rows.specs.Rows.{text_under, texts_in}
 use Rattle.gtfs_calls.specs.StopTimes.{trip_id, stop_id, stop_sequence, arrival_time, departure_time, pickup_type, drop_off_type, is_time_or_empty, is_boarding_rule, stay_at, stay_stands}
 use Rattle.gtfs_calls.proofs.CallRowFacts.{some-of, none-of, known, numbered, whole-value, pair_is, new-place, stay-fails, stay-holds}
 use Rattle.gtfs_calls.proofs.stop_times.test_row.Goals as goal
