@@ -15,7 +15,8 @@ use crate::plain_rows::{are_in_order, plain_calls};
 use crate::trip_calls::TripCalls;
 use crate::trip_tests::cut_calls;
 use gtfs_rows::{
-    FaultKind, FeedFault, FeedFile, ROW_LIMIT, StopTime, Texts, field_under, filled_rows, open_sheet, text_under,
+    FaultKind, FeedFault, FeedFile, ROW_LIMIT, StopTime, Texts, field_under, filled_rows,
+    open_sheet, text_under,
 };
 use gtfs_text::{Sheet, time, whole};
 use indexmap::IndexSet;
