@@ -46,8 +46,8 @@ returns-clause-built g c = λ honest.
     (matched c.told-report.result (IsWhole outcome) (CountsStored basis last.stored) (IsBuilt basis k old (state last.disk)) (IsEndOf outcome)
     (IsUnbuilt basis k old (state last.disk)) c.told-report.ensures.whole counts c.told-report.ensures.ended
     (λ is report told.
-        let w = whole g.D.Disk.honest state g.D.Disk.failures laws form old first last outcome is opens p in
-        record { before = first.stored; list = last.stored; building = w.0; stands = w.1; told = told })
+    let w = whole g.D.Disk.honest state g.D.Disk.failures laws form old first last outcome is opens p in
+    record { before = first.stored; list = last.stored; building = w.0; stands = w.1; told = told })
     (λ fault ended. inr (record {
       before = first.stored;
       acknowledged = last.stored;
