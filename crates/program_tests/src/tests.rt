@@ -52,8 +52,20 @@ const ASK: [&str; 16] = [
     "B", "--at", "08:00:00", "--store", "file",
 ];
 
-const BUILD: [&str; 10] = [
-    "tp", "build", "--feed", "feed", "--date", "20240102", "--rides", "1", "--store", "file",
+// By one worker, who stores A and then B.
+const BUILD: [&str; 12] = [
+    "tp",
+    "build",
+    "--feed",
+    "feed",
+    "--date",
+    "20240102",
+    "--rides",
+    "1",
+    "--store",
+    "file",
+    "--workers",
+    "1",
 ];
 
 const LIST: [&str; 10] = [
