@@ -126,12 +126,11 @@ impl Teller for FolderTeller<'_> {
         folder: &str,
         report: &Report<'_>,
     ) -> Result<String, AllocError> {
-        let ids = match report {
-            Report::Stored(ids) => ids.as_slice(),
-            Report::Built { .. } => &[],
-        };
         let sheets = self.sheets(alloc, folder)?;
-        let list = stop_list_of(alloc, &sheets, "list", ids)?;
+        let list = match report {
+            Report::Stored(ids) => stop_list_of(alloc, &sheets, "list", ids)?,
+            Report::Built { missing, .. } => stop_list_of(alloc, &sheets, "build", missing)?,
+        };
         let _ = format;
         line(json(alloc, &list)?)
     }
@@ -166,33 +165,57 @@ impl Teller for FolderTeller<'_> {
     }
 }
 
+// A text up to its first space.
+fn first_word(text: &str) -> &str {
+    match text.split_once(' ') {
+        Some((word, _)) => word,
+        None => text,
+    }
+}
+
+// The code of a fault's text, which stands before its name where there is one.
+fn code_of(shown: &str) -> Option<&str> {
+    let (code, _) = shown.split_once(' ')?;
+    Some(code)
+}
+
+// The name in a fault's text.
+fn name_of(shown: &str) -> &str {
+    match shown.split_once(' ') {
+        Some((_, rest)) => first_word(rest),
+        None => shown,
+    }
+}
+
+// The row of the feed's file that is at fault.
+fn row_of(fault: &Fault<'_>) -> Option<usize> {
+    match fault {
+        Fault::Feed(fault) => Some(fault.row),
+        _ => None,
+    }
+}
+
+// The id that a fault is about.
+fn id_of<'a>(fault: &Fault<'a>) -> Option<&'a str> {
+    match fault {
+        Fault::UnknownStop(id) | Fault::NotStored(id) => Some(id),
+        _ => None,
+    }
+}
+
 // A fault as an object of JSON, on a line.
 fn told_fault(alloc: Global, fault: &Fault<'_>) -> Result<String, AllocError> {
     let shown = format!(in alloc; "{fault}")?;
-    let mut words = shown.as_str().split_whitespace();
-    let first = words.next().unwrap_or("");
-    let (code, name) = match words.next() {
-        Some(name) => (Some(first), name),
-        None => (None, first),
-    };
     let file = match fault {
         Fault::Feed(fault) => Some(format!(in alloc; "{}", fault.file)?),
         _ => None,
     };
-    let row = match fault {
-        Fault::Feed(fault) => Some(fault.row),
-        _ => None,
-    };
-    let id = match fault {
-        Fault::UnknownStop(id) | Fault::NotStored(id) => Some(*id),
-        _ => None,
-    };
     let text = FaultText {
-        code,
-        name,
+        code: code_of(shown.as_str()),
+        name: name_of(shown.as_str()),
         file: file.as_ref().map(|file| file.as_str()),
-        row,
-        id,
+        row: row_of(fault),
+        id: id_of(fault),
         status: fault.status(),
     };
     line(fault_json(alloc, &text)?)
