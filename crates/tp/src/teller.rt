@@ -210,13 +210,23 @@ fn told_fault(alloc: Global, fault: &Fault<'_>) -> Result<String, AllocError> {
         Fault::Feed(fault) => Some(format!(in alloc; "{}", fault.file)?),
         _ => None,
     };
+    let id = match id_of(fault) {
+        Some(id) => Some(String::from_str(alloc, id)?),
+        None => None,
+    };
+    let code = code_of(shown.as_str());
+    let name = name_of(shown.as_str());
+    let file = file.as_ref().map(|file| file.as_str());
+    let row = row_of(fault);
+    let id = id.as_ref().map(|id| id.as_str());
+    let status = fault.status();
     let text = FaultText {
-        code: code_of(shown.as_str()),
-        name: name_of(shown.as_str()),
-        file: file.as_ref().map(|file| file.as_str()),
-        row: row_of(fault),
-        id: id_of(fault),
-        status: fault.status(),
+        code,
+        name,
+        file,
+        row,
+        id,
+        status,
     };
     line(fault_json(alloc, &text)?)
 }
