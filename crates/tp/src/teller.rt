@@ -8,10 +8,10 @@ use feed_names::open_names;
 use gtfs_tables::{FaultKind, FeedFault, FeedFile};
 use gtfs_text::Sheet;
 use itineraries::{
-    Asked as Question, Clock, FaultText, NameSheets, fault_json, geojson, itinerary_of, json,
-    people_text, stop_list_of,
+    Asked as Question, Clock, NameSheets, geojson, itinerary_of, json, people_text, stop_list_of,
 };
 use program_inputs::Fault;
+use serde::Serialize;
 use std::alloc::{AllocError, Global};
 use std::format;
 use stop_search::{list_stops, near_stops};
@@ -203,30 +203,51 @@ fn id_of<'a>(fault: &Fault<'a>) -> Option<&'a str> {
     }
 }
 
+// A fault, as it is told to machines.
+#[derive(Drop, Serialize)]
+struct FaultText {
+    // As `F3`; none where the fault has no code.
+    code: Option<String>,
+    name: String,
+    // The feed's file that is at fault, and its row.
+    file: Option<String>,
+    row: Option<usize>,
+    id: Option<String>,
+    status: u8,
+}
+
+// A fault under its name.
+#[derive(Drop, Serialize)]
+struct ToldFault {
+    fault: FaultText,
+}
+
+// A copy of a text, where there is one.
+fn copy_of(alloc: Global, text: Option<&str>) -> Result<Option<String>, AllocError> {
+    match text {
+        Some(text) => Ok(Some(String::from_str(alloc, text)?)),
+        None => Ok(None),
+    }
+}
+
+// The name of the feed's file that is at fault.
+fn file_of(alloc: Global, fault: &Fault<'_>) -> Result<Option<String>, AllocError> {
+    match fault {
+        Fault::Feed(fault) => Ok(Some(format!(in alloc; "{}", fault.file)?)),
+        _ => Ok(None),
+    }
+}
+
 // A fault as an object of JSON, on a line.
 fn told_fault(alloc: Global, fault: &Fault<'_>) -> Result<String, AllocError> {
     let shown = format!(in alloc; "{fault}")?;
-    let file = match fault {
-        Fault::Feed(fault) => Some(format!(in alloc; "{}", fault.file)?),
-        _ => None,
-    };
-    let id = match id_of(fault) {
-        Some(id) => Some(String::from_str(alloc, id)?),
-        None => None,
-    };
-    let code = code_of(shown.as_str());
-    let name = name_of(shown.as_str());
-    let file = file.as_ref().map(|file| file.as_str());
-    let row = row_of(fault);
-    let id = id.as_ref().map(|id| id.as_str());
-    let status = fault.status();
     let text = FaultText {
-        code,
-        name,
-        file,
-        row,
-        id,
-        status,
+        code: copy_of(alloc, code_of(shown.as_str()))?,
+        name: String::from_str(alloc, name_of(shown.as_str()))?,
+        file: file_of(alloc, fault)?,
+        row: row_of(fault),
+        id: copy_of(alloc, id_of(fault))?,
+        status: fault.status(),
     };
-    line(fault_json(alloc, &text)?)
+    line(json(alloc, &ToldFault { fault: text })?)
 }
