@@ -8,10 +8,10 @@ use feed_names::open_names;
 use gtfs_tables::{FaultKind, FeedFault, FeedFile};
 use gtfs_text::Sheet;
 use itineraries::{
-    Asked as Question, Clock, FaultText, NameSheets, fault_json, geojson, itinerary_of, json,
-    people_text, stop_list_of,
+    Asked as Question, Clock, NameSheets, geojson, itinerary_of, json, people_text, stop_list_of,
 };
 use program_inputs::Fault;
+use serde::Serialize;
 use std::alloc::{AllocError, Global};
 use std::format;
 use stop_search::{list_stops, near_stops};
@@ -126,12 +126,11 @@ impl Teller for FolderTeller<'_> {
         folder: &str,
         report: &Report<'_>,
     ) -> Result<String, AllocError> {
-        let ids = match report {
-            Report::Stored(ids) => ids.as_slice(),
-            Report::Built { .. } => &[],
-        };
         let sheets = self.sheets(alloc, folder)?;
-        let list = stop_list_of(alloc, &sheets, "list", ids)?;
+        let list = match report {
+            Report::Stored(ids) => stop_list_of(alloc, &sheets, "list", ids)?,
+            Report::Built { missing, .. } => stop_list_of(alloc, &sheets, "build", missing)?,
+        };
         let _ = format;
         line(json(alloc, &list)?)
     }
@@ -166,34 +165,89 @@ impl Teller for FolderTeller<'_> {
     }
 }
 
+// A text up to its first space.
+fn first_word(text: &str) -> &str {
+    match text.split_once(' ') {
+        Some((word, _)) => word,
+        None => text,
+    }
+}
+
+// The code of a fault's text, which stands before its name where there is one.
+fn code_of(shown: &str) -> Option<&str> {
+    let (code, _) = shown.split_once(' ')?;
+    Some(code)
+}
+
+// The name in a fault's text.
+fn name_of(shown: &str) -> &str {
+    match shown.split_once(' ') {
+        Some((_, rest)) => first_word(rest),
+        None => shown,
+    }
+}
+
+// The row of the feed's file that is at fault.
+fn row_of(fault: &Fault<'_>) -> Option<usize> {
+    match fault {
+        Fault::Feed(fault) => Some(fault.row),
+        _ => None,
+    }
+}
+
+// The id that a fault is about.
+fn id_of<'a>(fault: &Fault<'a>) -> Option<&'a str> {
+    match fault {
+        Fault::UnknownStop(id) | Fault::NotStored(id) => Some(id),
+        _ => None,
+    }
+}
+
+// A fault, as it is told to machines.
+#[derive(Drop, Serialize)]
+struct FaultText {
+    // As `F3`; none where the fault has no code.
+    code: Option<String>,
+    name: String,
+    // The feed's file that is at fault, and its row.
+    file: Option<String>,
+    row: Option<usize>,
+    id: Option<String>,
+    status: u8,
+}
+
+// A fault under its name.
+#[derive(Drop, Serialize)]
+struct ToldFault {
+    fault: FaultText,
+}
+
+// A copy of a text, where there is one.
+fn copy_of(alloc: Global, text: Option<&str>) -> Result<Option<String>, AllocError> {
+    match text {
+        Some(text) => Ok(Some(String::from_str(alloc, text)?)),
+        None => Ok(None),
+    }
+}
+
+// The name of the feed's file that is at fault.
+fn file_of(alloc: Global, fault: &Fault<'_>) -> Result<Option<String>, AllocError> {
+    match fault {
+        Fault::Feed(fault) => Ok(Some(format!(in alloc; "{}", fault.file)?)),
+        _ => Ok(None),
+    }
+}
+
 // A fault as an object of JSON, on a line.
 fn told_fault(alloc: Global, fault: &Fault<'_>) -> Result<String, AllocError> {
     let shown = format!(in alloc; "{fault}")?;
-    let mut words = shown.as_str().split_whitespace();
-    let first = words.next().unwrap_or("");
-    let (code, name) = match words.next() {
-        Some(name) => (Some(first), name),
-        None => (None, first),
-    };
-    let file = match fault {
-        Fault::Feed(fault) => Some(format!(in alloc; "{}", fault.file)?),
-        _ => None,
-    };
-    let row = match fault {
-        Fault::Feed(fault) => Some(fault.row),
-        _ => None,
-    };
-    let id = match fault {
-        Fault::UnknownStop(id) | Fault::NotStored(id) => Some(*id),
-        _ => None,
-    };
     let text = FaultText {
-        code,
-        name,
-        file: file.as_ref().map(|file| file.as_str()),
-        row,
-        id,
+        code: copy_of(alloc, code_of(shown.as_str()))?,
+        name: String::from_str(alloc, name_of(shown.as_str()))?,
+        file: file_of(alloc, fault)?,
+        row: row_of(fault),
+        id: copy_of(alloc, id_of(fault))?,
         status: fault.status(),
     };
-    line(fault_json(alloc, &text)?)
+    line(json(alloc, &ToldFault { fault: text })?)
 }
