@@ -345,6 +345,7 @@ fn an_answer_in_a_format(rt: HostRuntime) -> Result<(), Fail> {
         let keys = RandomState::new(&rt)?;
         let (ended, _disk) = run_words(
             rt.alloc(),
+            &rt,
             Some(keys),
             &teller,
             &JSON,
