@@ -143,7 +143,7 @@ stay_stands table row =
 abbrev pub stands : List (List ℕ) → List (List ℕ) → Table → ℕ → Bool
 stands stops trips table row =
     has_text trips (trip_id table row) && has_text stops (stop_id table row) && is_some (whole_of (stop_sequence table row))
-        && stay_stands table row
+    && stay_stands table row
 
 -- when a row's call arrives and departs, and who may board and alight
 abbrev pub stay_at : Table → ℕ → Stay

@@ -87,7 +87,7 @@ abbrev pub table_tests : FeedFile → List (List ℕ) → (Table → ℕ → Lis
 table_tests file columns row_tests is_small table =
     test kinds.MissingColumn file 0 (list_all (λ name. is_some (column_of table name)) columns)
     ∷ (flat_map (row_tests table) (rows_of table)
-        ++ test kinds.TooMany file 0 (nat_le (row_count table) 999_999_999 && is_small table) ∷ [])
+    ++ test kinds.TooMany file 0 (nat_le (row_count table) 999_999_999 && is_small table) ∷ [])
 
 -- the tests of a file that may be missing
 abbrev pub optional_tests : FeedFile → (Table → List Test) → Option (List ℕ) → List Test

@@ -54,8 +54,11 @@ calendar_date_tests table row = field_tests table row ++ test kinds.DuplicateKey
 -- a service, a date, and what becomes of the service on that date
 abbrev pub calendar_date_value : Table → ℕ → CalendarDate
 calendar_date_value table row =
-    record { service = service_id table row; date = date_at (date table row);
-        change = unwrap_or (change_of (exception_type table row)) Removed }
+    record {
+      service = service_id table row;
+      date = date_at (date table row);
+      change = unwrap_or (change_of (exception_type table row)) Removed;
+    }
 
 abbrev pub calendar_date_values : Table → List CalendarDate
 calendar_date_values table = map (calendar_date_value table) (rows_of table)

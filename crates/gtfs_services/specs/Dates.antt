@@ -24,10 +24,12 @@ is_year year = (omega (arith, ints), omega (arith, ints))
 pub has_days : (year : ℤ) (month : ℕ) → 1 ≤ days_in_month year month
 has_days year month =
     elim (month == 2) as (λ b. 1 ≤ cond b (cond (is_leap_year year) 29 28)
-        (cond ((month == 4) || (month == 6) || (month == 9) || (month == 11)) 30 31)) [
+    (cond ((month == 4) || (month == 6) || (month == 9) || (month == 11)) 30 31)) [
       | true ↦ elim (is_leap_year year) as (λ b. 1 ≤ cond b 29 28) [ true ↦ omega arith | false ↦ omega arith ]
       | false ↦ elim ((month == 4) || (month == 6) || (month == 9) || (month == 11)) as (λ b. 1 ≤ cond b 30 31) [
-        true ↦ omega arith | false ↦ omega arith ]
+        | true ↦ omega arith
+        | false ↦ omega arith
+      ]
     ]
 
 -- the date of a year, a month and a day; where the calendar has no such day, each is brought to the nearest number that a date takes

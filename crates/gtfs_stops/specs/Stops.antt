@@ -52,7 +52,7 @@ stop_tests table row =
     test kinds.BadField files.Stops row (not (is_empty (stop_id table row)))
     ∷ test kinds.DuplicateKey files.Stops row (has_new_key table (stop_id table) row)
     ∷ test kinds.UnknownReference files.Stops row
-        (parent_stands (means_stop (location_type table row)) (parent_station table row) (ids_of_kind row_kinds.Station table))
+    (parent_stands (means_stop (location_type table row)) (parent_station table row) (ids_of_kind row_kinds.Station table))
     ∷ []
 
 -- a stop, and the number of the station that it belongs to, among the ids of stations
@@ -95,8 +95,11 @@ pub record IdLists : Type 0 where
 
 abbrev pub id_lists : Table → IdLists
 id_lists table =
-    record { all = map (stop_id table) (rows_of table); stops = ids_of_kind row_kinds.Stop table;
-        stations = ids_of_kind row_kinds.Station table }
+    record {
+      all = map (stop_id table) (rows_of table);
+      stops = ids_of_kind row_kinds.Stop table;
+      stations = ids_of_kind row_kinds.Station table;
+    }
 
 abbrev pub lists_in : StopIds → IdLists
 lists_in ids = record { all = texts_in ids.all.keys; stops = texts_in ids.stops.keys; stations = texts_in ids.stations.keys }

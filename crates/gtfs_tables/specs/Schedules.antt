@@ -87,7 +87,7 @@ schedule_in schedule = record { services = schedule.services.items; trips = sche
 abbrev pub schedule_tests : List (List ℕ) → ScheduleBytes → List Test
 schedule_tests stops bytes =
     opening_tests files.Trips bytes.trips
-        ++ (trips_tests (table_in bytes.trips) ++ times_tests stops (trip_ids (table_in bytes.trips)) bytes.times)
+    ++ (trips_tests (table_in bytes.trips) ++ times_tests stops (trip_ids (table_in bytes.trips)) bytes.times)
 
 abbrev pub schedule_values : List (List ℕ) → ScheduleBytes → ScheduleValues
 schedule_values stops bytes = record {
