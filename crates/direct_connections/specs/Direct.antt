@@ -24,7 +24,7 @@ flag Alight halt = halt.alight
 abbrev pub Allows : Side → List LineData → ℕ → LinePlace → Type 0
 Allows side lines stop at =
     IsSomeAnd (slice_get lines at.line)
-        (λ line. IsSomeAnd (slice_get line.halts at.place) (λ halt. (halt.stop ≡ stop) × IsTrue (flag side halt)))
+    (λ line. IsSomeAnd (slice_get line.halts at.place) (λ halt. (halt.stop ≡ stop) × IsTrue (flag side halt)))
 
 -- exactly these places, by line, then by place
 pub record AreExactly (Of : LinePlace → Type 0) (places : List LinePlace) : Type 0 where

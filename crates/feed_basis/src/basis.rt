@@ -27,7 +27,7 @@ use timetable::{Names, StopId, Timetable, assemble};
 #[derive(Drop)]
 pub struct Basis {
     timetable: Arc<Timetable>,
-    names: Names,
+    names: Arc<Names>,
     cover: Cover,
 }
 
@@ -37,9 +37,9 @@ impl Model for Basis {
 
     ghost Value = { BasisData };
 
-    ghost view = { λ b. record { timetable = arc_value b.timetable; names = b.names; cover = b.cover } };
+    ghost view = { λ b. record { timetable = arc_value b.timetable; names = arc_value b.names; cover = b.cover } };
 
-    ghost invariant = { λ b. IsSound (record { timetable = arc_value b.timetable; names = b.names; cover = b.cover }) };
+    ghost invariant = { λ b. IsSound (record { timetable = arc_value b.timetable; names = arc_value b.names; cover = b.cover }) };
 }
 
 impl Basis {
@@ -70,6 +70,14 @@ impl Basis {
     /// The ids of the feed's stops, stations and trips.
     pub fn names(&self) -> &Names
         ensures value { result.now ≡ self.now.names }
+        ensures sound { IsSound self.now }
+    {
+        &self.names
+    }
+
+    /// The ids, for one more that holds them.
+    pub fn shared_names(&self) -> &Arc<Names>
+        ensures value { arc_value result.now ≡ self.now.names }
         ensures sound { IsSound self.now }
     {
         &self.names
@@ -114,6 +122,9 @@ fn basis_over<'a>(
     let timetable = assemble(alloc, tables, &cover, settings.default_walk)?;
     let names = Names::of(alloc, keys, tables)?;
     let Ok(timetable) = Arc::new(alloc, timetable) else {
+        return Err(Fault::Memory);
+    };
+    let Ok(names) = Arc::new(alloc, names) else {
         return Err(Fault::Memory);
     };
     Ok(Basis {

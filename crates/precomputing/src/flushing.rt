@@ -3,6 +3,7 @@
 ghost use Rattle.std.specs.Prelude.{◌≡◌, []};
 ghost use Rattle.precomputing.specs.Flushed.{Flushed};
 
+use crate::progress::Progress;
 use crate::publishing::Publisher;
 use crate::taking::Taker;
 use disk_model::Disk;
@@ -14,12 +15,13 @@ use shared_planner::Desk;
 use std::alloc::Global;
 use std::sync::Wait;
 
-/// Stores and shows trees, until no more come or the device fails.
-pub(crate) fn flush_desk<D: Disk, B: Basis, R: Wait>(
+/// Stores and shows trees, until no more come or the device fails. Of each that is stored `progress` is told.
+pub(crate) fn flush_desk<D: Disk, B: Basis, R: Wait, P: Progress>(
     rt: &R,
     alloc: Global,
     taker: Taker<'_, B, R>,
     desk: Desk<D>,
+    progress: &mut P,
 ) -> (Desk<D>, FlushEnd)
     requires ready { desk.next ≡ Step.WriteBody }
     requires fresh { (taker.taken.items ≡ []) × (taker.acked.items ≡ []) }
@@ -30,11 +32,20 @@ pub(crate) fn flush_desk<D: Disk, B: Basis, R: Wait>(
     let mut taker = taker;
     let (store, writer) = desk.apart();
     let mut store = store;
-    let mut publisher = Publisher { rt, alloc, writer };
+    let stops = taker.stops();
+    let mut publisher = Publisher {
+        rt,
+        alloc,
+        stops,
+        progress,
+        writer,
+    };
     let end = flush(&mut store, &mut taker, &mut publisher);
     let Publisher {
         rt: _,
         alloc: _,
+        stops: _,
+        progress: _,
         writer,
     } = publisher;
     (Desk::new(store, writer), end)

@@ -9,6 +9,7 @@ ghost use Rattle.precomputing.specs.Outcome.{IsLeft, IsPrecomputed};
 use crate::gate::Gate;
 use crate::missing::{mark, missing_stops};
 use crate::outcome::Outcome;
+use crate::progress::{Progress, Silent};
 use crate::running::run_over;
 use crate::stop::Stop;
 use disk_model::Disk;
@@ -82,14 +83,59 @@ fn left(set: StopSet, stored: &[StopId], before: usize, stops: usize, room: Vec<
 }
 
 /// Builds the trees that the desk's store lacks, in so many threads, while the calling thread stores them and shows each once it is stored.
-/// All threads have ended when this returns. The gate is told of each build, by the thread that makes it. Once the flag is set no
-/// source is claimed any more, and what is in hand ends.
+/// All threads have ended when this returns. The gate is told of each build, by the thread that makes it; `progress` of how many are stored
+/// as it begins, and after each put, by the calling thread. Once the flag is set no source is claimed any more, and what is in hand ends.
 ///
 /// A source whose tree is too large, or for which memory is refused, stays missing. A thread that can't be made is left out. After
 /// `DeviceFailed` the store has to be opened again.
 ///
 /// Of an honest disk: at each moment since, each outcome of a crash stands for a front of the new list that holds the old one; where the
 /// device failed, one source more may be there. What each outcome held each one holds, and a trusted disk stays trusted.
+pub fn precompute_telling<D: Disk + Drop, R: Threads + Wait + Sync, G: Gate + Sync, P: Progress>(
+    alloc: Global,
+    rt: &R,
+    desk: Desk<D>,
+    planner: &Planner,
+    workers: usize,
+    gate: &G,
+    stop: &Stop,
+    progress: &mut P,
+) -> (Desk<D>, Outcome)
+    requires own { desk.form ≡ planner.now.form }
+    requires workers { (0 < workers) × (workers ≤ 64) }
+    requires ready { desk.next ≡ Step.WriteBody }
+    ensures { IsPrecomputed D.honest D.state D.failures desk result.0 result.1 }
+{
+    goes_on();
+    let stops = planner.network().timetable().stops();
+    let before = desk.stored().len();
+    progress.stored(before, stops);
+    let Ok(prepared) = prepare(alloc, planner, &desk) else {
+        return (desk, Outcome::NoMemory);
+    };
+    let Prepared {
+        ledger,
+        set,
+        missing,
+        room,
+    } = prepared;
+    if missing.len() == 0 {
+        return (desk, Outcome::Done);
+    }
+    let (desk, end) = run_over::<Brand, D, R, G, P>(
+        rt, alloc, planner, ledger, workers, gate, stop, progress, desk,
+    );
+    match end {
+        None => (desk, Outcome::NoMemory),
+        Some(FlushEnd::DeviceFailed) => (desk, Outcome::DeviceFailed),
+        Some(FlushEnd::Drained) => {
+            let outcome = left(set, desk.stored(), before, stops, room);
+            (desk, outcome)
+        }
+    }
+}
+
+/// The same, where nobody is told how many are stored.
 pub fn precompute_until<D: Disk + Drop, R: Threads + Wait + Sync, G: Gate + Sync>(
     alloc: Global,
     rt: &R,
@@ -104,35 +150,10 @@ pub fn precompute_until<D: Disk + Drop, R: Threads + Wait + Sync, G: Gate + Sync
     requires ready { desk.next ≡ Step.WriteBody }
     ensures { IsPrecomputed D.honest D.state D.failures desk result.0 result.1 }
 {
-    goes_on();
-    let stops = planner.network().timetable().stops();
-    let Ok(prepared) = prepare(alloc, planner, &desk) else {
-        return (desk, Outcome::NoMemory);
-    };
-    let Prepared {
-        ledger,
-        set,
-        missing,
-        room,
-    } = prepared;
-    if missing.len() == 0 {
-        return (desk, Outcome::Done);
-    }
-    let before = desk.stored().len();
-    let (desk, end) = run_over::<Brand, D, R, G>(
-        rt, alloc, planner, ledger, workers, gate, stop, desk,
-    );
-    match end {
-        None => (desk, Outcome::NoMemory),
-        Some(FlushEnd::DeviceFailed) => (desk, Outcome::DeviceFailed),
-        Some(FlushEnd::Drained) => {
-            let outcome = left(set, desk.stored(), before, stops, room);
-            (desk, outcome)
-        }
-    }
+    precompute_telling(alloc, rt, desk, planner, workers, gate, stop, &mut Silent)
 }
 
-/// The same, without a flag.
+/// The same, without a flag either.
 pub fn precompute<D: Disk + Drop, R: Threads + Wait + Sync, G: Gate + Sync>(
     alloc: Global,
     rt: &R,

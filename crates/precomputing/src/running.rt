@@ -9,6 +9,7 @@ ghost use Rattle.precomputing.specs.Flushed.{Flushed};
 use crate::flushing::flush_desk;
 use crate::gate::Gate;
 use crate::held::Held;
+use crate::progress::Progress;
 use crate::stop::Stop;
 use crate::taking::Taker;
 use crate::worker::work;
@@ -32,7 +33,13 @@ fn leave_one<B: Basis, R: Wait>(rt: &R, shared: &Shared<B>, seats: &Mutex<Vec<Se
 
 // Starts a worker at each of the seats, and stores what they hand in. They have all ended when this returns. None where no thread
 // could be made, so that nothing was done.
-fn run<B: Basis + Send + Sync, D: Disk + Drop, R: Threads + Wait + Sync, G: Gate + Sync>(
+fn run<
+    B: Basis + Send + Sync,
+    D: Disk + Drop,
+    R: Threads + Wait + Sync,
+    G: Gate + Sync,
+    P: Progress,
+>(
     rt: &R,
     alloc: Global,
     planner: &Planner,
@@ -43,6 +50,7 @@ fn run<B: Basis + Send + Sync, D: Disk + Drop, R: Threads + Wait + Sync, G: Gate
     taker: Taker<'_, B, R>,
     gate: &G,
     stop: &Stop,
+    progress: &mut P,
     desk: Desk<D>,
 ) -> (Desk<D>, Option<FlushEnd>)
     requires ready { desk.next ≡ Step.WriteBody }
@@ -52,7 +60,7 @@ fn run<B: Basis + Send + Sync, D: Disk + Drop, R: Threads + Wait + Sync, G: Gate
         (result.0 ≡ desk)
         (λ end. Flushed D.honest D.state D.failures end desk result.0) }
 {
-    let table = planner.network().shared();
+    let network = planner.network();
     let rides = &planner.k();
     let heap = &alloc;
     let held = Held::new(rt, desk);
@@ -69,7 +77,7 @@ fn run<B: Basis + Send + Sync, D: Disk + Drop, R: Threads + Wait + Sync, G: Gate
             let mut started = false;
             for _ in 0..workers {
                 let thread = scope.spawn(move || {
-                    work(rt, heap, table, rides, shared, seats, gate, stop)
+                    work(rt, heap, network, rides, shared, seats, gate, stop)
                 });
                 if thread.is_ok() {
                     started = true;
@@ -81,7 +89,7 @@ fn run<B: Basis + Send + Sync, D: Disk + Drop, R: Threads + Wait + Sync, G: Gate
             if !started {
                 return (desk, None);
             }
-            let (desk, end) = flush_desk(rt, alloc, taker, desk);
+            let (desk, end) = flush_desk(rt, alloc, taker, desk, progress);
             shared.close(rt, seat);
             (desk, Some(end))
         },
@@ -95,6 +103,7 @@ pub(crate) fn run_over<
     D: Disk + Drop,
     R: Threads + Wait + Sync,
     G: Gate + Sync,
+    P: Progress,
 >(
     rt: &R,
     alloc: Global,
@@ -103,6 +112,7 @@ pub(crate) fn run_over<
     workers: usize,
     gate: &G,
     stop: &Stop,
+    progress: &mut P,
     desk: Desk<D>,
 ) -> (Desk<D>, Option<FlushEnd>)
     requires workers { (0 < workers) × (workers ≤ 64) }
@@ -126,6 +136,6 @@ pub(crate) fn run_over<
     };
     let seats = Mutex::new(seats);
     run(
-        rt, alloc, planner, &shared, workers, &seats, &seat, taker, gate, stop, desk,
+        rt, alloc, planner, &shared, workers, &seats, &seat, taker, gate, stop, progress, desk,
     )
 }

@@ -1,5 +1,5 @@
 -- Labels beside moments.
-use Rattle.std.proofs.Common.{Option, ◌≡◌, ℕ, zero, suc, ◌<◌, replicate, List, [], ◌∷◌, length, Some, None, get_or, set, arith, inl, inr, refl, sym, ◌∙◌, ap, subst}
+use Rattle.std.proofs.Common.{Option, ◌≡◌, ℕ, zero, suc, ◌<◌, replicate, List, [], ◌∷◌, length, Some, None, set, arith, inl, inr, refl, sym, ◌∙◌, ap, subst}
 use Rattle.std.proofs.lemmas.Bool.{cases_eq, cases_lt}
 use Rattle.std.proofs.lemmas.List.{get_or_past, get_or-set_same, get_or-set_other, length-set}
 use Rattle.rounds.specs.Mark.{Mark, at, arrival_of}

@@ -1,5 +1,6 @@
 -- What clauses see of a scratch and of a view.
 use Rattle.std.specs.Prelude.{Option, ◌≡◌, ℕ, suc, ◌≤◌, List, length, map}
+use Rattle.std.specs.Arc.{arc_value}
 use Rattle.std.specs.List.{All}
 use Rattle.timetable.specs.Table.{Table, IsTable, stops_of}
 use Rattle.lines.specs.Lines.{AreLines}
@@ -32,10 +33,10 @@ kept_of scratch = map (λ (row : RowData). row.marks) scratch.rounds.items
 
 -- the scratch was made for the timetable: its lines are those of the timetable's instances, and it has room for its stops and lines
 pub record IsMadeFor (scratch : Scratch) (table : Table) : Type 0 where
-  pub lines : AreLines table scratch.lines
+  pub lines : AreLines table (arc_value scratch.lines)
   pub layers : length scratch.layers.items ≡ suc (rides_of scratch)
   pub sized : All (IsSized (stops_of table)) scratch.layers.items
-  pub noted : length scratch.noted ≡ length scratch.lines.lines
+  pub noted : length scratch.noted ≡ length (arc_value scratch.lines).lines
   pub count : length scratch.rounds.items ≡ rides_of scratch
   pub few : rides_of scratch ≤ 8
   pub sizes : All (λ row. length row.marks ≡ stops_of table) scratch.rounds.items

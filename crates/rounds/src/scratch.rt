@@ -1,6 +1,7 @@
 //! Runs of the rounds, one after the other.
 
 ghost use Rattle.std.specs.Prelude.{◌≡◌, ℕ, suc, ◌+◌, ◌≤◌, ◌<◌, IfOk, length, map, None, ⊤};
+ghost use Rattle.std.specs.Arc.{arc_value};
 ghost use Rattle.std.specs.List.{All};
 ghost use Rattle.std.specs.Borrow.{sem, follows_so};
 ghost use mathlib.Core.Option.{none};
@@ -24,13 +25,14 @@ use crate::view::RoundView;
 use arrayvec::ArrayVec;
 use lines::Lines;
 use std::alloc::{AllocError, Global};
+use std::sync::Arc;
 use timetable::{Numbers, Rides, StopId, Timetable};
 
 /// Runs of the rounds over one timetable, one after the other. It keeps what the last run found, for the view of it.
 #[derive(Debug, Drop)]
 pub struct Scratch {
     rides: Rides,
-    lines: Lines,
+    lines: Arc<Lines>,
     layers: Vec<Layer>,
     // The lines that a run notes meanwhile.
     noted: Noted,
@@ -213,8 +215,23 @@ impl Scratch {
         ensures table { IfOk result (λ scratch. IsMadeFor scratch table.now) }
         ensures rides { IfOk result (λ scratch. rides_of scratch ≡ rides) }
     {
+        let lines = Arc::new(alloc, Lines::of(alloc, table)?)?;
+        Scratch::over(alloc, table, lines, rides)
+    }
+
+    /// The same over lines that were made for the timetable before, and that others may hold too: those of threads that run over one
+    /// timetable at once. It fails only where memory runs out.
+    pub fn over(
+        alloc: Global,
+        table: &Timetable,
+        lines: Arc<Lines>,
+        rides: Rides,
+    ) -> Result<Self, AllocError>
+        requires { AreLines table.now (arc_value lines) }
+        ensures table { IfOk result (λ scratch. IsMadeFor scratch table.now) }
+        ensures rides { IfOk result (λ scratch. rides_of scratch ≡ rides) }
+    {
         let stops = table.stops();
-        let lines = Lines::of(alloc, table)?;
         let noted = Noted::none(alloc, lines.lines().len())?;
         Ok(Scratch {
             rides,

@@ -1,6 +1,7 @@
 //! Opens a planner.
 
 ghost use Rattle.std.specs.Prelude.{◌≡◌, ◌↔◌, ◌<◌, ◌≤◌, IfOk, IfErr, MatchResult, length};
+ghost use Rattle.std.specs.Arc.{arc_value};
 ghost use Rattle.std.specs.List.{All};
 ghost use Rattle.disk_model.specs.Disk.{Grew};
 ghost use Rattle.planner.specs.Places.{AreNames};
@@ -19,7 +20,7 @@ use disk_model::Disk;
 use recovery::{RecoverFault, Recovered, recover};
 use section_store::Step;
 use std::alloc::Global;
-use std::sync::Wait;
+use std::sync::{Arc, Wait};
 use timetable::{Names, Rides};
 
 /// A planner, the desk at which its trees are built and stored, and the readers of its board, who ask.
@@ -40,13 +41,13 @@ impl Planner {
         rt: &R,
         disk: D,
         network: Network,
-        names: Names,
+        names: Arc<Names>,
         rides: Rides,
         readers: usize,
     ) -> Result<Opened<D>, (OpenFault, D)>
-        requires names { AreNames names }
+        requires names { AreNames (arc_value names) }
         requires readers { (0 < readers) × (readers ≤ 64) }
-        ensures planner { IfOk result (λ o. o.planner ≡ record { form = form_of network rides; names = names }) }
+        ensures planner { IfOk result (λ o. o.planner ≡ record { form = form_of network rides; names = arc_value names }) }
         ensures form { IfOk result (λ o. o.desk.form ≡ form_of network rides) }
         ensures own { IfOk result (λ o. o.desk.board.origin.form ≡ form_of network rides) }
         ensures ready { IfOk result (λ o. o.desk.next ≡ Step.WriteBody) }

@@ -1,11 +1,13 @@
 //! What questions are answered with, and trees are built for.
 
 ghost use Rattle.std.specs.Prelude.{◌≡◌};
+ghost use Rattle.std.specs.Arc.{arc_value};
 ghost use Rattle.planner.specs.Places.{AreNames};
 ghost use Rattle.section_store.specs.Sections.{form_of};
 
 use direct_connections::Network;
 use std::marker::Model;
+use std::sync::Arc;
 use timetable::{Names, Rides};
 
 /// A timetable with its lines and direct connections, the ids of its feed, and the most rides of a journey. It has no trees: those are
@@ -13,27 +15,28 @@ use timetable::{Names, Rides};
 #[derive(Drop)]
 pub struct Planner {
     pub(crate) network: Network,
-    pub(crate) names: Names,
+    pub(crate) names: Arc<Names>,
     rides: Rides,
 }
 
 impl Model for Planner {
+    ghost use Rattle.std.specs.Arc.{arc_value};
     ghost use Rattle.planner.specs.Places.{AreNames};
     ghost use Rattle.section_store.specs.Sections.{form_of};
     ghost use Rattle.shared_planner.specs.PlannerView.{PlannerView};
 
     ghost Value = { PlannerView };
 
-    ghost view = { λ p. record { form = form_of p.network p.rides; names = p.names } };
+    ghost view = { λ p. record { form = form_of p.network p.rides; names = arc_value p.names } };
 
-    ghost invariant = { λ p. AreNames p.names };
+    ghost invariant = { λ p. AreNames (arc_value p.names) };
 }
 
 impl Planner {
     // The planner of a timetable, with the ids of its feed.
-    pub(crate) fn new(network: Network, names: Names, rides: Rides) -> Planner
-        requires { AreNames names }
-        ensures { result ≡ record { form = form_of network rides; names = names } }
+    pub(crate) fn new(network: Network, names: Arc<Names>, rides: Rides) -> Planner
+        requires { AreNames (arc_value names) }
+        ensures { result ≡ record { form = form_of network rides; names = arc_value names } }
     {
         Planner {
             network,

@@ -1,7 +1,9 @@
 use Rattle.std.proofs.Common.{subst, subst₂, sym, inr}
 use Rattle.std.proofs.lemmas.Result.{err_from_is_err_and}
+use Rattle.gtfs_tables.specs.Feed.{values_of}
 use Rattle.gtfs_tables.specs.Tables.{TableValues}
 use Rattle.timetable.specs.Answers.{IsFault, IsTimetable}
+use Rattle.timetable.specs.NameLists.{NameLists}
 use Rattle.timetable.specs.Names.{AreNamesOf}
 use Rattle.timetable.specs.Table.{Table, IsTable}
 use Rattle.feed_basis.specs.Basis.{AreDays}
@@ -38,7 +40,8 @@ returns-clause-basis c = λ feed h.
       days = record { zone = covered.1; faultless = h.0; rule = covered.2; covered = covered.3 };
       timetable = subst₂ (λ (t : TableValues) (table : Table). IsTimetable t cover c.args.settings.now.default_walk table) h.1 (sym c.in-Ok.ensures.ok)
           c.in_ok-timetable.ensures.ok;
-      named = subst (λ (t : TableValues). AreNamesOf t c.in_ok-names.names) h.1 c.in_ok-names.ensures;
+      named = subst (λ (names : NameLists). AreNamesOf (values_of feed) names) (sym c.in-Ok-new.ensures.ok)
+          (subst (λ (t : TableValues). AreNamesOf t c.in_ok-names.names) h.1 c.in_ok-names.ensures);
     }
 
 pub invariant_of-result : goal.invariant_of-result
@@ -48,4 +51,5 @@ invariant_of-result c =
     let is = c.in-Ok.ensures.ok in
     let valid : IsTable c.in_ok-timetable.timetable = subst IsTable c.timetable.view_is c.timetable.invariant in
     is_sound c.args.tables.now cover walk _ (subst IsTable (sym is) valid)
-    (subst (λ (table : Table). IsTimetable c.args.tables.now cover walk table) (sym is) c.in_ok-timetable.ensures.ok) c.in_ok-names.ensures
+    (subst (λ (table : Table). IsTimetable c.args.tables.now cover walk table) (sym is) c.in_ok-timetable.ensures.ok)
+    (subst (λ (names : NameLists). AreNamesOf c.args.tables.now names) (sym c.in-Ok-new.ensures.ok) c.in_ok-names.ensures)

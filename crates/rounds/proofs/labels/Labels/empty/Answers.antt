@@ -1,7 +1,7 @@
-use Rattle.std.proofs.Common.{Option, ◌≡◌, ℕ, None, List, length, replicate, sym, ◌∙◌, ap, subst₂}
+use Rattle.std.proofs.Common.{Option, ℕ, None, List, replicate, sym, ◌∙◌, ap}
 use Rattle.std.proofs.lemmas.List.{length-replicate}
 use Rattle.rounds.specs.Mark.{Mark}
-use Rattle.rounds.specs.Labels.{AreAgreed, with_moments}
+use Rattle.rounds.specs.Labels.{with_moments}
 use Rattle.rounds.proofs.LabelSteps.{none_agreed, none_with, no_moment}
 use Rattle.rounds.proofs.labels.Labels.empty.Goals as goal
 

@@ -1,6 +1,5 @@
-use Rattle.std.proofs.Common.{Option, ◌≡◌, ℕ, None, List, length, sym, ◌∙◌, ap}
+use Rattle.std.proofs.Common.{Option, ◌≡◌, ℕ, List, length, sym, ◌∙◌, ap}
 use Rattle.rounds.specs.Mark.{Mark, at}
-use Rattle.rounds.specs.Row.{when}
 use Rattle.rounds.specs.Labels.{with_moments}
 use Rattle.rounds.proofs.KeptSteps.{whole_of}
 use Rattle.rounds.proofs.LabelSteps.{with_length, none_kept, none_agreed}

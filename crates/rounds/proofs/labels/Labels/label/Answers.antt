@@ -1,4 +1,4 @@
-use Rattle.std.proofs.Common.{Option, ◌≡◌, ◌<◌, ℕ, Some, None, IfSome, IsNone, Bor, List, length, get_or, arith, refl, sym, ◌∙◌, ap}
+use Rattle.std.proofs.Common.{Option, ◌≡◌, ℕ, Some, None, IfSome, IsNone, Bor, List, get_or, arith, refl, sym, ◌∙◌, ap}
 use Rattle.std.specs.Option.{option_copied}
 use Rattle.std.proofs.lemmas.List.{get_or_default}
 use Rattle.rounds.specs.Mark.{Mark, at, arrival_of}

@@ -1,4 +1,4 @@
-use Rattle.std.proofs.Common.{Option, ◌≡◌, ◌<◌, ℕ, Some, List, length, set, arith, sym, ◌∙◌, ap, subst}
+use Rattle.std.proofs.Common.{Option, ◌≡◌, ◌<◌, ℕ, Some, List, length, set, arith, ◌∙◌, ap}
 use Rattle.rounds.specs.Mark.{Mark}
 use Rattle.rounds.specs.Labels.{AreAgreed, with_moments}
 use Rattle.rounds.proofs.LabelSteps.{with_length, with_put, agreed_put}

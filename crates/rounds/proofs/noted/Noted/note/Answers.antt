@@ -1,6 +1,5 @@
-use Rattle.std.proofs.Common.{ℕ, ◌≡◌, ◌<◌, ◌≤◌, List, length, get_or, arith, sym, subst, ◌∙◌}
+use Rattle.std.proofs.Common.{ℕ, ◌≡◌, ◌<◌, List, length, get_or, arith, sym, subst, ◌∙◌}
 use Rattle.std.proofs.lemmas.List.{get_or_default}
-use Rattle.rounds.specs.Noted.{no_place}
 use Rattle.rounds.proofs.NotedSteps.{line_has_room, note_new, note_again, has_place}
 use Rattle.rounds.proofs.noted.Noted.note.Goals as goal
 use Rattle.rounds.proofs.noted.Noted.note.Goals.{then-before, else-before}

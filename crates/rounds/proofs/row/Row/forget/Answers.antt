@@ -1,5 +1,5 @@
 use Rattle.std.proofs.Common.{ℕ, Option, List, length, arith, ap, sym, ◌∙◌}
-use Rattle.rounds.specs.Mark.{Mark, arrival_of}
+use Rattle.rounds.specs.Mark.{arrival_of}
 use Rattle.rounds.specs.Row.{when}
 use Rattle.rounds.proofs.KeptSteps.{whole_of}
 use Rattle.rounds.proofs.RowSteps.{settled_row}

@@ -1,4 +1,4 @@
-use Rattle.std.proofs.Common.{◌≡◌, ℕ, List, length, map, refl, sym, ◌∙◌, ap}
+use Rattle.std.proofs.Common.{◌≡◌, List, length, map, refl, sym, ◌∙◌, ap}
 use Rattle.timetable.specs.Table.{stops_of}
 use Rattle.rounds.specs.declared.layer.Layer.{Layer}
 use Rattle.rounds.specs.Row.{RowData}
