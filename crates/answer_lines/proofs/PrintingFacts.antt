@@ -1,5 +1,5 @@
 -- What writes do to a text that is written piece by piece.
-use Rattle.std.proofs.Common.{◌≡◌, ◌∙◌, ℕ, List, [], ◌++◌, ◌-◌, Option, None, Some, IfSome, ap, sym, refl, subst, length, take, drop, take-append-drop, append-nil, append_assoc}
+use Rattle.std.proofs.Common.{◌≡◌, ◌∙◌, ℕ, List, [], ◌++◌, ◌-◌, Option, ap, sym, refl, subst, length, take, drop, take-append-drop, append-nil, append_assoc}
 use Rattle.std.proofs.Math.Seq.{take-length}
 use Rattle.std.proofs.lemmas.List.{length-drop}
 use Rattle.std.proofs.KnownBytes.{Appends-nil, Appends-trans, Appends-kept}
@@ -24,11 +24,9 @@ pub all_written : (a b : Option (List ℕ)) (text rest : List ℕ) → rest ≡ 
 all_written a b text rest none so_far =
     subst (Appends a b) (sym (so_far.1 ∙ ap (λ t. so_far.0 ++ t) none ∙ append-nil so_far.0)) so_far.2
 
--- a text that was written whole, where the flush was refused
-pub not_flushed : (shown : Option (List ℕ)) (a b c : Option (List ℕ)) (text : List ℕ) → IfSome shown (λ bytes. text ≡ bytes) → Appends a b text → Keeps b c
-    → IfSome shown (AppendsBeginning a c)
-not_flushed None a b c text same whole kept = tt
-not_flushed (Some bytes) a b c text same whole kept = ([], (text, sym same ∙ sym (append-nil text), Appends-kept a b c text whole kept))
+-- bytes that were written whole, where the flush was refused
+pub not_flushed : (a b c : Option (List ℕ)) (text : List ℕ) → Appends a b text → Keeps b c → AppendsBeginning a c text
+not_flushed a b c text whole kept = ([], (text, sym (append-nil text), Appends-kept a b c text whole kept))
 
 -- what is left behind so many bytes
 pub behind : (count : ℕ) (bytes : List ℕ) → take (length bytes - count) (drop count bytes) ≡ drop count bytes

@@ -9,6 +9,6 @@ mod stage;
 
 pub use answer::{Answer, Point};
 pub use moment::{DayTime, day_time};
-pub use printing::{PrintFault, print};
+pub use printing::{PrintFault, print, print_bytes};
 pub use report::Report;
 pub use stage::Stage;

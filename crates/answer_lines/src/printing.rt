@@ -53,6 +53,20 @@ fn write_bytes<W: Write>(out: &mut W, bytes: &[u8]) -> Result<(), PrintFault>
     Err(PrintFault::Refused)
 }
 
+/// Writes bytes on `out`, and flushes. It takes no memory. Where `out` refuses a write, a beginning of the bytes stands there, all of them
+/// where only the flush was refused.
+pub fn print_bytes<W: Write>(bytes: &[u8], out: &mut W) -> Result<(), PrintFault>
+    ensures ok { OnOk result (Appends (W.contents out.old) (W.contents out.new) bytes.now) }
+    ensures refused { result ≡ Err PrintFault.Refused → AppendsBeginning (W.contents out.old) (W.contents out.new) bytes.now }
+    ensures memory { result ≢ Err PrintFault.Memory }
+{
+    write_bytes(out, bytes)?;
+    match out.flush() {
+        Ok(()) => Ok(()),
+        Err(_) => Err(PrintFault::Refused),
+    }
+}
+
 /// Prints a text on `out`, and flushes. Where `out` refuses a write, a beginning of the text stands there, all of it where only
 /// the flush was refused; where memory runs out, nothing does.
 pub fn print<T: Display + Drop, W: Write>(
@@ -66,9 +80,5 @@ pub fn print<T: Display + Drop, W: Write>(
     ensures memory { result ≡ Err PrintFault.Memory → Keeps (W.contents out.old) (W.contents out.new) }
 {
     let text = format!(in alloc; "{text}")?;
-    write_bytes(out, text.as_bytes())?;
-    match out.flush() {
-        Ok(()) => Ok(()),
-        Err(_) => Err(PrintFault::Refused),
-    }
+    print_bytes(text.as_bytes(), out)
 }

@@ -1,7 +1,7 @@
 -- The program's command line: its commands and the words that each takes.
 use Rattle.std.specs.Prelude.{codes, true}
 use Rattle.clap.specs.Words.{App, Text, new_app, with_rule, with_subcommand}
-use Rattle.program_inputs.specs.Options.{required_rule, optional_rule, flag_rule, common_app}
+use Rattle.program_inputs.specs.Options.{required_rule, optional_rule, flag_rule, number_rule, common_app}
 
 -- a command that goes from one stop to another, at a time
 abbrev pub journey_app : Text → App
@@ -23,9 +23,12 @@ scan_app = with_rule (journey_app (codes "scan")) (flag_rule (codes "legs"))
 abbrev pub store_app : Text → App
 store_app name = with_rule (common_app name) (required_rule (codes "store"))
 
--- all trees that the store lacks, perhaps told how far the build is
+-- all trees that the store lacks, built by so many workers, perhaps told how far the build is
 abbrev pub build_app : App
-build_app = with_rule (store_app (codes "build")) (flag_rule (codes "progress"))
+build_app =
+    with_rule (with_rule (store_app (codes "build"))
+    (number_rule (codes "workers") (codes "2") 1 64))
+    (flag_rule (codes "progress"))
 
 -- the stops whose trees are stored
 abbrev pub list_app : App

@@ -3,7 +3,7 @@ use Rattle.std.specs.Prelude.{◌≡◌, ◌↔◌, IsTrue, List, Option, None, 
 use Rattle.std.specs.Option.{option_map}
 use Rattle.clap.specs.Words.{Row, Text, first_of}
 use Rattle.program_inputs.specs.Settings.{HasSettings}
-use Rattle.program_inputs.specs.Values.{HasFlag, HasText}
+use Rattle.program_inputs.specs.Values.{HasFlag, HasNumber, HasText}
 use Rattle.command_line.specs.declared.job.Command.{Command}
 use Rattle.command_line.specs.declared.job.Command.TheVariants as command
 use Rattle.command_line.specs.declared.job.Job.{Job}
@@ -12,6 +12,7 @@ use Rattle.command_line.specs.declared.job.Plan.{Plan}
 use Rattle.command_line.specs.declared.job.Question.{Question}
 use Rattle.command_line.specs.declared.job.Task.{Task}
 use Rattle.command_line.specs.declared.job.Task.TheVariants as task
+use Rattle.command_line.specs.declared.workers.Workers.{Workers}
 
 -- the words of a question
 pub record IsQuestion (rows : List Row) (question : Question) : Type 0 where
@@ -35,11 +36,20 @@ IsTask name rows (task.Ask question on legs store) =
 abbrev pub NamesNoTask : Text → List Row → Type 0
 NamesNoTask name rows = (task : Task) → ¬ IsTask name rows task
 
+-- the words ask for so many workers
+abbrev pub HasWorkers : List Row → Workers → Type 0
+HasWorkers rows workers = HasNumber 256 rows (codes "workers") (Some workers.number)
+
+-- they don't say how many workers, or the number is out of its range
+abbrev pub LacksWorkers : List Row → Type 0
+LacksWorkers rows = (workers : Workers) → ¬ HasWorkers rows workers
+
 -- the command, and its own words
 abbrev pub IsCommand : Text → List Row → Command → Type 0
 IsCommand name rows (command.Answer task) = IsTask name rows task
-IsCommand name rows (command.Build store progress) =
-    (name ≡ codes "build") × HasText rows (codes "store") store.now × (IsTrue progress ↔ HasFlag rows (codes "progress"))
+IsCommand name rows (command.Build store workers progress) =
+    (name ≡ codes "build") × HasText rows (codes "store") store.now × HasWorkers rows workers
+    × (IsTrue progress ↔ HasFlag rows (codes "progress"))
 IsCommand name rows (command.List store) = (name ≡ codes "list") × HasText rows (codes "store") store.now
 
 -- no command has this name and these rows

@@ -3,6 +3,7 @@
 ghost use Rattle.std.specs.Prelude.{◌≡◌};
 ghost use Rattle.command_line.specs.Tasks.{question_of, day_from, feed_of};
 
+use crate::workers::Workers;
 use program_inputs::Settings;
 
 /// From which place to which, and when.
@@ -70,6 +71,7 @@ pub enum Command<'a> {
     Build {
         /// The file of the store.
         store: &'a str,
+        workers: Workers,
         /// Whether it is told how far the build is, also where standard error is no terminal.
         progress: bool,
     },

@@ -4,6 +4,8 @@
 mod job;
 mod program;
 mod words;
+mod workers;
 
 pub use job::{Command, Job, Plan, Question, Task};
 pub use words::read_words;
+pub use workers::Workers;

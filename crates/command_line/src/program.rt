@@ -7,7 +7,7 @@ ghost use Rattle.clap.specs.declared.builder.command.Command.TheViews.{out-Comma
 ghost use Rattle.command_line.specs.CommandLine.{ask_app, build_app, check_app, journey_app, list_app, program_app, scan_app, store_app};
 
 use clap::{ArgMatches, Command, Error};
-use program_inputs::{common, flag, optional, required};
+use program_inputs::{common, flag, number, optional, required};
 use std::alloc::Global;
 
 const VERSION: &str = "0.1.0";
@@ -46,9 +46,9 @@ the row, where row 0 is the header or the whole file:
   Q3 NotStored         FILE lacks the tree of the stop: build with the same options first
 
 Statuses: 0 done, 1 the feed or its days are at fault, or there is no randomness, 2 the command-line
-arguments are at fault, 3 the build left out stops whose trees would be too large, 4 the store is at
-fault, 6 the question is (an unknown stop, a day that isn't covered, a tree that isn't stored), 7
-out of memory, 8 standard output refused a write.";
+arguments are at fault, 3 the build left out stops whose trees would be too large, or had no memory
+for them, 4 the store is at fault, 6 the question is (an unknown stop, a day that isn't covered, a
+tree that isn't stored), 7 out of memory, 8 standard output refused a write.";
 
 const CHECK: &str = "Whether the feed is without fault, and what it has";
 
@@ -81,8 +81,9 @@ const BUILD: &str = "Builds the pattern trees of all stops that the store lacks,
 
 const BUILD_MORE: &str = "\
 It may be stopped at any moment, as by Ctrl-C: what was stored stands, and the same command goes on.
-It prints `stored N of M`, and `missing ID` for each stop whose tree would be too large; the status
-is 3 then. While it builds, it tells on standard error how far it is, where that is a terminal.
+It prints `stored N of M`, and `missing ID` for each stop whose tree would be too large, or for which
+memory was refused; the status is 3 then. While it builds, it tells on standard error how far it is,
+where that is a terminal.
 
 Example: tp build --feed demo/feed-m --date 20240102 --store demo.store";
 
@@ -117,6 +118,8 @@ const ON: &str = "The covered day to leave on, where it isn't the first";
 const LEGS: &str = "Print the rides and walks of each journey below its line";
 
 const STORE: &str = "The file of the stored trees, which is made where it isn't there";
+
+const WORKERS: &str = "How many trees are built at once, each in a thread of its own, 1 to 64";
 
 const PROGRESS: &str = "Tell how far the build is, also if standard error is no terminal";
 
@@ -181,7 +184,9 @@ fn build<'a>(alloc: Global) -> Result<Command<'a>, Error>
     ensures local { IfOk result (λ c. (fields_of c).has_globals ≡ false) }
     ensures err { IfErr result (λ e. kind_of e ≡ OutOfMemory) }
 {
-    let command = store(alloc, "build", BUILD, BUILD_MORE)?.arg(flag(alloc, "progress", PROGRESS))?;
+    let command = store(alloc, "build", BUILD, BUILD_MORE)?
+        .arg(number(alloc, "workers", "N", "2", 1, 64, WORKERS))?
+        .arg(flag(alloc, "progress", PROGRESS))?;
     Ok(command)
 }
 

@@ -4,14 +4,15 @@ ghost use Rattle.std.specs.Prelude.{◌≡◌, IfOk, IfErr, IfSome, IfNone, OnOk
 ghost use Rattle.clap.specs.Words.{subcommand_rows_of, subcommand_of, rows_of, found_of, fault_of};
 ghost use Rattle.program_inputs.specs.Statuses.{IsStatus};
 ghost use Rattle.command_line.specs.CommandLine.{program_app};
-ghost use Rattle.command_line.specs.Jobs.{IsCommand, IsJob, IsJobOf, IsPlan, IsQuestion, IsTask, LacksQuestion};
+ghost use Rattle.command_line.specs.Jobs.{HasWorkers, IsCommand, IsJob, IsJobOf, IsPlan, IsQuestion, IsTask, LacksQuestion, LacksWorkers};
 ghost use Rattle.command_line.specs.Jobs.{NamesNoCommand, NamesNoJob, NamesNoJobOf, NamesNoPlan, NamesNoTask};
 
 use crate::job::{Command, Job, Plan, Question, Task};
 use crate::program::matches_of;
+use crate::workers::Workers;
 use clap::error::ErrorKind;
 use clap::{ArgMatches, Error};
-use program_inputs::{flag_of, refuse, settings_of, text_of};
+use program_inputs::{byte_of, flag_of, refuse, settings_of, text_of};
 use std::alloc::Global;
 use std::io::Write;
 
@@ -48,6 +49,18 @@ fn task_of<'a>(name: &str, found: &ArgMatches<'a>) -> Option<Task<'a>>
     }
 }
 
+// How many workers the words ask for: none where they don't say, or the number is out of its range.
+fn workers_of(found: &ArgMatches<'_>) -> Option<Workers>
+    ensures workers { IfSome result (HasWorkers (rows_of (found_of found.now))) }
+    ensures none { IfNone result (LacksWorkers (rows_of (found_of found.now))) }
+{
+    let number = byte_of(found, "workers")?;
+    if number < 1 || number > 64 {
+        return None;
+    }
+    Some(Workers { number })
+}
+
 // The command of a name and words: none where there is no such command, or a word isn't there.
 fn command_of<'a>(name: &str, found: &ArgMatches<'a>) -> Option<Command<'a>>
     ensures command { IfSome result (IsCommand name.now (rows_of (found_of found.now))) }
@@ -56,6 +69,7 @@ fn command_of<'a>(name: &str, found: &ArgMatches<'a>) -> Option<Command<'a>>
     match name {
         "build" => Some(Command::Build {
             store: text_of(found, "store")?,
+            workers: workers_of(found)?,
             progress: flag_of(found, "progress"),
         }),
         "list" => Some(Command::List {
@@ -97,7 +111,8 @@ fn job_of<'a>(matches: &ArgMatches<'a>) -> Option<Job<'a>>
     named_job(name, found)
 }
 
-const RANGES: &str = "--days is 1 to 14, --rides 1 to 8, --default-walk 0 to 86400 seconds.";
+const RANGES: &str =
+    "--days is 1 to 14, --rides 1 to 8, --default-walk 0 to 86400 seconds, --workers 1 to 64.";
 
 // Tells the ranges of all numbers, where one of the words is out of its range. Of the days, 0 and 15 to 255 are within that of a byte,
 // and refused only where the days are covered.

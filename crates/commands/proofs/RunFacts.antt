@@ -4,6 +4,7 @@ use Rattle.service_days.specs.Answers.{IsMoment}
 use Rattle.command_line.specs.declared.job.Command.{Command}
 use Rattle.command_line.specs.declared.job.Command.TheVariants as commands
 use Rattle.command_line.specs.declared.job.Task.{Task}
+use Rattle.command_line.specs.declared.workers.Workers.{Workers}
 use Rattle.program_inputs.specs.declared.settings.Settings.{Settings}
 use Rattle.feed_basis.specs.Basis.{BasisData}
 use Rattle.commands.specs.Errands.{IsErrand}
@@ -15,9 +16,9 @@ use Rattle.commands.specs.declared.errand.Leaving.{Leaving}
 
 pub has_words : (first : List ℕ) (command : Command) (errand : Errand) → IsErrand first command errand → HasWords first command
 has_words first (commands.Answer task) (errands.Answer asked leaving) h = (leaving.day, leaving.seconds, h.1)
-has_words first (commands.Answer task) (errands.Build path) h = absurd h
+has_words first (commands.Answer task) (errands.Build path workers) h = absurd h
 has_words first (commands.Answer task) (errands.List path) h = absurd h
-has_words first (commands.Build store progress) errand h = tt
+has_words first (commands.Build store workers progress) errand h = tt
 has_words first (commands.List store) errand h = tt
 
 module _ {D : Type 0} (o : Opening D) (settings : Settings) (basis : BasisData) (run : Run) (disk : Option D) where
@@ -29,16 +30,16 @@ module _ {D : Type 0} (o : Opening D) (settings : Settings) (basis : BasisData) 
     record { day = leaving.day; seconds = leaving.seconds; words = h.1; is = is },
     subst (λ (t : Task). IsTaskRun o basis settings.rides moment t run disk) h.0 done,
   )
-  question_run (commands.Build store progress) task leaving moment h is done = absurd h
+  question_run (commands.Build store workers progress) task leaving moment h is done = absurd h
   question_run (commands.List store) task leaving moment h is done = absurd h
 
-  pub build_run : (command : Command) (path : Bor (List ℕ)) → IsErrand settings.date.now command (errands.Build path)
+  pub build_run : (command : Command) (path : Bor (List ℕ)) (workers : Workers) → IsErrand settings.date.now command (errands.Build path workers)
       → IsOverStore o path.now (IsBuildRun basis settings.rides) run disk
       → IsCommandRun o settings basis command run disk
-  build_run (commands.Build store progress) path h done =
-      subst (λ p. IsOverStore o p (IsBuildRun basis settings.rides) run disk) h done
-  build_run (commands.Answer task) path h done = absurd h
-  build_run (commands.List store) path h done = absurd h
+  build_run (commands.Build store asked progress) path workers h done =
+      subst (λ p. IsOverStore o p (IsBuildRun basis settings.rides) run disk) h.0 done
+  build_run (commands.Answer task) path workers h done = absurd h
+  build_run (commands.List store) path workers h done = absurd h
 
   pub list_run : (command : Command) (path : Bor (List ℕ)) → IsErrand settings.date.now command (errands.List path)
       → IsOverStore o path.now (IsListRun basis settings.rides) run disk
@@ -46,4 +47,4 @@ module _ {D : Type 0} (o : Opening D) (settings : Settings) (basis : BasisData) 
   list_run (commands.List store) path h done =
       subst (λ p. IsOverStore o p (IsListRun basis settings.rides) run disk) h done
   list_run (commands.Answer task) path h done = absurd h
-  list_run (commands.Build store progress) path h done = absurd h
+  list_run (commands.Build store workers progress) path h done = absurd h

@@ -9,11 +9,11 @@ use Rattle.commands.specs.Words.{IsLeaving}
 -- it is the command, with the day and the time of its words
 abbrev pub IsErrand : List ℕ → Command → Errand → Type 0
 IsErrand first (commands.Answer task) (errands.Answer asked leaving) = (asked ≡ task) × IsLeaving first task leaving.day leaving.seconds
-IsErrand first (commands.Build store progress) (errands.Build path) = path.now ≡ store.now
+IsErrand first (commands.Build store workers progress) (errands.Build path taken) = (path.now ≡ store.now) × (taken ≡ workers)
 IsErrand first (commands.List store) (errands.List path) = path.now ≡ store.now
-IsErrand first (commands.Answer task) (errands.Build path) = ⊥
+IsErrand first (commands.Answer task) (errands.Build path workers) = ⊥
 IsErrand first (commands.Answer task) (errands.List path) = ⊥
-IsErrand first (commands.Build store progress) (errands.Answer asked leaving) = ⊥
-IsErrand first (commands.Build store progress) (errands.List path) = ⊥
+IsErrand first (commands.Build store workers progress) (errands.Answer asked leaving) = ⊥
+IsErrand first (commands.Build store workers progress) (errands.List path) = ⊥
 IsErrand first (commands.List store) (errands.Answer asked leaving) = ⊥
-IsErrand first (commands.List store) (errands.Build path) = ⊥
+IsErrand first (commands.List store) (errands.Build path workers) = ⊥

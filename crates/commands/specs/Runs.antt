@@ -120,7 +120,7 @@ IsTaskRun o basis k moment (tasks.Ask question on legs store) run disk =
 abbrev pub IsCommandRun : {D : Type 0} → Opening D → Settings → BasisData → Command → Run → Option D → Type 0
 IsCommandRun o settings basis (commands.Answer task) run disk =
     (moment : Option ℕ) × LeavesAt settings task basis moment × IsTaskRun o basis settings.rides moment task run disk
-IsCommandRun o settings basis (commands.Build store progress) run disk =
+IsCommandRun o settings basis (commands.Build store workers progress) run disk =
     IsOverStore o store.now (IsBuildRun basis settings.rides) run disk
 IsCommandRun o settings basis (commands.List store) run disk =
     IsOverStore o store.now (IsListRun basis settings.rides) run disk

@@ -28,7 +28,7 @@ IsLeavingFault first task fault =
 -- only a question has words of its own that may be none
 abbrev pub IsCommandFault : List ℕ → Command → Fault → Type 0
 IsCommandFault first (commands.Answer task) fault = IsLeavingFault first task fault
-IsCommandFault first (commands.Build store progress) fault = ⊥
+IsCommandFault first (commands.Build store workers progress) fault = ⊥
 IsCommandFault first (commands.List store) fault = ⊥
 
 -- the first covered date is none; or else a word of the command is
@@ -40,5 +40,5 @@ IsWordFault plan fault =
 -- a question's words are a date and a time
 abbrev pub HasWords : List ℕ → Command → Type 0
 HasWords first (commands.Answer task) = (day : Date) × (seconds : ℕ) × IsLeaving first task day seconds
-HasWords first (commands.Build store progress) = Unit {0}
+HasWords first (commands.Build store workers progress) = Unit {0}
 HasWords first (commands.List store) = Unit {0}

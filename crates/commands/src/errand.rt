@@ -4,7 +4,7 @@ ghost use Rattle.std.specs.Prelude.{IfOk, IfErr};
 ghost use Rattle.commands.specs.Errands.{IsErrand};
 ghost use Rattle.commands.specs.Words.{IsDate, IsLeaving, IsLeavingFault, IsWordFault};
 
-use command_line::{Command, Plan, Task};
+use command_line::{Command, Plan, Task, Workers};
 use gtfs_text::{date, time};
 use jiff::civil::Date;
 use program_inputs::Fault;
@@ -21,8 +21,8 @@ pub struct Leaving {
 #[derive(Clone, Copy)]
 pub enum Errand<'a> {
     Answer(Task<'a>, Leaving),
-    /// Into the file of that path.
-    Build(&'a str),
+    /// Into the file of that path, by so many workers.
+    Build { path: &'a str, workers: Workers },
     /// From the file of that path.
     List(&'a str),
 }
@@ -60,7 +60,10 @@ pub fn words_of<'a>(plan: &Plan<'a>) -> Result<Words<'a>, Fault<'a>>
     };
     let errand = match &plan.command {
         Command::Answer(task) => Errand::Answer(*task, leaving_of(task, plan.settings.date)?),
-        Command::Build { store, .. } => Errand::Build(store),
+        Command::Build { store, workers, .. } => Errand::Build {
+            path: store,
+            workers: *workers,
+        },
         Command::List { store } => Errand::List(store),
     };
     Ok(Words { first, errand })

@@ -11,12 +11,14 @@ use crate::running::run;
 use command_line::{Command, Job, Plan, read_words};
 use disk_model::{Disk, FileFault};
 use gtfs_tables::Files;
+use precomputing::Progress;
 use program_inputs::{out_of_memory, show};
 use std::alloc::Global;
 use std::hash::RandomState;
 use std::io;
 use std::io::{Read, Write};
-use store_building::Progress;
+use std::sync::Wait;
+use std::thread::Threads;
 
 // Whether the words ask that progress is shown.
 fn shows_progress(plan: &Plan<'_>) -> bool {
@@ -26,14 +28,15 @@ fn shows_progress(plan: &Plan<'_>) -> bool {
 /// Reads the program's words, the first of which is its name, and does what they say: `open_feed` opens the files of the feed in the
 /// folder that they name, and `list_folder` gives the names in it; both fail only where memory runs out; `open_store` opens the file of
 /// the store; `progress` gives who is told how far a build is, by whether the words ask that it is shown. Each is called at its turn, or
-/// not at all. The answer goes to `out`, a fault to `err`.
+/// not at all. A build has its workers in threads of `rt`. The answer goes to `out`, a fault to `err`.
 ///
 /// Gives the status to end with, and the disk of the store where it was opened. Ids are looked up under `keys`: where the system gave no
 /// randomness for them, that is the fault.
 pub fn run_words<
     'a,
+    T: Threads + Wait + Sync,
     R: Read + Drop,
-    D: Disk,
+    D: Disk + Drop,
     P: Progress + Drop,
     O: FnOnce(&str) -> io::Result<Files<R>>,
     L: FnOnce(&str) -> io::Result<Option<Vec<String>>>,
@@ -43,6 +46,7 @@ pub fn run_words<
     E: Write,
 >(
     alloc: Global,
+    rt: &T,
     keys: Option<RandomState>,
     words: &'a [&'a str],
     open_feed: O,
@@ -79,6 +83,7 @@ pub fn run_words<
             let mut progress = progress(shows_progress(plan));
             run(
                 alloc,
+                rt,
                 keys,
                 plan,
                 files,

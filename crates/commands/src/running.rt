@@ -17,11 +17,13 @@ use command_line::{Plan, Task};
 use disk_model::{Disk, FileFault};
 use feed_basis::{Basis, basis_of};
 use gtfs_tables::Files;
+use precomputing::Progress;
 use program_inputs::Fault;
 use std::alloc::Global;
 use std::hash::RandomState;
 use std::io::{Read, Write};
-use store_building::Progress;
+use std::sync::Wait;
+use std::thread::Threads;
 use timetable::Rides;
 
 // Answers a question, for one who leaves at the moment of its words.
@@ -82,20 +84,23 @@ fn ground<'a, R: Read + Drop>(
 
 /// Does the plan over the feed's files, and over the disk of the store that it names: `open_store` opens the file of that path, and is
 /// called only where the feed and its days are without fault. The answer goes to `out`; a fault goes to `err` behind `tp: `, with a line
-/// beneath it where there is something to do about it. While a build goes on, `progress` is told how far it is.
+/// beneath it where there is something to do about it. A build has its workers in threads of `rt`; while it goes on, `progress` is told how
+/// far it is.
 ///
 /// Gives the status to end with, and the disk where it was opened: 0 done; 1 the feed or its days are at fault; 2 the dates or the time
-/// are; 3 a stop has no tree, since it would be too large; 4 the store is at fault, or its device; 6 the question is at fault; 7 memory ran
+/// are; 3 a stop has no tree, since it would be too large or memory was refused for it; 4 the store is at fault, or its device; 6 the question is at fault; 7 memory ran
 /// out; 8 `out` refused a write. Ids are looked up under `keys`: where the system gave no randomness for them, that is the fault.
 pub fn run<
+    T: Threads + Wait + Sync,
     R: Read + Drop,
-    D: Disk,
+    D: Disk + Drop,
     S: FnOnce(&str) -> Result<D, FileFault>,
     P: Progress,
     W: Write,
     E: Write,
 >(
     alloc: Global,
+    rt: &T,
     keys: Option<RandomState>,
     plan: &Plan<'_>,
     files: Files<R>,
@@ -120,8 +125,8 @@ pub fn run<
             let moment = basis.moment(leaving.day, leaving.seconds);
             run_task(alloc, &basis, rides, moment, &task, open_store, out, err)
         }
-        Errand::Build(path) => run_build(
-            alloc, &basis, rides, path, open_store, progress, out, err,
+        Errand::Build { path, workers } => run_build(
+            alloc, rt, &basis, rides, path, workers, open_store, progress, out, err,
         ),
         Errand::List(path) => run_list(alloc, &basis, rides, path, open_store, out, err),
     }

@@ -7,15 +7,17 @@ ghost use Rattle.commands.specs.Prints.{statuses};
 ghost use Rattle.commands.specs.Runs.{IsAskRun, IsBuildRun, IsListRun, IsOverStore, of_file, opening_of, run_of};
 
 use crate::printing::{print_answer, print_report, tell_fault};
-use command_line::Question;
+use command_line::{Question, Workers};
 use disk_model::{Disk, FileFault};
 use feed_basis::Basis;
+use precomputing::Progress;
 use program_inputs::Fault;
 use recovery::RecoverFault;
 use std::alloc::Global;
 use std::io::Write;
+use std::sync::Wait;
+use std::thread::Threads;
 use store_answers::{ask_stored, build, list};
-use store_building::Progress;
 use timetable::Rides;
 
 // Why a file isn't opened, as the program tells it.
@@ -53,12 +55,21 @@ pub fn run_list<D: Disk, S: FnOnce(&str) -> Result<D, FileFault>, W: Write, E: W
     }
 }
 
-/// Stores the trees that the file of that path lacks, and prints how many it has, and the stops without one.
-pub fn run_build<D: Disk, S: FnOnce(&str) -> Result<D, FileFault>, P: Progress, W: Write, E: Write>(
+/// Stores the trees that the file of that path lacks, which workers build, and prints how many it has, and the stops without one.
+pub fn run_build<
+    T: Threads + Wait + Sync,
+    D: Disk + Drop,
+    S: FnOnce(&str) -> Result<D, FileFault>,
+    P: Progress,
+    W: Write,
+    E: Write,
+>(
     alloc: Global,
+    rt: &T,
     basis: &Basis,
     rides: Rides,
     path: &str,
+    workers: Workers,
     open_store: S,
     progress: &mut P,
     out: &mut W,
@@ -73,7 +84,7 @@ pub fn run_build<D: Disk, S: FnOnce(&str) -> Result<D, FileFault>, P: Progress, 
     match open_store(path) {
         Err(fault) => (tell_fault(&file_fault(fault), err), None),
         Ok(disk) => {
-            let (report, disk) = build(alloc, basis, rides, disk, progress);
+            let (report, disk) = build(alloc, rt, basis, rides, disk, workers, progress);
             (print_report(alloc, report, out, err), Some(disk))
         }
     }

@@ -1,6 +1,7 @@
 //! The sample feed, built by one worker, by two and by 64, and asked before and after.
 
 ghost use Rattle.std.specs.Prelude.{◌≡◌, ◌<◌, ◌≤◌, IfOk};
+ghost use Rattle.std.specs.Arc.{arc_value};
 ghost use Rattle.planner.specs.Places.{AreNames};
 
 use board::Reader;
@@ -22,11 +23,12 @@ use timetable::{Names, Rides, StopId};
 const EIGHT: u32 = 28_800;
 
 // The ids of the sample feed.
-fn names_of(rt: &HostRuntime) -> Result<Names, Fail>
-    ensures { IfOk result AreNames }
+fn names_of(rt: &HostRuntime) -> Result<Arc<Names>, Fail>
+    ensures { IfOk result (λ names. AreNames (arc_value names)) }
 {
     let tables = tables_of(rt, Feed::SAMPLE)?;
-    Ok(Names::of(rt.alloc(), RandomState::new(rt)?, &tables)?)
+    let names = Names::of(rt.alloc(), RandomState::new(rt)?, &tables)?;
+    Ok(Arc::new(rt.alloc(), names)?)
 }
 
 // Asks from B to D at eight; whether B isn't stored, and whether the best is there at 08:40:00 by one ride.
@@ -54,11 +56,11 @@ fn builds<R: Threads + Wait + Sync, G: Gate + Sync>(
     rt: &R,
     alloc: Global,
     network: Network,
-    names: Names,
+    names: Arc<Names>,
     workers: usize,
     gate: &G,
 ) -> bool
-    requires { AreNames names }
+    requires { AreNames (arc_value names) }
 {
     if workers == 0 || workers > 64 {
         return false;

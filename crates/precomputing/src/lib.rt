@@ -6,6 +6,7 @@ mod bench;
 mod flushing;
 mod gate;
 mod held;
+mod meanwhile;
 mod missing;
 mod outcome;
 mod precomputing;
@@ -17,6 +18,7 @@ mod taking;
 mod worker;
 
 pub use gate::{Free, Gate};
+pub use meanwhile::{Meanwhile, precompute_while};
 pub use outcome::Outcome;
 pub use precomputing::{precompute, precompute_telling, precompute_until};
 pub use progress::{Progress, Silent};

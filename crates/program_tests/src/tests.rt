@@ -1,12 +1,14 @@
 use commands::run_words;
 use disk_model::{FileFault, MemDisk};
 use gtfs_tables::{FeedFile, Files};
+use precomputing::Silent;
 use program_inputs::{out_of_memory, unread};
 use std::hash::RandomState;
 use std::io;
 use std::io::{ErrorKind, Read, Write};
+use std::sync::Wait;
 use std::test::Fail;
-use store_building::Silent;
+use std::thread::Threads;
 
 const STOPS: &[u8] = b"stop_id\nA\nB\n";
 
@@ -40,8 +42,20 @@ const ASK: [&str; 16] = [
     "B", "--at", "08:00:00", "--store", "file",
 ];
 
-const BUILD: [&str; 10] = [
-    "tp", "build", "--feed", "feed", "--date", "20240102", "--rides", "1", "--store", "file",
+// By one worker, who stores A and then B.
+const BUILD: [&str; 12] = [
+    "tp",
+    "build",
+    "--feed",
+    "feed",
+    "--date",
+    "20240102",
+    "--rides",
+    "1",
+    "--store",
+    "file",
+    "--workers",
+    "1",
 ];
 
 const LIST: [&str; 10] = [
@@ -100,8 +114,9 @@ struct Left {
 }
 
 // Runs the program over the feed and a store on that disk.
-fn outcome_over(
+fn outcome_over<T: Threads + Wait + Sync>(
     rt: &HostRuntime,
+    threads: &T,
     keys: Option<RandomState>,
     failure: Failure,
     words: &[&str],
@@ -110,6 +125,7 @@ fn outcome_over(
     let (mut out, mut err) = (Vec::new(rt.alloc()), Vec::new(rt.alloc()));
     let (status, disk) = run_words(
         rt.alloc(),
+        threads,
         keys,
         words,
         |_folder| Ok(feed(failure)),
@@ -128,13 +144,14 @@ fn outcome_over(
 }
 
 // Runs the program over the whole feed and a store on that disk.
-fn outcome_of(
+fn outcome_of<T: Threads + Wait + Sync>(
     rt: &HostRuntime,
+    threads: &T,
     words: &[&str],
     store: Result<MemDisk, FileFault>,
 ) -> Result<Left, Fail> {
     let keys = RandomState::new(rt)?;
-    Ok(outcome_over(rt, Some(keys), None, words, store))
+    Ok(outcome_over(rt, threads, Some(keys), None, words, store))
 }
 
 // Whichever file's reader fails in its midst, that file is told, and nothing is answered. A reader that finds no memory is no such reader.
@@ -188,6 +205,7 @@ fn what_can_not_be_read_to_its_end(rt: HostRuntime) -> Result<(), Fail> {
     for (file, kind, status, fault) in rows {
         let left = outcome_over(
             &rt,
+            &rt,
             Some(keys),
             Some((file, kind)),
             &SCAN,
@@ -206,6 +224,7 @@ fn without_randomness_nothing_is_read(rt: HostRuntime) -> Result<(), Fail> {
     let words: [&[&str]; 2] = [&SCAN, &CHECK];
     for words in words {
         let left = outcome_over(
+            &rt,
             &rt,
             None,
             Some((FeedFile::Stops, ErrorKind::Other)),
@@ -253,6 +272,7 @@ fn a_writer_that_refuses_the_rest(rt: HostRuntime) -> Result<(), Fail> {
         let keys = RandomState::new(&rt)?;
         let (status, _disk) = run_words(
             rt.alloc(),
+            &rt,
             Some(keys),
             &SCAN,
             |_folder| Ok(feed(None)),
@@ -285,7 +305,7 @@ fn a_store_goes_from_run_to_run(rt: HostRuntime) -> Result<(), Fail> {
         (&ASK, 0, ANSWER),
     ];
     for (words, status, lines) in rows {
-        let left = outcome_of(&rt, words, Ok(disk))?;
+        let left = outcome_of(&rt, &rt, words, Ok(disk))?;
         assert_eq!(rt; std::str::from_utf8(left.err.as_slice())?, "");
         assert_eq!(rt; std::str::from_utf8(left.out.as_slice())?, lines);
         assert_eq!(rt; left.status, status);
@@ -301,7 +321,7 @@ fn a_build_goes_on_after_each_failure(rt: HostRuntime) -> Result<(), Fail> {
     for call in 1..40 {
         let mut disk = MemDisk::new(rt.alloc());
         disk.stop_at(call);
-        let broken = outcome_of(&rt, &BUILD, Ok(disk))?;
+        let broken = outcome_of(&rt, &rt, &BUILD, Ok(disk))?;
         if broken.status == 0 {
             break;
         }
@@ -310,7 +330,7 @@ fn a_build_goes_on_after_each_failure(rt: HostRuntime) -> Result<(), Fail> {
         assert_eq!(rt; broken.out.len(), 0);
         let mut disk = broken.disk.ok_or("the disk is gone")?;
         disk.fail_at(0);
-        let whole = outcome_of(&rt, &BUILD, Ok(disk))?;
+        let whole = outcome_of(&rt, &rt, &BUILD, Ok(disk))?;
         assert_eq!(rt;
             std::str::from_utf8(whole.out.as_slice())?,
             "stored 2 of 2\n"
@@ -323,7 +343,7 @@ fn a_build_goes_on_after_each_failure(rt: HostRuntime) -> Result<(), Fail> {
 
 #[test]
 fn a_store_in_use_is_told(rt: HostRuntime) -> Result<(), Fail> {
-    let left = outcome_of(&rt, &LIST, Err(FileFault::InUse))?;
+    let left = outcome_of(&rt, &rt, &LIST, Err(FileFault::InUse))?;
     assert_eq!(rt; left.status, 4);
     assert!(rt; std::str::from_utf8(left.err.as_slice())?.starts_with("tp: Z5 Device\n"));
     assert!(rt; left.disk.is_none());

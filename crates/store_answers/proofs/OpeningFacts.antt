@@ -1,5 +1,5 @@
 -- What opening the store of a basis's timetable gives, where the timetable is named as the opening took it.
-use Rattle.std.proofs.Common.{◌≡◌, ◌⊎◌, ℕ, Result, Ok, Err, MatchResult, IfOk, IfErr, subst, inl, inr}
+use Rattle.std.proofs.Common.{◌≡◌, ◌⊎◌, ℕ, List, Result, Ok, Err, MatchResult, IfOk, IfErr, refl, subst, inl, inr}
 use Rattle.disk_model.specs.Disk.{State, Grew}
 use Rattle.timetable.specs.Table.{Table}
 use Rattle.section_store.specs.Sections.{Form, form_of}
@@ -7,15 +7,40 @@ use Rattle.recovery.specs.Recovery.{CauseOf, IsOutside, StandsForNoList}
 use Rattle.recovery.specs.declared.fault.RecoverFault.{RecoverFault}
 use Rattle.recovery.specs.declared.fault.RecoverFault.TheVariants as stores
 use Rattle.planner_life.specs.Desk.{IsOpening}
+use Rattle.shared_planner.specs.Opening.{IsOpening as IsPlannerOpening, IsUnopened as IsPlannerUnopened}
+use Rattle.shared_planner.specs.declared.fault.OpenFault.{OpenFault}
+use Rattle.shared_planner.specs.declared.fault.OpenFault.TheVariants as opens
 use Rattle.program_inputs.specs.Faults.{of_store}
 use Rattle.program_inputs.specs.declared.fault.Fault.{Fault}
 use Rattle.program_inputs.specs.declared.fault.Fault.TheVariants as faults
 use Rattle.feed_basis.specs.Basis.{BasisData}
-use Rattle.store_answers.specs.Stores.{IsUnopened, OnlyFailing, TellsDevice, form_over}
+use Rattle.store_answers.specs.Stores.{IsUnopened, OnlyFailing, TellsDevice, cause_of, form_over}
 
 -- what is said of a store of the timetable is said of one of the basis
 pub over_basis : (P : Form → Type 0) (basis : BasisData) (k : ℕ) (table : Table) → table ≡ basis.timetable → P (form_of table k) → P (form_over basis k)
 over_basis P basis k table is h = subst (λ (t : Table). P (form_of t k)) is h
+
+-- a planner is opened as a store is
+pub same_opening : (form : Form) (old new : State) → IsPlannerOpening form old new → IsOpening form old new
+same_opening form old new o = record { leaves = o.leaves; loses = o.loses; trusts = o.trusts }
+
+-- why a planner isn't opened, as a recovery tells it
+pub unopened_cause : (form : Form) (bytes : List ℕ) (fault : OpenFault) → IsPlannerUnopened form bytes fault
+    → CauseOf form bytes (cause_of fault) × (IsOutside (cause_of fault) ⊎ StandsForNoList form bytes)
+unopened_cause form bytes (opens.Recover fault) h = h
+unopened_cause form bytes opens.Memory h = (tt, inl (inr refl))
+
+-- a store that isn't opened, for this cause
+pub unopened_over : (form : Form) (old new : State) (why : RecoverFault) (fault : Fault)
+    → CauseOf form old.read why → (IsOutside why ⊎ StandsForNoList form old.read)
+    → fault ≡ of_store why → IsOpening form old new → IsUnopened form old new fault
+unopened_over form old new why fault cause no_list told opening = record {
+  why = why;
+  cause = cause;
+  no_list = no_list;
+  told = told;
+  opening = opening;
+}
 
 pub unopened : (basis : BasisData) (k : ℕ) (table : Table) (old new : State) (why : RecoverFault) (fault : Fault)
     → table ≡ basis.timetable → CauseOf (form_of table k) old.read why → (IsOutside why ⊎ StandsForNoList (form_of table k) old.read)

@@ -5,7 +5,9 @@ use Rattle.timetable.specs.NameLists.{NameLists}
 use Rattle.section_store.specs.Sections.{Form, form_of}
 use Rattle.recovery.specs.Recovery.{StandsForNoList, IsOutside, CauseOf}
 use Rattle.recovery.specs.declared.fault.RecoverFault.{RecoverFault}
-use Rattle.recovery.specs.declared.fault.RecoverFault.TheVariants.{Device}
+use Rattle.recovery.specs.declared.fault.RecoverFault.TheVariants.{Device, Memory}
+use Rattle.shared_planner.specs.declared.fault.OpenFault.{OpenFault}
+use Rattle.shared_planner.specs.declared.fault.OpenFault.TheVariants as opens
 use Rattle.planner_life.specs.Desk.{IsOpening}
 use Rattle.feed_basis.specs.Basis.{BasisData}
 use Rattle.program_inputs.specs.Faults.{of_store}
@@ -15,6 +17,11 @@ use Rattle.program_inputs.specs.declared.fault.Fault.TheVariants as faults
 -- what a store of trees over the timetable is for, with journeys of at most k rides
 abbrev pub form_over : BasisData → ℕ → Form
 form_over basis k = form_of basis.timetable k
+
+-- why a planner isn't opened, as a recovery tells it
+abbrev pub cause_of : OpenFault → RecoverFault
+cause_of (opens.Recover fault) = fault
+cause_of opens.Memory = Memory
 
 -- The store isn't opened: its bytes stand for no list, for this cause; or else a call of the disk failed, or memory ran out. Nothing
 -- of it is lost.

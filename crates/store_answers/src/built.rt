@@ -1,79 +1,82 @@
 //! The building of the trees that are missing.
 
-ghost use Rattle.std.specs.Prelude.{◌≡◌, ◌↔◌, MatchResult, IfOk, IfErr, map};
+ghost use Rattle.std.specs.Prelude.{◌≡◌, ◌↔◌, MatchResult, IfOk, IfErr, OnOk};
+ghost use Rattle.precomputing.specs.Missing.{missing_of};
 ghost use Rattle.timetable.specs.Table.{stops_of};
-ghost use Rattle.store_answers.specs.Builds.{CountsStored, IsBuilt, IsUnbuilt, missing_from, of_build};
-ghost use Rattle.store_answers.specs.Stores.{OnlyFailing, ids_of};
+ghost use Rattle.store_answers.specs.Builds.{CountsLeft, CountsStored, IsBuilt, IsEndOf, IsUnbuilt, IsWhole};
+ghost use Rattle.store_answers.specs.Stores.{OnlyFailing};
 
+use crate::ids::ids;
+use crate::opening::open;
 use answer_lines::Report;
+use command_line::Workers;
 use disk_model::Disk;
 use feed_basis::Basis;
-use planner_life::{BuildFault, Desk};
+use precomputing::{Free, Outcome, Progress, Stop, precompute_telling};
 use program_inputs::Fault;
 use section_store::going_laws::goes_on;
 use section_store::laws::loses_nothing_in_turn;
+use shared_planner::Opened;
 use std::alloc::{AllocError, Global};
-use store_building::{Progress, build_missing};
+use std::sync::Wait;
+use std::thread::Threads;
 use timetable::{Rides, StopId};
 
-// The ids of the stops that the desk has no tree of, in the order of their numbers.
-fn missing<'a, D: Disk>(
+// What is told where these stops are stored, and those are missing.
+fn report<'a>(
     alloc: Global,
     basis: &'a Basis,
-    desk: &Desk<D>,
-) -> Result<Vec<&'a str>, AllocError>
-    requires form { desk.now.form.table ≡ basis.now.timetable }
-    ensures { IfOk result (λ ids. map (λ id. id.now) ids.items
-        ≡ ids_of basis.now.names (missing_from (stops_of basis.now.timetable) desk.now.stored)) }
-{
-    let mut ids = Vec::new(alloc);
-    for number in 0..basis.timetable().stops() {
-        let stop = StopId::new(number as u16);
-        if !desk.is_stored(stop) {
-            ids.push(basis.names().stop(stop))?;
-        }
-    }
-    Ok(ids)
-}
-
-// What the desk has now.
-fn report<'a, D: Disk>(
-    alloc: Global,
-    basis: &'a Basis,
-    desk: &Desk<D>,
+    stored: &[StopId],
+    missing: &[StopId],
 ) -> Result<Report<'a>, AllocError>
-    requires form { desk.now.form.table ≡ basis.now.timetable }
-    ensures { IfOk result (CountsStored basis.now desk.now.stored) }
+    requires { missing.now ≡ missing_of (stops_of basis.now.timetable) stored.now }
+    ensures { IfOk result (CountsStored basis.now stored.now) }
 {
     Ok(Report::Built {
-        stored: desk.stored().len(),
+        stored: stored.len(),
         of: basis.timetable().stops(),
-        missing: missing(alloc, basis, desk)?,
+        missing: ids(alloc, basis, missing)?,
     })
 }
 
-// Why a build came to an early end, as the program tells it.
-fn build_fault<'a>(fault: &BuildFault) -> Fault<'a>
-    ensures { result ≡ of_build fault.now }
+// What came of a build, as the program tells it.
+fn told<'a>(
+    alloc: Global,
+    basis: &'a Basis,
+    stored: &[StopId],
+    outcome: &Outcome,
+) -> Result<Report<'a>, Fault<'a>>
+    requires { CountsLeft (stops_of basis.now.timetable) stored.now outcome.now }
+    ensures whole { OnOk result (IsWhole outcome.now) }
+    ensures counts { IfOk result (CountsStored basis.now stored.now) }
+    ensures ended { IfErr result (IsEndOf outcome.now) }
 {
-    if fault.is_device_fault() {
-        Fault::PutFailed
-    } else {
-        Fault::Memory
+    let missing: &[StopId] = match outcome {
+        Outcome::Done => &[],
+        Outcome::Partial(missing) => missing.as_slice(),
+        Outcome::DeviceFailed => return Err(Fault::PutFailed),
+        Outcome::NoMemory => return Err(Fault::Memory),
+    };
+    match report(alloc, basis, stored, missing) {
+        Ok(report) => Ok(report),
+        Err(_) => Err(Fault::Memory),
     }
 }
 
-/// Stores the trees that the file of the disk lacks, for the basis's timetable and journeys of at most so many rides, in the order of the
-/// stops' numbers, and tells how many it has then, and the stops without one. The file is recovered, and a fresh one begun; `progress`
-/// is told how far the build is. The disk comes back.
+/// Stores the trees that the file of the disk lacks, for the basis's timetable and journeys of at most so many rides: workers build them in
+/// threads, and the calling thread stores each as it is handed in. It tells how many the file has then, and the stops without one. The file
+/// is recovered, and a fresh one begun; `progress` is told how far the build is. The disk comes back. A stop is left without its tree
+/// where that is too large or memory is refused for it.
 ///
-/// Of an honest disk: stopped before, within or after any call, the file stands for a list that begins with the old one, and has each
-/// tree whose storing was done; the same build again goes on from there.
-pub fn build<'a, D: Disk, P: Progress>(
+/// Of an honest disk, whatever the order of the workers' steps: stopped before, within or after any call, the file stands for a list that
+/// begins with the old one, and has each tree whose storing was done; the same build again goes on from there.
+pub fn build<'a, D: Disk + Drop, T: Threads + Wait + Sync, P: Progress>(
     alloc: Global,
+    rt: &T,
     basis: &'a Basis,
     rides: Rides,
     disk: D,
+    workers: Workers,
     progress: &mut P,
 ) -> (Result<Report<'a>, Fault<'a>>, D)
     ensures built { D.honest disk → MatchResult result.0 (IsBuilt basis.now rides (D.state disk) (D.state result.1))
@@ -83,18 +86,26 @@ pub fn build<'a, D: Disk, P: Progress>(
 {
     goes_on();
     loses_nothing_in_turn();
-    let mut desk = match Desk::open(alloc, disk, basis.shared(), rides) {
-        Ok(desk) => desk,
+    let Opened {
+        planner,
+        desk,
+        readers: _readers,
+    } = match open(alloc, rt, basis, rides, disk) {
+        Ok(opened) => opened,
         Err((fault, disk)) => return (Err(Fault::from(fault)), disk),
     };
-    let built = build_missing(alloc, &mut desk, progress);
+    let workers = usize::from(workers.number);
+    let (desk, outcome) = precompute_telling(
+        alloc,
+        rt,
+        desk,
+        &planner,
+        workers,
+        &Free,
+        &Stop::new(),
+        progress,
+    );
     progress.ended();
-    let told = match built {
-        Ok(()) => match report(alloc, basis, &desk) {
-            Ok(report) => Ok(report),
-            Err(_) => Err(Fault::Memory),
-        },
-        Err(fault) => Err(build_fault(&fault)),
-    };
-    (told, desk.into_disk())
+    let report = told(alloc, basis, desk.stored(), &outcome);
+    (report, desk.into_disk(rt))
 }

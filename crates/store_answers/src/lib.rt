@@ -6,6 +6,7 @@ mod asked;
 mod built;
 mod ids;
 mod listed;
+mod opening;
 
 pub use asked::ask_stored;
 pub use built::build;

@@ -9,9 +9,11 @@ use disk_model::FileDisk;
 use program_inputs::{given_words, list_folder, open_feed, out_of_memory, texts, unread};
 use std::hash::RandomState;
 use std::process::ExitCode;
+use std::sync::Wait;
+use std::thread::Threads;
 
-// Does what the words say, and gives the status.
-fn status(rt: &HostRuntime) -> u8 {
+// Does what the words say, with workers in such threads, and gives the status.
+fn status<T: Threads + Wait + Sync>(rt: &HostRuntime, threads: &T) -> u8 {
     let alloc = rt.alloc();
     let (mut out, mut err) = (rt.stdout(), rt.stderr());
     let words = match given_words(rt) {
@@ -24,6 +26,7 @@ fn status(rt: &HostRuntime) -> u8 {
     let keys = RandomState::new(rt).ok();
     let (status, _disk) = run_words(
         alloc,
+        threads,
         keys,
         texts.as_slice(),
         |folder| open_feed(rt, alloc, folder),
@@ -37,5 +40,5 @@ fn status(rt: &HostRuntime) -> u8 {
 }
 
 fn main(rt: HostRuntime) -> ExitCode {
-    ExitCode::from(status(&rt))
+    ExitCode::from(status(&rt, &rt))
 }

@@ -5,4 +5,7 @@ use Rattle.command_line.proofs.program.build.Goals as goal
 pub returns-clause-shape : goal.returns-clause-shape
 returns-clause-shape c =
     c.in_ok-command.ensures.shape c.flag.ensures.local
-    ∙ ap₂ with_rule c.in_ok-store.ensures.shape c.flag.ensures.rule
+    ∙ ap₂ with_rule (
+    c.in_ok-arg.ensures.shape c.number.ensures.local
+    ∙ ap₂ with_rule c.in_ok-store.ensures.shape c.number.ensures.rule)
+    c.flag.ensures.rule

@@ -28,7 +28,7 @@ returns-in-Build-clause-run g c = λ feed h.
     let run = run_of (g.W.Write.contents c.args.out.now) (g.W.Write.contents c.run_build.new.out) c.run_build.result.0 in
     let errand = subst (λ (e : Errand). IsErrand plan.settings.date.now plan.command e) c.in-Build.is c.in-Ok.ensures.errand in
     let done = subst (λ (k : ℕ). IsOverStore o c.in-Build.path.now (IsBuildRun basis k) run c.run_build.result.1) c.new-rides.ensures c.run_build.ensures.run in
-    inr (basis, c.in-Ok.ensures.ground feed h, build_run o plan.settings basis run c.run_build.result.1 plan.command c.in-Build.path errand done)
+    inr (basis, c.in-Ok.ensures.ground feed h, build_run o plan.settings basis run c.run_build.result.1 plan.command c.in-Build.path c.in-Build.workers errand done)
 
 pub returns-clause-run : goal.returns-clause-run
 returns-clause-run g c = λ feed h.

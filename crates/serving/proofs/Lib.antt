@@ -1,0 +1,4 @@
+pub mod PointFacts
+pub mod PrintFacts
+pub mod ReplyFacts
+pub mod RunFacts

@@ -1,0 +1,63 @@
+-- Replies to questions, as they are asked on one look.
+use Rattle.std.proofs.Common.{◌≡◌, ℕ, List, [], All, refl, sym, subst, append-nil}
+use Rattle.service_days.specs.Cover.{CoverDays}
+use Rattle.pattern_query.specs.Answer.{PointData}
+use Rattle.board.specs.Ties.{BoardPart}
+use Rattle.board.specs.Trees.{IsRight}
+use Rattle.planner.specs.declared.fault.AskFault.TheVariants as asked
+use Rattle.shared_planner.specs.Asking.{AreBestBetween, IsAnswered, IsLook, IsUnanswered}
+use Rattle.shared_planner.specs.PlannerView.{PlannerView}
+use Rattle.shared_planner.specs.declared.fault.AskFault.{AskFault}
+use Rattle.shared_planner.specs.declared.fault.AskFault.TheVariants as faults
+use Rattle.question_lines.specs.declared.question.Question.{Question}
+use Rattle.serving.specs.Answers.{IsAsked, IsRefused, IsReply, IsTold}
+use Rattle.serving.specs.Refusals.{of_ask}
+use Rattle.serving.specs.declared.reply.Refusal.TheVariants as refusals
+use Rattle.serving.specs.declared.reply.Reply.{Reply}
+use Rattle.serving.specs.declared.reply.Reply.TheVariants as replies
+
+module _ (p : PlannerView) (cover : CoverDays) (line : List ℕ) (old new : BoardPart) where
+  -- what is told of an answer
+  pub told_reply : (question : Question) (depart : ℕ) (journeys : List PointData) → IsAsked cover line question depart
+      → IsAnswered p old new question.from.now question.to.now depart journeys
+      → (All (IsRight p.form) old.origin.opened.list → AreBestBetween p question.from.now question.to.now depart journeys)
+      → (reply : Reply) → IsTold cover journeys reply → IsReply p cover line old new reply
+  told_reply question depart journeys is answered exact (replies.Answer answer) told = record {
+    question = question;
+    depart = depart;
+    asked = is;
+    journeys = journeys;
+    answered = answered;
+    exact = exact;
+    told = told;
+  }
+  told_reply question depart journeys is answered exact (replies.Refused refusal) none =
+      subst (IsRefused p cover line old new) (sym none) answered.0
+
+  -- the refusal of a question
+  pub refused_reply : (question : Question) (depart : ℕ) → IsAsked cover line question depart → (fault : AskFault)
+      → IsUnanswered p old new question.from.now question.to.now depart fault → IsReply p cover line old new (replies.Refused (of_ask fault))
+  refused_reply question depart is faults.BoardRefused un = record { question = question; depart = depart; asked = is; fault = faults.BoardRefused; unanswered = un; told = refl }
+  refused_reply question depart is (faults.Question (asked.UnknownStop id)) un =
+      record { question = question; depart = depart; asked = is; fault = faults.Question (asked.UnknownStop id); unanswered = un; told = refl }
+  refused_reply question depart is (faults.Question asked.NotCovered) un =
+      record { question = question; depart = depart; asked = is; fault = faults.Question asked.NotCovered; unanswered = un; told = refl }
+  refused_reply question depart is (faults.Question (asked.NotStored id)) un =
+      record { question = question; depart = depart; asked = is; fault = faults.Question (asked.NotStored id); unanswered = un; told = refl }
+
+  looks_still : new ≡ old → IsLook old new
+  looks_still same = subst (IsLook old) (sym same) (record { later = ([], append-nil old.told.list); book = refl; origin = refl })
+
+  looks_unanswered : (from to : List ℕ) (depart : ℕ) (fault : AskFault) → IsUnanswered p old new from to depart fault → IsLook old new
+  looks_unanswered from to depart faults.BoardRefused un = looks_still un
+  looks_unanswered from to depart (faults.Question fault) un = un.0
+
+  -- whatever was replied, the reader knows what it knew
+  pub looks : (reply : Reply) → IsReply p cover line old new reply → IsLook old new
+  looks (replies.Answer answer) is = is.answered.0
+  looks (replies.Refused refusals.BadLine) is = looks_still is.1
+  looks (replies.Refused refusals.Memory) is = is
+  looks (replies.Refused refusals.BoardRefused) is = looks_unanswered is.question.from.now is.question.to.now is.depart is.fault is.unanswered
+  looks (replies.Refused (refusals.UnknownStop id)) is = looks_unanswered is.question.from.now is.question.to.now is.depart is.fault is.unanswered
+  looks (replies.Refused refusals.NotCovered) is = looks_unanswered is.question.from.now is.question.to.now is.depart is.fault is.unanswered
+  looks (replies.Refused (refusals.NotStored id)) is = looks_unanswered is.question.from.now is.question.to.now is.depart is.fault is.unanswered

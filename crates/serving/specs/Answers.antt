@@ -1,0 +1,85 @@
+-- What is replied to a line.
+use Rattle.std.specs.Prelude.{◌≡◌, ℕ, List, [], Option}
+use Rattle.std.specs.List.{All, AllZip}
+use Rattle.std.specs.Option.{unwrap_or}
+use Rattle.service_days.specs.Answers.{IsMoment}
+use Rattle.service_days.specs.Cover.{CoverDays}
+use Rattle.pattern_query.specs.Answer.{PointData}
+use Rattle.board.specs.Ties.{BoardPart}
+use Rattle.board.specs.Trees.{IsRight}
+use Rattle.shared_planner.specs.Asking.{AreBestBetween, IsAnswered, IsLook, IsUnanswered}
+use Rattle.shared_planner.specs.PlannerView.{PlannerView}
+use Rattle.shared_planner.specs.declared.fault.AskFault.{AskFault}
+use Rattle.answer_lines.specs.Moments.{Says}
+use Rattle.answer_lines.specs.declared.answer.Answer.{Answer}
+use Rattle.answer_lines.specs.declared.answer.Answer.TheVariants as answers
+use Rattle.answer_lines.specs.declared.answer.Point.{Point}
+use Rattle.question_lines.specs.Questions.{IsQuestion, NotQuestion}
+use Rattle.question_lines.specs.declared.question.Question.{Question}
+use Rattle.serving.specs.Refusals.{of_ask}
+use Rattle.serving.specs.declared.reply.Refusal.{Refusal}
+use Rattle.serving.specs.declared.reply.Refusal.TheVariants as refusals
+use Rattle.serving.specs.declared.reply.Reply.{Reply}
+use Rattle.serving.specs.declared.reply.Reply.TheVariants as replies
+
+-- a point tells the rides and the arrival of a journey, and nothing else of it
+pub record TellsPoint (cover : CoverDays) (journey : PointData) (point : Point) : Type 0 where
+  pub rides : point.rides ≡ journey.rides
+  pub at : Says cover journey.arrival point.at
+  pub untold : point.stages.items ≡ []
+
+-- the answer tells these journeys
+abbrev pub TellsPoints : CoverDays → List PointData → Answer → Type 0
+TellsPoints cover journeys answers.NoRide = ⊥
+TellsPoints cover journeys (answers.Arrive time) = ⊥
+TellsPoints cover journeys (answers.Points points) = AllZip (TellsPoint cover) journeys points.items
+
+-- The moment to leave at. A time of a day that isn't covered stands for one that no timetable covers.
+abbrev pub depart_of : Option ℕ → ℕ
+depart_of moment = unwrap_or moment 4_294_967_295
+
+-- The line is this question, which leaves at this moment.
+pub record IsAsked (cover : CoverDays) (line : List ℕ) (question : Question) (depart : ℕ) : Type 0 where
+  pub is : IsQuestion line question
+  pub moment : Option ℕ
+  pub of_day : IsMoment cover question.day question.seconds moment
+  pub leaves : depart ≡ depart_of moment
+
+-- The line is a question, and the answer tells what one look of the reader gives to it. Where each tree with which the board was opened
+-- is complete, these are exactly the best of all journeys.
+pub record IsRightAnswer (p : PlannerView) (cover : CoverDays) (line : List ℕ) (old new : BoardPart) (answer : Answer) : Type 0 where
+  pub question : Question
+  pub depart : ℕ
+  pub asked : IsAsked cover line question depart
+  pub journeys : List PointData
+  pub answered : IsAnswered p old new question.from.now question.to.now depart journeys
+  pub exact : All (IsRight p.form) old.origin.opened.list → AreBestBetween p question.from.now question.to.now depart journeys
+  pub told : TellsPoints cover journeys answer
+
+-- the line is a question, which has no answer from one look of the reader, for this cause
+pub record IsRightRefusal (p : PlannerView) (cover : CoverDays) (line : List ℕ) (old new : BoardPart) (refusal : Refusal) : Type 0 where
+  pub question : Question
+  pub depart : ℕ
+  pub asked : IsAsked cover line question depart
+  pub fault : AskFault
+  pub unanswered : IsUnanswered p old new question.from.now question.to.now depart fault
+  pub told : refusal ≡ of_ask fault
+
+-- only a line that is no question is a bad line; any other has its question's refusal; memory may run out for each
+abbrev pub IsRefused : PlannerView → CoverDays → List ℕ → BoardPart → BoardPart → Refusal → Type 0
+IsRefused p cover line old new refusals.BadLine = NotQuestion line × (new ≡ old)
+IsRefused p cover line old new refusals.Memory = IsLook old new
+IsRefused p cover line old new refusals.BoardRefused = IsRightRefusal p cover line old new refusals.BoardRefused
+IsRefused p cover line old new (refusals.UnknownStop id) = IsRightRefusal p cover line old new (refusals.UnknownStop id)
+IsRefused p cover line old new refusals.NotCovered = IsRightRefusal p cover line old new refusals.NotCovered
+IsRefused p cover line old new (refusals.NotStored id) = IsRightRefusal p cover line old new (refusals.NotStored id)
+
+-- what is replied to a line by one whose reader knew `old` before it and knows `new` now
+abbrev pub IsReply : PlannerView → CoverDays → List ℕ → BoardPart → BoardPart → Reply → Type 0
+IsReply p cover line old new (replies.Answer answer) = IsRightAnswer p cover line old new answer
+IsReply p cover line old new (replies.Refused refusal) = IsRefused p cover line old new refusal
+
+-- the reply tells these journeys, or that memory was refused
+abbrev pub IsTold : CoverDays → List PointData → Reply → Type 0
+IsTold cover journeys (replies.Answer answer) = TellsPoints cover journeys answer
+IsTold cover journeys (replies.Refused refusal) = refusal ≡ refusals.Memory

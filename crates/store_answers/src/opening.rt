@@ -1,0 +1,66 @@
+//! The opening of a store whose missing trees are to be built.
+
+ghost use Rattle.std.specs.Prelude.{◌≡◌, ◌↔◌, ◌⊎◌, MatchResult, IfOk, IfErr};
+ghost use Rattle.disk_model.specs.Disk.{Grew};
+ghost use Rattle.planner_life.specs.Desk.{IsOpening, StandsForSources};
+ghost use Rattle.recovery.specs.Recovery.{CauseOf, IsOutside, StandsForNoList};
+ghost use Rattle.shared_planner.specs.Desk.{IsSound};
+ghost use Rattle.store_answers.specs.Stores.{cause_of, form_over};
+
+use disk_model::Disk;
+use feed_basis::Basis;
+use recovery::RecoverFault;
+use section_store::Step;
+use section_store::going_laws::goes_on;
+use shared_planner::{OpenFault, Opened, Planner};
+use std::alloc::Global;
+use std::sync::{Arc, Wait};
+use timetable::Rides;
+
+// Why a planner isn't opened, as a recovery tells it.
+fn cause(fault: OpenFault) -> RecoverFault
+    ensures { result ≡ cause_of fault }
+{
+    match fault {
+        OpenFault::Recover(fault) => fault,
+        OpenFault::Memory => RecoverFault::Memory,
+    }
+}
+
+/// Opens the store that the file of the disk holds, for the basis's timetable and journeys of at most so many rides, with one reader. The
+/// file is recovered, and a fresh one begun. The disk comes back with each fault, and nothing was done to it where memory ran out before.
+pub fn open<D: Disk, T: Wait>(
+    alloc: Global,
+    rt: &T,
+    basis: &Basis,
+    rides: Rides,
+    disk: D,
+) -> Result<Opened<D>, (RecoverFault, D)>
+    ensures own { IfOk result (λ o. o.planner.form ≡ form_over basis.now rides) }
+    ensures form { IfOk result (λ o. o.desk.form ≡ form_over basis.now rides) }
+    ensures ready { IfOk result (λ o. o.desk.next ≡ Step.WriteBody) }
+    ensures stood { D.honest disk
+        → IfOk result (λ o. StandsForSources (form_over basis.now rides) o.desk.stored (D.state disk).read) }
+    ensures sound { D.honest disk → IfOk result (λ o. IsSound D.honest D.state o.desk) }
+    ensures cause { D.honest disk → IfErr result (λ e. CauseOf (form_over basis.now rides) (D.state disk).read e.0) }
+    ensures refused { D.honest disk
+        → IfErr result (λ e. IsOutside e.0 ⊎ StandsForNoList (form_over basis.now rides) (D.state disk).read) }
+    ensures device { MatchResult result (λ o. D.failures o.desk.disk ≡ D.failures disk)
+        (λ e. e.0 ≡ RecoverFault.Device → Grew (D.failures disk) (D.failures e.1)) }
+    ensures moments { D.honest disk → MatchResult result
+        (λ o. IsOpening (form_over basis.now rides) (D.state disk) (D.state o.desk.disk))
+        (λ e. IsOpening (form_over basis.now rides) (D.state disk) (D.state e.1)) }
+    ensures honest { MatchResult result (λ o. D.honest disk ↔ D.honest o.desk.disk) (λ e. D.honest disk ↔ D.honest e.1) }
+{
+    goes_on();
+    let Ok(network) = basis.network(alloc) else {
+        return Err((RecoverFault::Memory, disk));
+    };
+    let Ok(names) = Arc::try_clone(basis.shared_names()) else {
+        return Err((RecoverFault::Memory, disk));
+    };
+    match Planner::open(alloc, rt, disk, network, names, rides, 1) {
+        Ok(opened) => Ok(opened),
+        Err((fault, disk)) => Err((cause(fault), disk)),
+    }
+}
