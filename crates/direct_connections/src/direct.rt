@@ -8,8 +8,8 @@ ghost use Rattle.lines.specs.Lines.{AreLines};
 ghost use Rattle.direct_connections.specs.Direct.{IsMadeFor};
 ghost use Rattle.direct_connections.specs.Search.{IsPlaceOf, IsNearest, BoardsAt, IsFirstRide};
 
-use crate::places::{Places, Side, first_behind, places_by_stop};
-use lines::{LinePlace, Lines};
+use crate::places::{Side, first_behind, places_by_stop};
+use lines::{LinePlace, Lines, Places};
 use std::alloc::{AllocError, Global};
 use std::marker::Model;
 use timetable::{Leg, StopId, Timetable};

@@ -5,9 +5,8 @@ ghost use Rattle.lines.specs.Lines.{CallsAt, IsBefore, ArePlacesAt, places_at};
 ghost use Rattle.direct_connections.specs.Direct.{Allows, AreExactly};
 ghost use Rattle.direct_connections.specs.Search.{IsPlaceOf, IsFirstBehind};
 
-use lines::{LinePlace, Lines};
+use lines::{LinePlace, Lines, Places};
 use std::alloc::{AllocError, Global};
-use std::marker::Model;
 use timetable::StopId;
 
 /// What passengers may do at a place.
@@ -15,30 +14,6 @@ use timetable::StopId;
 pub enum Side {
     Board,
     Alight,
-}
-
-/// The places at one stop.
-#[derive(Debug, Drop)]
-pub struct Places {
-    row: Vec<LinePlace>,
-}
-
-impl Model for Places {
-    ghost use Rattle.std.specs.Prelude.{List};
-    ghost use Rattle.lines.specs.declared.lines.LinePlace.{LinePlace as PlaceData};
-
-    ghost Value = { List PlaceData };
-
-    ghost view = { λ a. a.row.items };
-}
-
-impl Places {
-    /// The places, in their order.
-    pub fn row(&self) -> &[LinePlace]
-        ensures { result.now ≡ self.now }
-    {
-        &self.row
-    }
 }
 
 // Whether the line's place allows it.
@@ -58,13 +33,13 @@ fn places_at(alloc: Global, lines: &Lines, side: Side, stop: StopId) -> Result<P
     requires { ArePlacesAt lines.now.lines stop (places_at lines.now stop) }
     ensures { IfOk result (AreExactly (Allows side lines.now.lines stop)) }
 {
-    let mut row = Vec::new(alloc);
+    let mut places = Places::new(alloc);
     for at in lines.places_at(stop) {
         if allows(lines, side, *at) {
-            row.push(*at)?;
+            places.push(*at)?;
         }
     }
-    Ok(Places { row })
+    Ok(places)
 }
 
 /// For each stop the places that allow it, by line, then by place.

@@ -1,7 +1,7 @@
 -- Rows of stop_times.txt, their tests and their values.
-use Rattle.std.proofs.Common.{◌≡◌, ◌∙◌, sym, ap, subst, refl, arith, ℕ, zero, suc, ◌+◌, ◌-◌, ◌≤◌, Bool, true, false, not, ◌&&◌, cond, Option, Some, None, List, [], ◌∷◌, ◌++◌, Bor, length, map, filter, length-append, min, get_or}
+use Rattle.std.proofs.Common.{◌≡◌, ◌∙◌, sym, ap, refl, arith, ℕ, zero, suc, ◌+◌, ◌-◌, ◌≤◌, Bool, true, false, not, ◌&&◌, cond, Option, Some, None, List, [], ◌∷◌, ◌++◌, Bor, length, map, filter, length-append, min, get_or}
 use Rattle.std.specs.Prelude.{is_some, unwrap_or, position}
-use Rattle.std.specs.List.{All, IsDistinct, list_any, range_with_len}
+use Rattle.std.specs.List.{All, list_any, range_with_len}
 use Rattle.std.specs.Str.{bytes_eq}
 use Rattle.std.proofs.Math.Nat.{min-eq_left}
 use Rattle.std.proofs.lemmas.List.Elements.{All-cons, All-nil, All-tail, All-filter}
@@ -12,9 +12,10 @@ use Rattle.gtfs_rows.specs.declared.fault.FeedFile.TheVariants as files
 use Rattle.gtfs_rows.specs.declared.values.StopTime.{StopTime}
 use Rattle.gtfs_rows.specs.Faults.{Test, test, fault_at, first_fault}
 use Rattle.gtfs_rows.specs.Rows.{field_under, has_text, number_in, text_under, texts_in, rows_to}
-use Rattle.gtfs_rows.proofs.RowFacts.{row_joins, row_skipped, filtered_in, filtered_out, under-fields}
+use Rattle.gtfs_rows.proofs.FilledFacts.{IsTurn}
+use Rattle.gtfs_rows.proofs.RowFacts.{filtered_in, filtered_out, under-fields}
 use Rattle.gtfs_rows.proofs.TextFacts.{any-texts_in, position-texts_in}
-use Rattle.gtfs_calls.specs.StopTimes.{AreApart, call_numbered, call_tests, call_values, kept_tests, has_new_place, is_place, is_skipped, kept_rows, kept_to, place_at, place_of}
+use Rattle.gtfs_calls.specs.StopTimes.{call_numbered, call_tests, call_values, kept_tests, has_new_place, is_place, is_skipped, kept_rows, kept_to, place_at, place_of}
 use Rattle.gtfs_calls.specs.TripTests.{calls_by_trip, calls_of_trip, in_sequence}
 
 -- what an answer says that is there where a test holds
@@ -55,6 +56,11 @@ new-place trips table row keys place before same =
     ap (λ (ks : List (ℕ × ℕ)). not (list_any (is_place place) ks)) before
     ∙ ap (λ (p : ℕ × ℕ). not (list_any (is_place p) (map (place_at trips table) (kept_to table (row - 1))))) same
 
+-- the places of the kept rows so far are those before this row
+pub places-before : (trips : List (List ℕ)) (table : Table) (given : List ℕ) (row : ℕ) → IsTurn table given row
+    → map (place_at trips table) (filter (λ row. not (is_skipped table row)) given) ≡ map (place_at trips table) (kept_to table (row - 1))
+places-before trips table given row turn = ap (λ rows. map (place_at trips table) (filter (λ row. not (is_skipped table row)) rows)) turn.before
+
 -- the tests of times, boarding and alighting, as one
 abbrev pub stay_tests : ℕ → Bool → Bool → Bool → Bool → List Test
 stay_tests row a d p o =
@@ -74,17 +80,16 @@ stay-holds row true true false o h = absurd (cc h)
 stay-holds row true false p o h = absurd (cc h)
 stay-holds row false d p o h = absurd (cc h)
 
--- one row more: kept, skipped, or blank
-pub kept_joins : (table : Table) (n : ℕ) → is_blank table (n + 1) ≡ false → is_skipped table (n + 1) ≡ false → kept_to table (n + 1) ≡ kept_to table n ++ (n + 1) ∷ []
-kept_joins table n there kept =
-    ap (filter (λ row. not (is_skipped table row))) (row_joins table n there) ∙ filtered_in (λ row. not (is_skipped table row)) (rows_to table n) (n + 1) (ap not kept)
+-- of these rows those that are kept
+abbrev pub kept_of : Table → List ℕ → List ℕ
+kept_of table rows = filter (λ row. not (is_skipped table row)) rows
 
-pub kept_stays : (table : Table) (n : ℕ) → is_blank table (n + 1) ≡ false → is_skipped table (n + 1) ≡ true → kept_to table (n + 1) ≡ kept_to table n
-kept_stays table n there skipped =
-    ap (filter (λ row. not (is_skipped table row))) (row_joins table n there) ∙ filtered_out (λ row. not (is_skipped table row)) (rows_to table n) (n + 1) (ap not skipped)
+-- one row more: kept, or skipped
+pub kept_joins : (table : Table) (rows : List ℕ) (row : ℕ) → is_skipped table row ≡ false → kept_of table (rows ++ row ∷ []) ≡ kept_of table rows ++ row ∷ []
+kept_joins table rows row kept = filtered_in (λ row. not (is_skipped table row)) rows row (ap not kept)
 
-pub kept_blank : (table : Table) (n : ℕ) → is_blank table (n + 1) ≡ true → kept_to table (n + 1) ≡ kept_to table n
-kept_blank table n blank = ap (filter (λ row. not (is_skipped table row))) (row_skipped table n blank)
+pub kept_stays : (table : Table) (rows : List ℕ) (row : ℕ) → is_skipped table row ≡ true → kept_of table (rows ++ row ∷ []) ≡ kept_of table rows
+kept_stays table rows row skipped = filtered_out (λ row. not (is_skipped table row)) rows row (ap not skipped)
 
 -- a row that is skipped takes part in no test
 pub tests-skipped : (stops trips : List (List ℕ)) (table : Table) (row : ℕ) → is_skipped table row ≡ true → call_tests stops trips table row ≡ []
@@ -93,15 +98,14 @@ tests-skipped stops trips table row skipped = rw skipped refl
 pub tests-kept : (stops trips : List (List ℕ)) (table : Table) (row : ℕ) → is_skipped table row ≡ false → call_tests stops trips table row ≡ kept_tests stops trips table row
 tests-kept stops trips table row kept = rw kept refl
 
-pub skipped_more : (table : Table) (n count : ℕ) → is_blank table (n + 1) ≡ false → is_skipped table (n + 1) ≡ true → count ≡ length (filter (is_skipped table) (rows_to table n))
-    → count + 1 ≡ length (filter (is_skipped table) (rows_to table (n + 1)))
-skipped_more table n count there skipped so_far =
-    rw (row_joins table n there, filtered_in (is_skipped table) (rows_to table n) (n + 1) skipped, length-append (filter (is_skipped table) (rows_to table n)) ((n + 1) ∷ [])) (ap (λ (m : ℕ). m + 1) so_far)
+pub skipped_more : (table : Table) (rows : List ℕ) (row count : ℕ) → is_skipped table row ≡ true → count ≡ length (filter (is_skipped table) rows)
+    → count + 1 ≡ length (filter (is_skipped table) (rows ++ row ∷ []))
+skipped_more table rows row count skipped so_far =
+    rw (filtered_in (is_skipped table) rows row skipped, length-append (filter (is_skipped table) rows) (row ∷ [])) (ap (λ (m : ℕ). m + 1) so_far)
 
-pub skipped_stays : (table : Table) (n count : ℕ) → is_blank table (n + 1) ≡ false → is_skipped table (n + 1) ≡ false → count ≡ length (filter (is_skipped table) (rows_to table n))
-    → count ≡ length (filter (is_skipped table) (rows_to table (n + 1)))
-skipped_stays table n count there kept so_far =
-    rw (row_joins table n there, filtered_out (is_skipped table) (rows_to table n) (n + 1) kept) so_far
+pub skipped_stays : (table : Table) (rows : List ℕ) (row count : ℕ) → is_skipped table row ≡ false → count ≡ length (filter (is_skipped table) rows)
+    → count ≡ length (filter (is_skipped table) (rows ++ row ∷ []))
+skipped_stays table rows row count kept so_far = rw (filtered_out (is_skipped table) rows row kept) so_far
 
 -- the call of a row as it is held: its row's number is at most the limit of a file's rows
 abbrev pub call_held : List (List ℕ) → List (List ℕ) → Table → ℕ → StopTime
@@ -128,12 +132,6 @@ held-values stops trips table few =
 pub places-of : (stops trips : List (List ℕ)) (table : Table) (rows : List ℕ) → map place_of (map (call_held stops trips table) rows) ≡ map (place_at trips table) rows
 places-of stops trips table [] = refl
 places-of stops trips table (row ∷ rows) = ap (λ (places : List (ℕ × ℕ)). place_at trips table row ∷ places) (places-of stops trips table rows)
-
--- calls whose places differ stand apart
-pub held-apart : (stops trips : List (List ℕ)) (table : Table) (rows : List ℕ) (calls : List StopTime) (places : List (ℕ × ℕ)) → IsDistinct is_place places
-    → places ≡ map (place_at trips table) rows → calls ≡ map (call_held stops trips table) rows → AreApart calls
-held-apart stops trips table rows calls places apart are held =
-    subst (IsDistinct is_place) (are ∙ sym (places-of stops trips table rows) ∙ ap (map place_of) (sym held)) apart
 
 -- sorted calls, cut by trip, are those of each trip in the order of stop_sequence
 pub lists-sorted : (calls sorted : List StopTime) (trips : ℕ) → ((trip : ℕ) → calls_of_trip sorted trip ≡ in_sequence (calls_of_trip calls trip))

@@ -43,10 +43,11 @@ is_skipped table row = is_empty (stop_id table row)
 abbrev pub skipped_calls : Table → ℕ
 skipped_calls table = length (filter (is_skipped table) (rows_of table))
 
--- the rows 1 to n that are kept; all of them
+-- the rows 1 to n that are kept
 abbrev pub kept_to : Table → ℕ → List ℕ
 kept_to table n = filter (λ row. not (is_skipped table row)) (rows_to table n)
 
+-- all rows that are kept
 abbrev pub kept_rows : Table → List ℕ
 kept_rows table = kept_to table (row_count table)
 
@@ -54,9 +55,11 @@ kept_rows table = kept_to table (row_count table)
 abbrev pub place_at : List (List ℕ) → Table → ℕ → ℕ × ℕ
 place_at trips table row = (unwrap_or (number_in trips (trip_id table row)) 0, unwrap_or (whole_of (stop_sequence table row)) 0)
 
+-- where a call stands
 abbrev pub place_of : StopTime → ℕ × ℕ
 place_of call = (call.trip, call.sequence)
 
+-- they are one place
 abbrev pub is_place : ℕ × ℕ → ℕ × ℕ → Bool
 is_place a b = (a.0 == b.0) && (a.1 == b.1)
 
@@ -64,6 +67,7 @@ is_place a b = (a.0 == b.0) && (a.1 == b.1)
 abbrev pub has_new_place : List (List ℕ) → Table → ℕ → Bool
 has_new_place trips table row = not (list_any (is_place (place_at trips table row)) (map (place_at trips table) (kept_to table (row - 1))))
 
+-- a time may be left out
 abbrev pub is_time_or_empty : List ℕ → Bool
 is_time_or_empty text = is_empty text || is_some (time_of text)
 
@@ -92,7 +96,7 @@ kept_tests stops trips table row =
 abbrev pub call_tests : List (List ℕ) → List (List ℕ) → Table → ℕ → List Test
 call_tests stops trips table row = if is_skipped table row then [] else kept_tests stops trips table row
 
--- the call of a row, under a number for its row; under the row's own
+-- the call of a row, under a number for its row
 abbrev pub call_numbered : List (List ℕ) → List (List ℕ) → Table → ℕ → ℕ → StopTime
 call_numbered stops trips table row number = record {
   row = number;
@@ -105,9 +109,11 @@ call_numbered stops trips table row number = record {
   alight = is_allowed (drop_off_type table row);
 }
 
+-- the call of a row, under the row's own number
 abbrev pub call_value : List (List ℕ) → List (List ℕ) → Table → ℕ → StopTime
 call_value stops trips table row = call_numbered stops trips table row row
 
+-- the calls of all rows that are kept
 abbrev pub call_values : List (List ℕ) → List (List ℕ) → Table → List StopTime
 call_values stops trips table = map (call_value stops trips table) (kept_rows table)
 
@@ -143,7 +149,7 @@ stay_stands table row =
 abbrev pub stands : List (List ℕ) → List (List ℕ) → Table → ℕ → Bool
 stands stops trips table row =
     has_text trips (trip_id table row) && has_text stops (stop_id table row) && is_some (whole_of (stop_sequence table row))
-        && stay_stands table row
+    && stay_stands table row
 
 -- when a row's call arrives and departs, and who may board and alight
 abbrev pub stay_at : Table → ℕ → Stay

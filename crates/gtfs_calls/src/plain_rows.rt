@@ -1,7 +1,7 @@
 //! The rows of a stop_times.txt, read as those of a file without a fault: a row that fails a test ends the reading, and the
 //! places of calls are left to whoever sorts them.
 
-ghost use Rattle.std.specs.Prelude.{◌≡◌, ◌≤◌, [], length, get_or, min, if◌then◌else◌, None, Some, IfOk, IfSome, true};
+ghost use Rattle.std.specs.Prelude.{◌≡◌, ◌≢◌, ◌≤◌, ◌↔◌, [], length, get_or, min, if◌then◌else◌, None, Some, IfNone, IfOk, IfSome, IsTrue};
 ghost use Rattle.std.specs.List.{All, flat_map};
 ghost use Rattle.gtfs_text.specs.Sheets.{Table, row_count};
 ghost use Rattle.gtfs_rows.specs.Faults.{first_fault};
@@ -10,7 +10,7 @@ ghost use Rattle.gtfs_calls.specs.StopTimes.{AreApart, AreCallColumns, IsKept, c
 ghost use Rattle.gtfs_calls.specs.TripTests.{AreInOrder, comes_before};
 
 use crate::stop_times::{CallColumns, stay_of};
-use gtfs_rows::{ROW_LIMIT, StopTime, Texts, field_under};
+use gtfs_rows::{ROW_LIMIT, StopTime, Texts, field_under, filled_rows};
 use gtfs_text::{Sheet, whole};
 use std::alloc::{AllocError, Global};
 
@@ -66,8 +66,8 @@ pub(crate) fn call_of(
     })
 }
 
-/// The calls of the rows in file order, and how many rows were skipped, where each test of a row holds but for those of places;
-/// so all of them do if the calls stand apart.
+/// The calls of the rows in file order, and how many rows were skipped, where each test of a row holds but for those of places:
+/// these hold exactly where the calls stand apart. None only where some test of a row fails.
 pub(crate) fn plain_calls(
     alloc: Global,
     sheet: &Sheet,
@@ -78,8 +78,10 @@ pub(crate) fn plain_calls(
     requires columns { AreCallColumns sheet.now columns }
     requires stops { length stops.now.keys ≤ 65_534 }
     requires trips { length trips.now.keys ≤ 999_999_999 }
+    ensures none { IfOk result (λ read. IfNone read
+        (first_fault (flat_map (call_tests (texts_in stops.now.keys) (texts_in trips.now.keys) sheet.now) (rows_of sheet.now)) ≢ None)) }
     ensures tests { IfOk result (λ read. IfSome read (λ rows. AreApart rows.0.items
-        → first_fault (flat_map (call_tests (texts_in stops.now.keys) (texts_in trips.now.keys) sheet.now) (rows_of sheet.now)) ≡ None)) }
+        ↔ (first_fault (flat_map (call_tests (texts_in stops.now.keys) (texts_in trips.now.keys) sheet.now) (rows_of sheet.now)) ≡ None))) }
     ensures calls { IfOk result (λ read. IfSome read (λ rows. row_count sheet.now ≤ 999_999_999
         → rows.0.items ≡ call_values (texts_in stops.now.keys) (texts_in trips.now.keys) sheet.now)) }
     ensures skipped { IfOk result (λ read. IfSome read (λ rows. rows.1 ≡ skipped_calls sheet.now)) }
@@ -89,22 +91,19 @@ pub(crate) fn plain_calls(
     let mut calls = Vec::new(alloc);
     let mut skipped = 0;
     let mut before: Option<KnownTrip<'_>> = None;
-    for done in 0..sheet.rows() {
-        let row = done + 1;
-        if !sheet.blank(row) {
-            sheet.fields(row, &mut fields)?;
-            if field_under(&fields, columns.stop).is_empty() {
-                skipped += 1;
-            } else {
-                let Some(call) = call_of(&fields, columns, stops, trips, before, row) else {
-                    return Ok(None);
-                };
-                before = Some(KnownTrip {
-                    id: field_under(&fields, columns.trip),
-                    number: call.trip as usize,
-                });
-                calls.push(call)?;
-            }
+    for row in filled_rows(sheet) {
+        sheet.fields(row, &mut fields)?;
+        if field_under(&fields, columns.stop).is_empty() {
+            skipped += 1;
+        } else {
+            let Some(call) = call_of(&fields, columns, stops, trips, before, row) else {
+                return Ok(None);
+            };
+            before = Some(KnownTrip {
+                id: field_under(&fields, columns.trip),
+                number: call.trip as usize,
+            });
+            calls.push(call)?;
         }
     }
     Ok(Some((calls, skipped)))
@@ -119,7 +118,7 @@ fn comes_before(call: &StopTime, other: &StopTime) -> bool
 
 /// Whether each call stands before all behind it, by trip and stop_sequence.
 pub(crate) fn are_in_order(calls: &[StopTime]) -> bool
-    ensures { result ≡ true → AreInOrder calls.now }
+    ensures { IsTrue result ↔ AreInOrder calls.now }
 {
     for place in 1..calls.len() {
         if !comes_before(&calls[place - 1], &calls[place]) {

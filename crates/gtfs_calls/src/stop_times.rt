@@ -1,21 +1,22 @@
 //! stop_times.txt.
 
-ghost use Rattle.std.specs.Prelude.{◌≡◌, ◌<◌, ◌≤◌, ◌++◌, [], ◌∷◌, length, get_or, codes, map, not, is_some, if◌then◌else◌, None, Some, Option, List, IfOk, OnOk, IfSome, IsPermutation, ℕ, ◌-◌, min};
-ghost use Rattle.std.specs.List.{All, IsDistinct, flat_map};
+ghost use Rattle.std.specs.Prelude.{◌≡◌, ◌≢◌, ◌<◌, ◌≤◌, ◌++◌, [], ◌∷◌, length, get_or, map, if◌then◌else◌, None, Some, Option, List, IfNone, IfOk, OnOk, IfSome, IsPermutation, ℕ, ◌-◌};
+ghost use Rattle.std.specs.List.{All, flat_map};
 ghost use Rattle.gtfs_text.specs.Sheets.{Table, row_count};
 ghost use Rattle.gtfs_text.specs.Values.{time_of};
 ghost use Rattle.gtfs_rows.specs.declared.fault.FeedFile.TheVariants as files;
-ghost use Rattle.gtfs_rows.specs.Faults.{Answers, Passes};
+ghost use Rattle.gtfs_rows.specs.Faults.{Answers, Explains, Passes, first_fault};
 ghost use Rattle.gtfs_rows.specs.Rows.{IsContent, opening_tests, rows_of, table_in, texts_in};
-ghost use Rattle.gtfs_calls.specs.StopTimes.{AreApart, AreCallColumns, IsKept, call_lists, call_numbered, call_tests, call_values, is_allowed, is_boarding_rule, is_place, is_skipped, is_time_or_empty, kept_tests, kept_to, place_at, place_of, skipped_calls, stay_at, stay_stands, stop_times_tests};
+ghost use Rattle.gtfs_calls.specs.StopTimes.{AreApart, AreCallColumns, IsKept, call_lists, call_tests, call_values, is_allowed, is_boarding_rule, is_time_or_empty, kept_tests, kept_to, place_at, skipped_calls, stay_at, stay_stands, stop_times_tests};
 ghost use Rattle.gtfs_calls.specs.TripTests.{AreInOrder, calls_of_trip, in_sequence};
 ghost use Rattle.gtfs_calls.specs.CallLists.{AreCallLists};
 
-use crate::plain_rows::{are_in_order, call_of, plain_calls};
+use crate::plain_rows::{are_in_order, plain_calls};
 use crate::trip_calls::TripCalls;
 use crate::trip_tests::cut_calls;
 use gtfs_rows::{
-    FaultKind, FeedFault, FeedFile, ROW_LIMIT, StopTime, Texts, field_under, open_sheet, text_under,
+    FaultKind, FeedFault, FeedFile, ROW_LIMIT, StopTime, Texts, field_under, filled_rows,
+    open_sheet, text_under,
 };
 use gtfs_text::{Sheet, time, whole};
 use indexmap::IndexSet;
@@ -109,8 +110,8 @@ pub(crate) fn stay_of(fields: &[&str], columns: CallColumns) -> Option<Stay>
     })
 }
 
-// Tests the row of a call, and gives its values. Its place joins those of the rows before it.
-fn read_call(
+// Tests the row of a call. Its place joins those of the rows before it.
+fn test_row(
     alloc: Global,
     sheet: &Sheet,
     columns: CallColumns,
@@ -118,17 +119,13 @@ fn read_call(
     trips: &Texts<'_>,
     places: &mut CallPlaces,
     row: usize,
-) -> Result<StopTime, FeedFault>
+) -> Result<(), FeedFault>
     requires row { row < length sheet.now }
     requires columns { AreCallColumns sheet.now columns }
-    requires stops { length stops.now.keys ≤ 65_534 }
     requires trips { length trips.now.keys ≤ 999_999_999 }
     requires places { places.old.keys ≡ map (place_at (texts_in trips.now.keys) sheet.now) (kept_to sheet.now (row - 1)) }
-    ensures call { Answers (λ call. call) result (kept_tests (texts_in stops.now.keys) (texts_in trips.now.keys) sheet.now row)
-        (call_numbered (texts_in stops.now.keys) (texts_in trips.now.keys) sheet.now row (min row 999_999_999)) }
-    ensures kept { IfOk result (IsKept (length stops.now.keys) (length trips.now.keys)) }
-    ensures places { IfOk result (λ call. places.new.keys ≡ places.old.keys ++ place_of call ∷ []) }
-    ensures apart { OnOk result (IsDistinct is_place places.new.keys) }
+    ensures tests { Passes result (kept_tests (texts_in stops.now.keys) (texts_in trips.now.keys) sheet.now row) }
+    ensures places { OnOk result (places.new.keys ≡ places.old.keys ++ place_at (texts_in trips.now.keys) sheet.now row ∷ []) }
 {
     let Some(trip) = trips.get_index_of(text_under(sheet, columns.trip, row)) else {
         return Err(FeedFault::new(FaultKind::UnknownReference, FeedFile::StopTimes, row));
@@ -145,47 +142,37 @@ fn read_call(
     }
     let mut fields = Vec::new(alloc);
     sheet.fields(row, &mut fields)?;
-    let Some(call) = call_of(&fields, columns, stops, trips, None, row) else {
+    let Some(_) = stay_of(&fields, columns) else {
         return Err(FeedFault::new(FaultKind::BadField, FeedFile::StopTimes, row));
     };
-    Ok(call)
+    Ok(())
 }
 
-// Reads each row with all its tests: the calls in file order, and how many rows were skipped.
-fn read_rows(
+// The fault of the first row that fails a test, in a file where one does. To find it, the places of calls are kept.
+fn row_fault(
     alloc: Global,
     keys: RandomState,
     sheet: &Sheet,
     columns: CallColumns,
     stops: &Texts<'_>,
     trips: &Texts<'_>,
-) -> Result<(Vec<StopTime>, usize), FeedFault>
+) -> FeedFault
     requires columns { AreCallColumns sheet.now columns }
-    requires stops { length stops.now.keys ≤ 65_534 }
     requires trips { length trips.now.keys ≤ 999_999_999 }
-    ensures tests { Passes result (flat_map (call_tests (texts_in stops.now.keys) (texts_in trips.now.keys) sheet.now)
-        (rows_of sheet.now)) }
-    ensures calls { IfOk result (λ rows. row_count sheet.now ≤ 999_999_999
-        → rows.0.items ≡ call_values (texts_in stops.now.keys) (texts_in trips.now.keys) sheet.now) }
-    ensures skipped { IfOk result (λ rows. rows.1 ≡ skipped_calls sheet.now) }
-    ensures kept { IfOk result (λ rows. All (IsKept (length stops.now.keys) (length trips.now.keys)) rows.0.items) }
-    ensures apart { IfOk result (λ rows. AreApart rows.0.items) }
+    requires fails { first_fault (flat_map (call_tests (texts_in stops.now.keys) (texts_in trips.now.keys) sheet.now)
+        (rows_of sheet.now)) ≢ None }
+    ensures { Explains (first_fault (flat_map (call_tests (texts_in stops.now.keys) (texts_in trips.now.keys) sheet.now)
+        (rows_of sheet.now))) result.kind result }
 {
     let mut places = IndexSet::with_hasher(alloc, keys);
-    let mut calls = Vec::new(alloc);
-    let mut skipped = 0;
-    for done in 0..sheet.rows() {
-        let row = done + 1;
-        if !sheet.blank(row) {
-            if text_under(sheet, columns.stop, row).is_empty() {
-                skipped += 1;
-            } else {
-                let call = read_call(alloc, sheet, columns, stops, trips, &mut places, row)?;
-                calls.push(call)?;
+    for row in filled_rows(sheet) {
+        if !text_under(sheet, columns.stop, row).is_empty() {
+            if let Err(fault) = test_row(alloc, sheet, columns, stops, trips, &mut places, row) {
+                return fault;
             }
         }
     }
-    Ok((calls, skipped))
+    unreachable!()
 }
 
 // Sorts calls by trip, and each trip's by stop_sequence.
@@ -199,8 +186,40 @@ fn sort_calls(calls: &mut Vec<StopTime>) -> Result<(), AllocError>
     Ok(())
 }
 
-// Reads each row: the calls by trip and stop_sequence, and how many rows were skipped. Only where some test of a row fails are
-// the places of calls kept, to find the first that does.
+// The calls of the rows by trip and stop_sequence, and how many rows were skipped; none only where some test of a row fails.
+// Their order shows whether two calls have one place, so no set of places is kept.
+fn calls_in_order(
+    alloc: Global,
+    sheet: &Sheet,
+    columns: CallColumns,
+    stops: &Texts<'_>,
+    trips: &Texts<'_>,
+) -> Result<Option<(Vec<StopTime>, usize)>, AllocError>
+    requires columns { AreCallColumns sheet.now columns }
+    requires stops { length stops.now.keys ≤ 65_534 }
+    requires trips { length trips.now.keys ≤ 999_999_999 }
+    ensures none { IfOk result (λ read. IfNone read
+        (first_fault (flat_map (call_tests (texts_in stops.now.keys) (texts_in trips.now.keys) sheet.now) (rows_of sheet.now)) ≢ None)) }
+    ensures tests { IfOk result (λ read. IfSome read (λ rows.
+        first_fault (flat_map (call_tests (texts_in stops.now.keys) (texts_in trips.now.keys) sheet.now) (rows_of sheet.now)) ≡ None)) }
+    ensures placed { IfOk result (λ read. IfSome read (λ rows. row_count sheet.now ≤ 999_999_999 → (trip : ℕ)
+        → calls_of_trip rows.0.items trip
+        ≡ in_sequence (calls_of_trip (call_values (texts_in stops.now.keys) (texts_in trips.now.keys) sheet.now) trip))) }
+    ensures order { IfOk result (λ read. IfSome read (λ rows. AreInOrder rows.0.items)) }
+    ensures skipped { IfOk result (λ read. IfSome read (λ rows. rows.1 ≡ skipped_calls sheet.now)) }
+    ensures kept { IfOk result (λ read. IfSome read (λ rows. All (IsKept (length stops.now.keys) (length trips.now.keys)) rows.0.items)) }
+{
+    let Some((mut calls, skipped)) = plain_calls(alloc, sheet, columns, stops, trips)? else {
+        return Ok(None);
+    };
+    sort_calls(&mut calls)?;
+    if !are_in_order(&calls) {
+        return Ok(None);
+    }
+    Ok(Some((calls, skipped)))
+}
+
+// Reads each row: the calls by trip and stop_sequence, and how many rows were skipped.
 fn sorted_rows(
     alloc: Global,
     keys: RandomState,
@@ -221,15 +240,10 @@ fn sorted_rows(
     ensures skipped { IfOk result (λ rows. rows.1 ≡ skipped_calls sheet.now) }
     ensures kept { IfOk result (λ rows. All (IsKept (length stops.now.keys) (length trips.now.keys)) rows.0.items) }
 {
-    if let Some((mut calls, skipped)) = plain_calls(alloc, sheet, columns, stops, trips)? {
-        sort_calls(&mut calls)?;
-        if are_in_order(&calls) {
-            return Ok((calls, skipped));
-        }
+    match calls_in_order(alloc, sheet, columns, stops, trips)? {
+        Some(rows) => Ok(rows),
+        None => Err(row_fault(alloc, keys, sheet, columns, stops, trips)),
     }
-    let (mut calls, skipped) = read_rows(alloc, keys, sheet, columns, stops, trips)?;
-    sort_calls(&mut calls)?;
-    Ok((calls, skipped))
 }
 
 // The calls of the file, where each of its tests holds.

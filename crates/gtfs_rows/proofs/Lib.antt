@@ -1,3 +1,4 @@
+pub mod FilledFacts
 pub mod LawFacts
 pub mod RowFacts
 pub mod TextFacts

@@ -1,5 +1,5 @@
 -- The rows of a sheet by column names, and the tests that each file has.
-use Rattle.std.specs.Prelude.{◌≡◌, Bool, false, not, ℕ, ◌-◌, List, [], ◌∷◌, ◌++◌, length, map, filter, get_or, position, Option, None, Some, is_some, is_none, unwrap_or, nat_le, if◌then◌else◌, ◌==◌, ◌&&◌}
+use Rattle.std.specs.Prelude.{◌≡◌, Bool, false, not, ℕ, ◌+◌, ◌-◌, List, [], ◌∷◌, ◌++◌, length, map, filter, get_or, position, Option, None, Some, is_some, is_none, unwrap_or, nat_le, if◌then◌else◌, ◌==◌, ◌&&◌}
 use Rattle.std.specs.List.{list_any, list_all, range_with_len, flat_map, fold, AllPairs}
 use Rattle.std.specs.Str.{bytes_eq}
 use denote.Ref.{Bor}
@@ -25,12 +25,17 @@ text_at table name row = text_under table (column_of table name) row
 abbrev pub is_empty : List ℕ → Bool
 is_empty text = length text == 0
 
--- the rows 1 to n that aren't blank; all of them
+-- the rows 1 to n that aren't blank
 abbrev pub rows_to : Table → ℕ → List ℕ
 rows_to table n = filter (λ row. not (is_blank table row)) (range_with_len 1 n)
 
+-- all rows that aren't blank
 abbrev pub rows_of : Table → List ℕ
 rows_of table = rows_to table (row_count table)
+
+-- the rows behind this one that aren't blank
+abbrev pub rows_behind : Table → ℕ → List ℕ
+rows_behind table row = filter (λ row. not (is_blank table row)) (range_with_len (row + 1) (row_count table - row))
 
 -- a text is one of these
 abbrev pub has_text : List (List ℕ) → List ℕ → Bool
@@ -60,11 +65,12 @@ texts_in keys = map (λ k. k.now) keys
 abbrev pub AreApart : (ℕ → List ℕ) → List ℕ → Type 0
 AreApart key rows = AllPairs (λ a b. bytes_eq (key b) (key a) ≡ false) rows
 
--- a file's records, as a table; none where there is no file
+-- a file's records; none where there is no file
 abbrev pub records_in : Option (List ℕ) → List (List (List ℕ))
 records_in None = []
 records_in (Some bytes) = records_of bytes
 
+-- a file's records, as a table
 abbrev pub table_in : Option (List ℕ) → Table
 table_in bytes = table_of (records_in bytes)
 
@@ -87,7 +93,7 @@ abbrev pub table_tests : FeedFile → List (List ℕ) → (Table → ℕ → Lis
 table_tests file columns row_tests is_small table =
     test kinds.MissingColumn file 0 (list_all (λ name. is_some (column_of table name)) columns)
     ∷ (flat_map (row_tests table) (rows_of table)
-        ++ test kinds.TooMany file 0 (nat_le (row_count table) 999_999_999 && is_small table) ∷ [])
+    ++ test kinds.TooMany file 0 (nat_le (row_count table) 999_999_999 && is_small table) ∷ [])
 
 -- the tests of a file that may be missing
 abbrev pub optional_tests : FeedFile → (Table → List Test) → Option (List ℕ) → List Test

@@ -2,6 +2,7 @@
 #![tactic(auto)]
 
 mod fault;
+mod filled;
 mod id;
 pub mod laws;
 mod opening;
@@ -9,6 +10,7 @@ mod rows;
 mod values;
 
 pub use fault::{FaultKind, FeedFault, FeedFile};
+pub use filled::{FilledRows, filled_rows};
 pub use id::Id;
 pub use opening::open_sheet;
 pub use rows::{ROW_LIMIT, Texts, field_under, text_under};

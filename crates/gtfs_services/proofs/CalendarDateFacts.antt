@@ -1,5 +1,5 @@
 -- Rows of calendar_dates.txt.
-use Rattle.std.proofs.Common.{◌≡◌, ◌∙◌, sym, ap, refl, ℕ, ◌+◌, ◌-◌, Bool, true, false, not, ◌&&◌, ◌||◌, ℤ, pos, List, [], ◌∷◌, ◌++◌, map, Option, None, Some, Bor, arith, rules, cond, codes}
+use Rattle.std.proofs.Common.{◌≡◌, ◌∙◌, sym, ap, refl, ℕ, Bool, true, false, not, ◌&&◌, ◌||◌, ℤ, pos, List, [], ◌∷◌, ◌++◌, map, Option, None, Some, Bor, rules, cond, codes}
 use Rattle.std.specs.Prelude.{is_some, unwrap_or}
 use Rattle.std.specs.List.{list_all, list_any}
 use Rattle.std.specs.Ordering.{int_eq}
@@ -11,7 +11,7 @@ use Rattle.indexmap.specs.IndexSet.{insert_key}
 use Rattle.jiff.specs.Words.{epoch_day}
 use Rattle.jiff.specs.declared.civil.Date.{Date}
 use Rattle.jiff.proofs.Family.{epoch_day_injective, epoch_day_same}
-use Rattle.gtfs_text.specs.Sheets.{Table, column_of, is_blank}
+use Rattle.gtfs_text.specs.Sheets.{Table, column_of}
 use Rattle.gtfs_text.specs.Values.{date_of, ymd}
 use Rattle.gtfs_rows.specs.declared.values.CalendarDate.{CalendarDate}
 use Rattle.gtfs_rows.specs.declared.values.DateChange.{DateChange}
@@ -19,8 +19,9 @@ use Rattle.gtfs_rows.specs.declared.values.DateChange.TheVariants.{Removed}
 use Rattle.gtfs_rows.specs.declared.fault.FaultKind.TheVariants as kinds
 use Rattle.gtfs_rows.specs.declared.fault.FeedFile.TheVariants as files
 use Rattle.gtfs_rows.specs.Faults.{first_fault, fault_at, test}
-use Rattle.gtfs_rows.specs.Rows.{is_empty, rows_to}
-use Rattle.gtfs_rows.proofs.RowFacts.{first_more, is_there, row_joins}
+use Rattle.gtfs_rows.specs.Rows.{is_empty}
+use Rattle.gtfs_rows.proofs.FilledFacts.{IsTurn}
+use Rattle.gtfs_rows.proofs.RowFacts.{first_more, is_there}
 use Rattle.gtfs_rows.proofs.TextFacts.{any-map}
 use Rattle.gtfs_services.specs.declared.calendar_dates.DateColumns.{DateColumns}
 use Rattle.gtfs_services.specs.Dates.{is_date}
@@ -90,24 +91,24 @@ any_is a (b ∷ bs) = λ k. same_is a b k || any_is a bs k
 abbrev pub row_parts : Table → ℕ → Parts
 row_parts table row = parts_of (service_date table row)
 
--- a set lacks a key exactly where no row before this one names its service and its day
-pub key_is_new : (table : Table) (n : ℕ) (keys : List Key) (key : Key) → parts_in keys ≡ map (row_parts table) (rows_to table n) → ◌≡◌ {A = Parts} (key.0.now, key.1, key.2, key.3) (row_parts table (n + 1))
-    → not (list_any (same_key key) keys) ≡ is_new_date table (n + 1)
-key_is_new table n keys key holds same =
-    let before : n ≡ n + 1 - 1 = omega arith in
+-- a set of the keys of the rows so far lacks a key exactly where no row before this one names its service and its day
+pub key_is_new : (table : Table) (given : List ℕ) (row : ℕ) (keys : List Key) (key : Key) → IsTurn table given row → parts_in keys ≡ map (row_parts table) given
+    → ◌≡◌ {A = Parts} (key.0.now, key.1, key.2, key.3) (row_parts table row) → not (list_any (same_key key) keys) ≡ is_new_date table row
+key_is_new table given row keys key turn holds same =
     ap not (sym (any-map (same_parts (key.0.now, key.1, key.2, key.3)) (λ (k : Key). (k.0.now, k.1, k.2, k.3)) keys) ∙ ap (list_any (same_parts (key.0.now, key.1, key.2, key.3))) holds
-    ∙ ap (λ (p : Parts). list_any (same_parts p) (map (row_parts table) (rows_to table n))) same
-    ∙ ap (list_any (same_parts (row_parts table (n + 1)))) (sym (map-map parts_of (service_date table) (rows_to table n)))
-    ∙ any_is (service_date table (n + 1)) (map (service_date table) (rows_to table n))
-    ∙ ap (λ (m : ℕ). list_any (is_same (service_date table (n + 1))) (map (service_date table) (rows_to table m))) before)
+    ∙ ap (λ (p : Parts). list_any (same_parts p) (map (row_parts table) given)) same
+    ∙ ap (list_any (same_parts (row_parts table row))) (sym (map-map parts_of (service_date table) given))
+    ∙ any_is (service_date table row) (map (service_date table) given)
+    ∙ ap (λ rows. list_any (is_same (service_date table row)) (map (service_date table) rows)) turn.before)
 
 -- a new key joins those before it
-pub key_joins : (table : Table) (n : ℕ) (keys : List Key) (key : Key) → is_blank table (n + 1) ≡ false → parts_in keys ≡ map (row_parts table) (rows_to table n) → ◌≡◌ {A = Parts} (key.0.now, key.1, key.2, key.3) (row_parts table (n + 1))
-    → not (list_any (same_key key) keys) ≡ true → parts_in (insert_key same_key keys key) ≡ map (row_parts table) (rows_to table (n + 1))
-key_joins table n keys key there holds same new =
+pub key_joins : (table : Table) (given : List ℕ) (row : ℕ) (keys : List Key) (key : Key) → parts_in keys ≡ map (row_parts table) given
+    → ◌≡◌ {A = Parts} (key.0.now, key.1, key.2, key.3) (row_parts table row) → not (list_any (same_key key) keys) ≡ true
+    → parts_in (insert_key same_key keys key) ≡ map (row_parts table) (given ++ row ∷ [])
+key_joins table given row keys key holds same new =
     let lacks : list_any (same_key key) keys ≡ false = isnt (list_any (same_key key) keys) new in
     rw lacks (map_push (λ (k : Key). (k.0.now, k.1, k.2, k.3)) keys key ∙ ap (λ (parts : List Parts). parts ++ (key.0.now, key.1, key.2, key.3) ∷ []) holds
-    ∙ ap (λ (p : Parts). map (row_parts table) (rows_to table n) ++ p ∷ []) same ∙ sym (map_push (row_parts table) (rows_to table n) (n + 1)) ∙ ap (map (row_parts table)) (sym (row_joins table n there)))
+    ∙ ap (λ (p : Parts). map (row_parts table) given ++ p ∷ []) same ∙ sym (map_push (row_parts table) given row))
   where
     isnt : (b : Bool) → not b ≡ true → b ≡ false
     isnt true h = cc h

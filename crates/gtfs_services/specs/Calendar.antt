@@ -52,7 +52,7 @@ calendar_row_tests table row =
     ∷ test kinds.BadField files.Calendar row (is_date (end_date table row))
     ∷ []
 
--- a service, its weekdays from Monday on, and the ends of its range of dates
+-- the value of a row: a service, its weekdays from Monday on, and the ends of its range of dates
 abbrev pub calendar_row_value : Table → ℕ → CalendarRow
 calendar_row_value table row = record {
   service = service_id table row;
@@ -61,6 +61,7 @@ calendar_row_value table row = record {
   end = date_at (end_date table row);
 }
 
+-- the values of all rows
 abbrev pub calendar_values : Table → List CalendarRow
 calendar_values table = map (calendar_row_value table) (rows_of table)
 

@@ -34,6 +34,7 @@ change_of text = if bytes_eq text (codes "1") then Some Added else (if bytes_eq 
 abbrev pub service_date : Table → ℕ → List ℕ × Date
 service_date table row = (service_id table row, date_at (date table row))
 
+-- they are of one service, on one day
 abbrev pub is_same : List ℕ × Date → List ℕ × Date → Bool
 is_same a b = bytes_eq a.0 b.0 && int_eq (epoch_day a.1) (epoch_day b.1)
 
@@ -41,6 +42,7 @@ is_same a b = bytes_eq a.0 b.0 && int_eq (epoch_day a.1) (epoch_day b.1)
 abbrev pub is_new_date : Table → ℕ → Bool
 is_new_date table row = not (list_any (is_same (service_date table row)) (map (service_date table) (rows_to table (row - 1))))
 
+-- the tests of a row's fields
 abbrev pub field_tests : Table → ℕ → List Test
 field_tests table row =
     test kinds.BadField files.CalendarDates row (not (is_empty (service_id table row)))
@@ -48,15 +50,20 @@ field_tests table row =
     ∷ test kinds.BadField files.CalendarDates row (is_some (change_of (exception_type table row)))
     ∷ []
 
+-- the tests of a row
 abbrev pub calendar_date_tests : Table → ℕ → List Test
 calendar_date_tests table row = field_tests table row ++ test kinds.DuplicateKey files.CalendarDates row (is_new_date table row) ∷ []
 
--- a service, a date, and what becomes of the service on that date
+-- the value of a row: a service, a date, and what becomes of the service on that date
 abbrev pub calendar_date_value : Table → ℕ → CalendarDate
 calendar_date_value table row =
-    record { service = service_id table row; date = date_at (date table row);
-        change = unwrap_or (change_of (exception_type table row)) Removed }
+    record {
+      service = service_id table row;
+      date = date_at (date table row);
+      change = unwrap_or (change_of (exception_type table row)) Removed;
+    }
 
+-- the values of all rows
 abbrev pub calendar_date_values : Table → List CalendarDate
 calendar_date_values table = map (calendar_date_value table) (rows_of table)
 

@@ -1,8 +1,9 @@
 -- The dates that fields name, as dates of the crate jiff. GTFS Schedule reference, "Field types", Date.
 use Rattle.std.specs.Prelude.{◌≡◌, ◌≤◌, ℕ, Bool, true, false, List, Some, take, drop, max, min, ℤ, pos, is_some, cond, ◌==◌, ◌||◌}
 use Rattle.std.specs.Int.{IsInRange}
-use Rattle.std.proofs.Common.{arith, lit≤}
-use Rattle.std.proofs.lemmas.Int.{ints}
+use Rattle.std.proofs.Common.{lit≤}
+use Rattle.std.proofs.Math.Facts.{yes_leb}
+use Rattle.std.proofs.Math.Nat.{le-max_left, max-le, min-le_left}
 use Rattle.jiff.specs.Words.{IsYear, days_in_month, is_leap_year}
 use Rattle.jiff.specs.declared.civil.Date.{Date}
 use Rattle.gtfs_text.specs.Values.{decimal, date_of, ymd}
@@ -16,18 +17,20 @@ abbrev pub nearest : ℕ → ℕ → ℕ → ℕ
 nearest least most n = max least (min most n)
 
 pub nearest_is_in : (least most n : ℕ) → least ≤ most → IsInRange least most (nearest least most n)
-nearest_is_in least most n some = (omega arith, omega arith)
+nearest_is_in least most n some = (le-max_left least (min most n), max-le some (min-le_left most n))
 
 pub is_year : (year : ℕ) → IsYear (pos (nearest 0 9999 year))
-is_year year = (omega (arith, ints), omega (arith, ints))
+is_year year = (record { le = tt }, record { le = yes_leb (nearest_is_in 0 9999 year (lit≤ tt)).1 })
 
 pub has_days : (year : ℤ) (month : ℕ) → 1 ≤ days_in_month year month
 has_days year month =
     elim (month == 2) as (λ b. 1 ≤ cond b (cond (is_leap_year year) 29 28)
-        (cond ((month == 4) || (month == 6) || (month == 9) || (month == 11)) 30 31)) [
-      | true ↦ elim (is_leap_year year) as (λ b. 1 ≤ cond b 29 28) [ true ↦ omega arith | false ↦ omega arith ]
+    (cond ((month == 4) || (month == 6) || (month == 9) || (month == 11)) 30 31)) [
+      | true ↦ elim (is_leap_year year) as (λ b. 1 ≤ cond b 29 28) [ true ↦ lit≤ tt | false ↦ lit≤ tt ]
       | false ↦ elim ((month == 4) || (month == 6) || (month == 9) || (month == 11)) as (λ b. 1 ≤ cond b 30 31) [
-        true ↦ omega arith | false ↦ omega arith ]
+        | true ↦ lit≤ tt
+        | false ↦ lit≤ tt
+      ]
     ]
 
 -- the date of a year, a month and a day; where the calendar has no such day, each is brought to the nearest number that a date takes

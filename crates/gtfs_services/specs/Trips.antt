@@ -7,7 +7,7 @@ use Rattle.gtfs_rows.specs.declared.fault.FeedFile.TheVariants as files
 use Rattle.gtfs_services.specs.declared.trips.TripColumns.{TripColumns}
 use Rattle.gtfs_rows.specs.declared.values.Trip.{Trip}
 use Rattle.gtfs_rows.specs.Faults.{Test, test}
-use Rattle.gtfs_rows.specs.Rows.{text_at, is_empty, has_new_key, rows_of, rows_to, distinct, number_in, table_tests}
+use Rattle.gtfs_rows.specs.Rows.{text_at, is_empty, has_new_key, rows_of, distinct, number_in, table_tests}
 
 abbrev pub trip_id : Table → ℕ → List ℕ
 trip_id table row = text_at table (codes "trip_id") row
@@ -25,17 +25,15 @@ trip_tests table row =
 abbrev pub trip_ids : Table → List (List ℕ)
 trip_ids table = map (trip_id table) (rows_of table)
 
--- the services that the first n rows name, in the order of their first trips; those of all rows
-abbrev pub services_to : Table → ℕ → List (List ℕ)
-services_to table n = distinct (map (service_id table) (rows_to table n))
-
+-- the services that trips name, in the order of their first trips
 abbrev pub service_values : Table → List (List ℕ)
 service_values table = distinct (map (service_id table) (rows_of table))
 
--- a trip, and the number of its service
+-- the value of a row: a trip, and the number of its service
 abbrev pub trip_value : Table → ℕ → Trip
 trip_value table row = record { id = trip_id table row; service = unwrap_or (number_in (service_values table) (service_id table row)) 0 }
 
+-- the values of all rows
 abbrev pub trip_values : Table → List Trip
 trip_values table = map (trip_value table) (rows_of table)
 

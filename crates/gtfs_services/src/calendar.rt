@@ -8,7 +8,8 @@ ghost use Rattle.gtfs_rows.specs.Rows.{IsContent, has_new_key, optional_tests, r
 ghost use Rattle.gtfs_services.specs.Calendar.{service_id, flag_of, weekdays_in, calendar_row_tests, calendar_row_value, calendar_tests, calendar_values, AreCalendarColumns};
 
 use gtfs_rows::{
-    CalendarRow, FaultKind, FeedFault, FeedFile, Id, ROW_LIMIT, Texts, open_sheet, text_under,
+    CalendarRow, FaultKind, FeedFault, FeedFile, Id, ROW_LIMIT, Texts, filled_rows, open_sheet,
+    text_under,
 };
 use gtfs_text::{Sheet, date};
 use indexmap::IndexSet;
@@ -123,13 +124,10 @@ fn read_rows(
 {
     let mut services: Texts<'_> = IndexSet::with_hasher(alloc, keys);
     let mut rows = Vec::new(alloc);
-    for done in 0..sheet.rows() {
-        let row = done + 1;
-        if !sheet.blank(row) {
-            let is_new = services.insert(text_under(sheet, columns.service, row))?;
-            let value = read_row(alloc, sheet, columns, is_new, row)?;
-            rows.push(value)?;
-        }
+    for row in filled_rows(sheet) {
+        let is_new = services.insert(text_under(sheet, columns.service, row))?;
+        let value = read_row(alloc, sheet, columns, is_new, row)?;
+        rows.push(value)?;
     }
     Ok(rows)
 }

@@ -8,7 +8,8 @@ ghost use Rattle.gtfs_rows.specs.Rows.{IsContent, optional_tests, rows_of, table
 ghost use Rattle.gtfs_services.specs.CalendarDates.{change_of, field_tests, calendar_date_tests, calendar_date_value, calendar_dates_tests, calendar_date_values, AreDateColumns};
 
 use gtfs_rows::{
-    CalendarDate, DateChange, FaultKind, FeedFault, FeedFile, Id, ROW_LIMIT, open_sheet, text_under,
+    CalendarDate, DateChange, FaultKind, FeedFault, FeedFile, Id, ROW_LIMIT, filled_rows,
+    open_sheet, text_under,
 };
 use gtfs_text::{Sheet, date};
 use indexmap::IndexSet;
@@ -99,17 +100,14 @@ fn read_rows(
 {
     let mut dates: IndexSet<ServiceDate<'_>, RandomState> = IndexSet::with_hasher(alloc, keys);
     let mut rows = Vec::new(alloc);
-    for done in 0..sheet.rows() {
-        let row = done + 1;
-        if !sheet.blank(row) {
-            let value = read_row(alloc, sheet, columns, row)?;
-            let service = text_under(sheet, columns.service, row);
-            let is_new = dates.insert(service_date(service, value.date))?;
-            if !is_new {
-                return Err(FeedFault::new(FaultKind::DuplicateKey, FeedFile::CalendarDates, row));
-            }
-            rows.push(value)?;
+    for row in filled_rows(sheet) {
+        let value = read_row(alloc, sheet, columns, row)?;
+        let service = text_under(sheet, columns.service, row);
+        let is_new = dates.insert(service_date(service, value.date))?;
+        if !is_new {
+            return Err(FeedFault::new(FaultKind::DuplicateKey, FeedFile::CalendarDates, row));
         }
+        rows.push(value)?;
     }
     Ok(rows)
 }

@@ -8,7 +8,9 @@ ghost use Rattle.gtfs_rows.specs.Faults.{Answers, Passes, fault_at, first_fault}
 ghost use Rattle.gtfs_rows.specs.Rows.{has_new_key, rows_of, texts_in};
 ghost use Rattle.gtfs_services.specs.Trips.{trip_id, trip_ids, trip_tests, trips_tests, trip_values, service_values, AreTripColumns};
 
-use gtfs_rows::{FaultKind, FeedFault, FeedFile, Id, ROW_LIMIT, Texts, Trip, text_under};
+use gtfs_rows::{
+    FaultKind, FeedFault, FeedFile, Id, ROW_LIMIT, Texts, Trip, filled_rows, text_under,
+};
 use gtfs_text::Sheet;
 use indexmap::IndexSet;
 use std::alloc::{AllocError, Global};
@@ -70,13 +72,10 @@ fn test_rows<'a>(
     ensures ids { IfOk result (λ ids. texts_in ids.keys ≡ trip_ids sheet.now) }
 {
     let mut ids = IndexSet::with_hasher(alloc, keys);
-    for done in 0..sheet.rows() {
-        let row = done + 1;
-        if !sheet.blank(row) {
-            let is_new = ids.insert(text_under(sheet, columns.id, row))?;
-            if let Some(kind) = row_fault(sheet, columns, is_new, row) {
-                return Err(FeedFault::new(kind, FeedFile::Trips, row));
-            }
+    for row in filled_rows(sheet) {
+        let is_new = ids.insert(text_under(sheet, columns.id, row))?;
+        if let Some(kind) = row_fault(sheet, columns, is_new, row) {
+            return Err(FeedFault::new(kind, FeedFile::Trips, row));
         }
     }
     Ok(ids)
@@ -96,16 +95,13 @@ fn keep_trips<'a>(
     ensures services { OnOk result (texts_in services.new.keys ≡ service_values sheet.now) }
 {
     let mut trips = Vec::new(alloc);
-    for done in 0..sheet.rows() {
-        let row = done + 1;
-        if !sheet.blank(row) {
-            let id = Id::new(alloc, text_under(sheet, columns.id, row))?;
-            let (number, _) = services.insert_full(text_under(sheet, columns.service, row))?;
-            trips.push(Trip {
-                id,
-                service: number as u32,
-            })?;
-        }
+    for row in filled_rows(sheet) {
+        let id = Id::new(alloc, text_under(sheet, columns.id, row))?;
+        let (number, _) = services.insert_full(text_under(sheet, columns.service, row))?;
+        trips.push(Trip {
+            id,
+            service: number as u32,
+        })?;
     }
     Ok(trips)
 }

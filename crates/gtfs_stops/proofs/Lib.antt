@@ -1,1 +1,2 @@
+pub mod LawFacts
 pub mod TransferFacts

@@ -31,10 +31,11 @@ abbrev pub means : RowKind → List ℕ → Bool
 means row_kinds.Stop text = means_stop text
 means row_kinds.Station text = bytes_eq text (codes "1")
 
--- the rows of a kind, and their ids
+-- the rows of a kind
 abbrev pub rows_of_kind : RowKind → Table → List ℕ
 rows_of_kind kind table = filter (λ row. means kind (location_type table row)) (rows_of table)
 
+-- the ids of those rows
 abbrev pub ids_of_kind : RowKind → Table → List (List ℕ)
 ids_of_kind kind table = map (stop_id table) (rows_of_kind kind table)
 
@@ -52,19 +53,22 @@ stop_tests table row =
     test kinds.BadField files.Stops row (not (is_empty (stop_id table row)))
     ∷ test kinds.DuplicateKey files.Stops row (has_new_key table (stop_id table) row)
     ∷ test kinds.UnknownReference files.Stops row
-        (parent_stands (means_stop (location_type table row)) (parent_station table row) (ids_of_kind row_kinds.Station table))
+    (parent_stands (means_stop (location_type table row)) (parent_station table row) (ids_of_kind row_kinds.Station table))
     ∷ []
 
 -- a stop, and the number of the station that it belongs to, among the ids of stations
 abbrev pub stop_among : List (List ℕ) → Table → ℕ → Stop
 stop_among stations table row = record { id = stop_id table row; station = number_in stations (parent_station table row) }
 
+-- the stops of a file
 abbrev pub stop_values : Table → List Stop
 stop_values table = map (stop_among (ids_of_kind row_kinds.Station table) table) (rows_of_kind row_kinds.Stop table)
 
+-- a station, by its id
 abbrev pub station_of : List ℕ → Station
 station_of id = record { id = id }
 
+-- the stations of a file
 abbrev pub station_values : Table → List Station
 station_values table = map station_of (ids_of_kind row_kinds.Station table)
 
@@ -93,10 +97,15 @@ pub record IdLists : Type 0 where
   pub stops : List (List ℕ)
   pub stations : List (List ℕ)
 
+-- those of a file
 abbrev pub id_lists : Table → IdLists
 id_lists table =
-    record { all = map (stop_id table) (rows_of table); stops = ids_of_kind row_kinds.Stop table;
-        stations = ids_of_kind row_kinds.Station table }
+    record {
+      all = map (stop_id table) (rows_of table);
+      stops = ids_of_kind row_kinds.Stop table;
+      stations = ids_of_kind row_kinds.Station table;
+    }
 
+-- those that sets hold
 abbrev pub lists_in : StopIds → IdLists
 lists_in ids = record { all = texts_in ids.all.keys; stops = texts_in ids.stops.keys; stations = texts_in ids.stations.keys }

@@ -105,13 +105,13 @@ transfer_tests ids table row =
 abbrev pub transfer_between : Option Place → Option Place → Option TransferType → Option ℕ → Option Transfer
 transfer_between from to kind time =
     option_and_then (λ f. option_and_then (λ t.
-        option_map (λ k. record { from = f; to = t; transfer_type = k; min_transfer_time = time }) kind) to) from
+    option_map (λ k. record { from = f; to = t; transfer_type = k; min_transfer_time = time }) kind) to) from
 
 abbrev pub kept_transfer : IdLists → Table → ℕ → Option Transfer
 kept_transfer ids table row =
     if is_between_places table row
     then transfer_between (place_of ids (from_id table row)) (place_of ids (to_id table row)) (type_of (type_text table row))
-        (short_time (time_text table row))
+    (short_time (time_text table row))
     else None
 
 abbrev pub transfer_values : IdLists → Table → List Transfer

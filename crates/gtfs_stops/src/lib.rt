@@ -1,6 +1,7 @@
 //! Stops, stations and the transfers between them: stops.txt and transfers.txt.
 #![tactic(auto)]
 
+pub mod laws;
 mod stops;
 mod transfers;
 

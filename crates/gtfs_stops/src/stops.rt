@@ -9,7 +9,9 @@ ghost use Rattle.gtfs_rows.specs.Faults.{Answers, Passes, fault_at, first_fault}
 ghost use Rattle.gtfs_rows.specs.Rows.{has_new_key, rows_of, distinct, number_in, texts_in, AreApart};
 ghost use Rattle.gtfs_stops.specs.Stops.{means_stop, means, parent_stands, stop_id, ids_of_kind, rows_of_kind, stop_among, station_of, stop_values, station_values, stop_tests, stops_tests, AreStopColumns, AreStopIds};
 
-use gtfs_rows::{FaultKind, FeedFault, FeedFile, Id, ROW_LIMIT, Station, Stop, Texts, text_under};
+use gtfs_rows::{
+    FaultKind, FeedFault, FeedFile, Id, ROW_LIMIT, Station, Stop, Texts, filled_rows, text_under,
+};
 use gtfs_text::Sheet;
 use indexmap::IndexSet;
 use std::alloc::{AllocError, Global};
@@ -87,9 +89,8 @@ fn ids_of<'a>(
     ensures { IfOk result (λ ids. texts_in ids.keys ≡ distinct (ids_of_kind kind sheet.now)) }
 {
     let mut ids = IndexSet::with_hasher(alloc, keys);
-    for done in 0..sheet.rows() {
-        let row = done + 1;
-        if !sheet.blank(row) && means(kind, text_under(sheet, columns.location_type, row)) {
+    for row in filled_rows(sheet) {
+        if means(kind, text_under(sheet, columns.location_type, row)) {
             ids.insert(text_under(sheet, columns.id, row))?;
         }
     }
@@ -144,13 +145,10 @@ fn test_rows<'a>(
     ensures apart { OnOk result (AreApart (stop_id sheet.now) (rows_of sheet.now)) }
 {
     let mut ids = IndexSet::with_hasher(alloc, keys);
-    for done in 0..sheet.rows() {
-        let row = done + 1;
-        if !sheet.blank(row) {
-            let is_new = ids.insert(text_under(sheet, columns.id, row))?;
-            if let Some(kind) = row_fault(sheet, columns, stations, is_new, row) {
-                return Err(FeedFault::new(kind, FeedFile::Stops, row));
-            }
+    for row in filled_rows(sheet) {
+        let is_new = ids.insert(text_under(sheet, columns.id, row))?;
+        if let Some(kind) = row_fault(sheet, columns, stations, is_new, row) {
+            return Err(FeedFault::new(kind, FeedFile::Stops, row));
         }
     }
     Ok(ids)
@@ -169,9 +167,8 @@ fn keep_stops(
         (rows_of_kind row_kinds.Stop sheet.now)) }
 {
     let mut stops = Vec::new(alloc);
-    for done in 0..sheet.rows() {
-        let row = done + 1;
-        if !sheet.blank(row) && means_stop(text_under(sheet, columns.location_type, row)) {
+    for row in filled_rows(sheet) {
+        if means_stop(text_under(sheet, columns.location_type, row)) {
             let id = Id::new(alloc, text_under(sheet, columns.id, row))?;
             let station = number_in(stations, text_under(sheet, columns.parent, row));
             stops.push(Stop { id, station })?;

@@ -11,7 +11,8 @@ ghost use Rattle.gtfs_stops.specs.Transfers.{IsTransfer, IsPlace, AreTransferCol
 
 use crate::stops::StopIds;
 use gtfs_rows::{
-    FaultKind, FeedFault, FeedFile, Place, ROW_LIMIT, Transfer, TransferType, text_under,
+    FaultKind, FeedFault, FeedFile, Place, ROW_LIMIT, Transfer, TransferType, filled_rows,
+    text_under,
 };
 use gtfs_text::{Sheet, whole};
 use std::alloc::Global;
@@ -277,16 +278,13 @@ fn read_rows(
 {
     let mut transfers = Vec::new(alloc);
     let mut skipped = 0;
-    for done in 0..sheet.rows() {
-        let row = done + 1;
-        if !sheet.blank(row) {
-            if let Some(kind) = row_fault(sheet, columns, ids, row) {
-                return Err(FeedFault::new(kind, FeedFile::Transfers, row));
-            }
-            match kept_row(sheet, columns, ids, row) {
-                Some(transfer) => transfers.push(transfer)?,
-                None => skipped += 1,
-            }
+    for row in filled_rows(sheet) {
+        if let Some(kind) = row_fault(sheet, columns, ids, row) {
+            return Err(FeedFault::new(kind, FeedFile::Transfers, row));
+        }
+        match kept_row(sheet, columns, ids, row) {
+            Some(transfer) => transfers.push(transfer)?,
+            None => skipped += 1,
         }
     }
     Ok(TransferRows { transfers, skipped })

@@ -45,7 +45,7 @@ feed_tests feed =
     ++ (opening_tests files.Trips feed.trips ++ (trips_tests (table_in feed.trips)
     ++ (services_tests feed.calendar feed.calendar_dates
     ++ ((opening_tests files.StopTimes feed.stop_times
-        ++ stop_times_tests (stop_ids (table_in feed.stops)) (trip_ids (table_in feed.trips)) (table_in feed.stop_times))
+    ++ stop_times_tests (stop_ids (table_in feed.stops)) (trip_ids (table_in feed.trips)) (table_in feed.stop_times))
     ++ optional_tests files.Transfers (transfers_tests (id_lists (table_in feed.stops))) feed.transfers)))))
 
 -- what its rows say

@@ -52,9 +52,11 @@ times_in times = record {
 abbrev pub calls_tests : List (List ℕ) → List (List ℕ) → Option (List ℕ) → List Test
 calls_tests stops trips bytes = opening_tests files.StopTimes bytes ++ stop_times_tests stops trips (table_in bytes)
 
+-- the tests of the files of services and calls
 abbrev pub times_tests : List (List ℕ) → List (List ℕ) → TimeBytes → List Test
 times_tests stops trips bytes = services_tests bytes.calendar bytes.calendar_dates ++ calls_tests stops trips bytes.stop_times
 
+-- the values of those files
 abbrev pub time_values : List (List ℕ) → List (List ℕ) → TimeBytes → TimeValues
 time_values stops trips bytes = record {
   calendar = calendar_values (table_in bytes.calendar);
@@ -87,7 +89,7 @@ schedule_in schedule = record { services = schedule.services.items; trips = sche
 abbrev pub schedule_tests : List (List ℕ) → ScheduleBytes → List Test
 schedule_tests stops bytes =
     opening_tests files.Trips bytes.trips
-        ++ (trips_tests (table_in bytes.trips) ++ times_tests stops (trip_ids (table_in bytes.trips)) bytes.times)
+    ++ (trips_tests (table_in bytes.trips) ++ times_tests stops (trip_ids (table_in bytes.trips)) bytes.times)
 
 abbrev pub schedule_values : List (List ℕ) → ScheduleBytes → ScheduleValues
 schedule_values stops bytes = record {
@@ -119,6 +121,7 @@ connections_in connections = record {
 abbrev pub connection_tests : IdLists → ScheduleBytes → Option (List ℕ) → List Test
 connection_tests ids bytes links = schedule_tests ids.stops bytes ++ optional_tests files.Transfers (transfers_tests ids) links
 
+-- their values, under those ids
 abbrev pub connection_values : IdLists → ScheduleBytes → Option (List ℕ) → ConnectionValues
 connection_values ids bytes links = record {
   schedule = schedule_values ids.stops bytes;

@@ -18,10 +18,11 @@ halt_of call = record { stop = call.stop; board = call.board; alight = call.alig
 abbrev pub times_of : Call → Times
 times_of call = record { arrival = call.arrival; departure = call.departure }
 
--- the stops and flags of an instance, and its times
+-- the stops and flags of an instance
 abbrev pub halts_of : Table → ℕ → List Halt
 halts_of table n = map halt_of (calls_of table n)
 
+-- the times of an instance
 abbrev pub course_of : Table → ℕ → List Times
 course_of table n = map times_of (calls_of table n)
 

@@ -18,10 +18,11 @@ halt_cmp a b = ordering_then (nat_cmp a.stop b.stop) (ordering_then (bool_cmp a.
 abbrev pub times_cmp : Times → Times → Ordering
 times_cmp a b = ordering_then (nat_cmp a.arrival b.arrival) (nat_cmp a.departure b.departure)
 
--- instances by their stops and flags, and by their times, from the first place on
+-- instances by their stops and flags, from the first place on
 abbrev pub by_halts : Table → ℕ → ℕ → Ordering
 by_halts table m n = slice_cmp halt_cmp (halts_of table m) (halts_of table n)
 
+-- instances by their times, from the first place on
 abbrev pub by_times : Table → ℕ → ℕ → Ordering
 by_times table m n = slice_cmp times_cmp (course_of table m) (course_of table n)
 
@@ -33,10 +34,11 @@ code halt = 4 * halt.stop + (if halt.board then 2 else 0) + (if halt.alight then
 unfoldable pub hash : List Halt → ℕ
 hash halts = fold (λ n halt. ((n * 11_400_714_819_323_198_485) % 2 ^ 64 + code halt) % 2 ^ 64) 0 halts
 
--- one number for stops and flags: the first stop, and then the upper 48 bits of those
+-- the first of the stops
 abbrev pub first_stop : List Halt → ℕ
 first_stop halts = (slice_index_or halts 0 (record { stop = 0; board = false; alight = false })).stop
 
+-- one number for stops and flags: the first stop, and then the upper 48 bits of their hash
 unfoldable pub fingerprint : List Halt → ℕ
 fingerprint halts = first_stop halts * 281_474_976_710_656 + hash halts / 65_536
 

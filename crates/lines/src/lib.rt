@@ -10,3 +10,4 @@ mod places;
 
 pub use line::{Halt, Line, Times};
 pub use lines::{LinePlace, Lines};
+pub use places::Places;

@@ -70,9 +70,7 @@ fn hash(calls: &[Call]) -> u64
 {
     let mut hash: u64 = 0;
     for call in calls {
-        hash = hash
-            .wrapping_mul(MULTIPLIER)
-            .wrapping_add(code(call));
+        hash = hash.wrapping_mul(MULTIPLIER).wrapping_add(code(call));
     }
     hash
 }

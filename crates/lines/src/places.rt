@@ -10,7 +10,7 @@ use crate::lines::LinePlace;
 use std::alloc::{AllocError, Global};
 use std::marker::Model;
 
-/// The places at one stop.
+/// Places of lines at one stop.
 #[derive(Debug, Drop)]
 pub struct Places {
     row: Vec<LinePlace>,
@@ -26,7 +26,17 @@ impl Model for Places {
 }
 
 impl Places {
-    fn push(&mut self, at: LinePlace) -> Result<(), AllocError>
+    /// No place.
+    pub fn new(alloc: Global) -> Places
+        ensures { result ≡ [] }
+    {
+        Places {
+            row: Vec::new(alloc),
+        }
+    }
+
+    /// Adds a place behind the others. It fails only where memory runs out.
+    pub fn push(&mut self, at: LinePlace) -> Result<(), AllocError>
         ensures { OnOk result (self.new ≡ self.old ++ at ∷ []) }
     {
         self.row.push(at)?;
@@ -46,11 +56,7 @@ fn no_places(alloc: Global, stops: usize) -> Result<Vec<Places>, AllocError>
     ensures count { IfOk result (λ rows. length rows.items ≡ stops) }
     ensures empty { IfOk result (λ rows. (stop : ℕ) → noted rows.items stop ≡ []) }
 {
-    (0..stops)
-        .map(|_| Places {
-            row: Vec::new(alloc),
-        })
-        .collect(alloc)
+    (0..stops).map(|_| Places::new(alloc)).collect(alloc)
 }
 
 // Notes the places of one more line, which is the one of this number.

@@ -35,15 +35,17 @@ abbrev pub pairs : Forest → List Pair
 pairs none = []
 pairs (node b a ends next rest) = map (λ e. ((b, a) ∷ [], e)) ends ++ (map (λ p. ((b, a) ∷ p.0, p.1)) (pairs next) ++ pairs rest)
 
--- how many nodes, ends and levels there are
+-- how many nodes there are
 abbrev pub node_count : Forest → ℕ
 node_count none = 0
 node_count (node b a ends next rest) = 1 + node_count next + node_count rest
 
+-- how many ends there are
 abbrev pub end_count : Forest → ℕ
 end_count none = 0
 end_count (node b a ends next rest) = length ends + end_count next + end_count rest
 
+-- how many levels there are
 abbrev pub levels : Forest → ℕ
 levels none = 0
 levels (node b a ends next rest) = max (levels next + 1) (levels rest)

@@ -7,10 +7,11 @@ use Rattle.timetable.specs.Table.{Table, Run, IsTable, stops_of, walk_count}
 use Rattle.timetable.specs.declared.parts.Call.{Call}
 use Rattle.timetable.specs.declared.parts.Walk.{Walk}
 
--- a number in two bytes, and in four
+-- a number in two bytes, the highest first
 unfoldable pub two_bytes : ℕ → List ℕ
 two_bytes n = to_be_bytes w16 n
 
+-- a number in four bytes, the highest first
 unfoldable pub four_bytes : ℕ → List ℕ
 four_bytes n = to_be_bytes w32 n
 

@@ -1,4 +1,4 @@
--- Items by group. Only private clauses cite these words.
+-- Items by group.
 use Rattle.std.specs.Prelude.{◌≡◌, ℕ, ◌==◌, Bool, false, List, [], length, slice_index_or}
 use Rattle.std.specs.Option.{option_map, unwrap_or}
 use Rattle.std.specs.List.{filter, range_with_len}

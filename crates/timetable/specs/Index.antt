@@ -18,10 +18,11 @@ abbrev pub is_the_station : Place → ℕ → Bool
 is_the_station (places.Stop n) station = false
 is_the_station (places.Station n) station = station == n
 
--- whether the row of a number leads from the stop, or from the station
+-- whether the row of a number leads from the stop
 abbrev pub leaves_stop : TableValues → ℕ → ℕ → Bool
 leaves_stop t stop n = unwrap_or (option_map (λ row. is_stop row.from stop) (slice_get t.transfers n)) false
 
+-- whether the row of a number leads from the station
 abbrev pub leaves_station : TableValues → ℕ → ℕ → Bool
 leaves_station t station n = unwrap_or (option_map (λ row. is_the_station row.from station) (slice_get t.transfers n)) false
 

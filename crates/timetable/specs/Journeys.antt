@@ -10,17 +10,19 @@ use Rattle.timetable.specs.Table.{Table, change, walk, calls_of}
 abbrev pub call_at : Table → ℕ → ℕ → Option Call
 call_at table n place = slice_get (calls_of table n) place
 
--- where a leg boards, and when it departs there
+-- where a leg boards
 abbrev pub from : Table → Leg → ℕ
 from table leg = unwrap_or (option_map (λ c. c.stop) (call_at table leg.instance leg.board)) 0
 
+-- when a leg departs where it boards
 abbrev pub departs : Table → Leg → ℕ
 departs table leg = unwrap_or (option_map (λ c. c.departure) (call_at table leg.instance leg.board)) 0
 
--- where a leg alights, and when it arrives there
+-- where a leg alights
 abbrev pub to : Table → Leg → ℕ
 to table leg = unwrap_or (option_map (λ c. c.stop) (call_at table leg.instance leg.alight)) 0
 
+-- when a leg arrives where it alights
 abbrev pub arrives : Table → Leg → ℕ
 arrives table leg = unwrap_or (option_map (λ c. c.arrival) (call_at table leg.instance leg.alight)) 0
 

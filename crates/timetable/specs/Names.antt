@@ -16,10 +16,11 @@ pub record AreNamesOf (t : TableValues) (names : NameLists) : Type 0 where
   pub trips : names.trips ≡ map (λ trip. trip.id) t.trips
   pub children : AreChildren t names.children
 
--- the number of the stop of an id, and of the station
+-- the number of the stop of an id
 abbrev pub stop_named : NameLists → List ℕ → Option ℕ
 stop_named names id = position_from (bytes_eq id) 0 names.stops
 
+-- the number of the station of an id
 abbrev pub station_named : NameLists → List ℕ → Option ℕ
 station_named names id = position_from (bytes_eq id) 0 names.stations
 

@@ -37,7 +37,7 @@ best_to children stop best row = if leads_to children row.transfer.to stop then 
 abbrev pub best_at : List Transfer → List (List ℕ) → ℕ → Option Row → ℕ → Option Row
 best_at transfers children stop best n =
     unwrap_or (option_map (λ transfer. best_to children stop best (record { number = n; transfer = transfer }))
-        (slice_get transfers n)) best
+    (slice_get transfers n)) best
 
 -- the row that wins from one stop to another, none where there is no candidate
 abbrev pub IsWinner : TableValues → ℕ → ℕ → Option Row → Type 0

@@ -23,10 +23,10 @@ loop-at-preserved c =
     let said = c.allows.ensures stop calls in
     elim c.if-allows.branch [
       | then-allows+in_ok-push w ↦
-          subst (AreKept (Allows side lines stop) places (i + 1)) (sym (ap (λ (v : _). v.items) w.row-is ∙ w.in_ok-push.ensures.items))
-          (kept_more (Allows side lines stop) places i c.loop-at.row.items c.loop-at.invariant x within is c.requires.ordered (said.0 w.if-allows.true))
+          subst (AreKept (Allows side lines stop) places (i + 1)) (sym (w.places-is ∙ w.in_ok-push.ensures))
+          (kept_more (Allows side lines stop) places i c.loop-at.places c.loop-at.invariant x within is c.requires.ordered (said.0 w.if-allows.true))
       | else-allows w ↦
-          rw w.row-is (kept_skips (Allows side lines stop) places i c.loop-at.row.items c.loop-at.invariant x within is (λ of. let e : false ≡ true = sym w.if-allows.false ∙ said.1 of in absurd (cc e)))
+          rw w.places-is (kept_skips (Allows side lines stop) places i c.loop-at.places c.loop-at.invariant x within is (λ of. let e : false ≡ true = sym w.if-allows.false ∙ said.1 of in absurd (cc e)))
     ]
 
 pub returns : goal.returns
@@ -35,6 +35,6 @@ returns c =
     let lines = c.args.lines.now.lines in
     let stop = c.args.stop in
     let places = places_at c.args.lines.now stop in
-    kept_all (Allows side lines stop) places c.loop-at.at-index c.loop-at.row.items
+    kept_all (Allows side lines stop) places c.loop-at.at-index c.loop-at.places
     (let e = ap (length {A = LinePlace}) c.places_at-at-items.ensures in omega arith)
     (λ at of. c.requires.all at (allows_calls side lines stop at of)) c.loop-at.invariant

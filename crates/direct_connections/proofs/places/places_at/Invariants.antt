@@ -4,4 +4,4 @@ use Rattle.lines.specs.Lines.{places_at}
 use Rattle.direct_connections.proofs.places.places_at.Given as goal
 
 abbrev pub invariant-loop-at : goal.invariant-loop-at
-invariant-loop-at l = AreKept (Allows l.side l.lines.lines l.fn.stop) (places_at l.lines l.fn.stop) l.at-index l.row.items
+invariant-loop-at l = AreKept (Allows l.side l.lines.lines l.fn.stop) (places_at l.lines l.fn.stop) l.at-index l.places

@@ -1,36 +1,45 @@
-use Rattle.std.proofs.Common.{◌≡◌, ◌∙◌, sym, ap, Option, ℕ, filter, map, true, false, ◌+◌, List, ◌++◌, ◌∷◌, []}
+use Rattle.std.proofs.Common.{◌≡◌, ◌∙◌, sym, ap, Option, ℕ, filter, map, ◌++◌, ◌∷◌, []}
 use Rattle.std.proofs.lemmas.List.{map_push}
-use Rattle.gtfs_text.specs.Sheets.{is_blank}
-use Rattle.gtfs_rows.specs.Rows.{text_under, rows_to, distinct, with_text}
+use Rattle.gtfs_rows.specs.Rows.{text_under, distinct, with_text}
 use Rattle.gtfs_stops.specs.Stops.{means, stop_id, location_type}
-use Rattle.gtfs_rows.proofs.RowFacts.{row_joins, row_skipped, filtered_in, filtered_out}
+use Rattle.gtfs_rows.proofs.FilledFacts.{turn, turns_end}
+use Rattle.gtfs_rows.proofs.RowFacts.{filtered_in, filtered_out}
 use Rattle.gtfs_rows.proofs.TextFacts.{inserted, distinct-push}
 use Rattle.gtfs_stops.proofs.stops.ids_of.Goals as goal
-use Rattle.gtfs_stops.proofs.stops.ids_of.Goals.{then-not-blank+then-means+in_ok-insert, else-not-blank, else-not-blank-via-then-not-blank+else-means, else-not-blank-via-else-not-blank}
 
-pub loop-done-preserved : goal.loop-done-preserved
-loop-done-preserved c =
+pub text_under-requires : goal.text_under-requires
+text_under-requires c = (turn (c.into_iter-row-iterator.ensures.into_iter_gives ∙ c.filled_rows-row-items.ensures) _ _ c.loop-row.yielded_by c.in-Some.is c.next.ensures.steps).there
+
+pub text_under-requires-then-means : goal.text_under-requires-then-means
+text_under-requires-then-means c = (turn (c.into_iter-row-iterator.ensures.into_iter_gives ∙ c.filled_rows-row-items.ensures) _ _ c.loop-row.yielded_by c.in-Some.is c.next.ensures.steps).there
+
+pub loop-row-preserved-in_ok-insert : goal.loop-row-preserved-in_ok-insert
+loop-row-preserved-in_ok-insert c =
     let table = c.args.sheet.now in
-    let n = c.loop-done.done in
+    let given = c.loop-row.yielded in
+    let row = c.in-Some.row in
     let is = λ (row : ℕ). means c.args.kind (location_type table row) in
-    elim c.if-not-blank.branch [
-      | then-not-blank+then-means+in_ok-insert w ↦
-          let there : is_blank table (n + 1) ≡ false = sym c.blank.ensures ∙ w.if-not-blank.true in
-          let kind : is (n + 1) ≡ true = ap (means c.args.kind) (sym (w.text_under.ensures ∙ ap (λ (column : Option ℕ). text_under table column (n + 1)) c.requires.location_type)) ∙ sym w.means.ensures ∙ w.if-means.true in
-          let all : filter is (rows_to table (n + 1)) ≡ filter is (rows_to table n) ++ (n + 1) ∷ [] = ap (filter is) (row_joins table n there) ∙ filtered_in is (rows_to table n) (n + 1) kind in
-          let id = w.text_under-then-means.ensures ∙ ap (λ (column : Option ℕ). text_under table column (n + 1)) c.requires.id in
-          rw (w.ids-is, w.in_ok-insert.ensures.keys) (inserted c.loop-done.ids.keys w.text_under-then-means.result
-          ∙ ap (λ (texts : List (List ℕ)). with_text texts w.text_under-then-means.result.now) c.loop-done.invariant
-          ∙ ap (with_text (distinct (map (stop_id table) (filter is (rows_to table n))))) id
-          ∙ sym (ap distinct (ap (map (stop_id table)) all ∙ map_push (stop_id table) (filter is (rows_to table n)) (n + 1)) ∙ distinct-push (map (stop_id table) (filter is (rows_to table n))) (stop_id table (n + 1))))
-      | else-not-blank w ↦ rw w.ids-is (elim w.else-not-blank.branch [
-        | else-not-blank-via-then-not-blank+else-means w' ↦
-            let there : is_blank table (n + 1) ≡ false = sym c.blank.ensures ∙ w'.if-not-blank.true in
-            let kind : is (n + 1) ≡ false = ap (means c.args.kind) (sym (w'.text_under.ensures ∙ ap (λ (column : Option ℕ). text_under table column (n + 1)) c.requires.location_type)) ∙ sym w'.means.ensures ∙ w'.if-means.false in
-            let all : filter is (rows_to table (n + 1)) ≡ filter is (rows_to table n) = ap (filter is) (row_joins table n there) ∙ filtered_out is (rows_to table n) (n + 1) kind in
-            c.loop-done.invariant ∙ ap (λ (rows : List ℕ). distinct (map (stop_id table) rows)) (sym all)
-        | else-not-blank-via-else-not-blank w' ↦
-            let blank : is_blank table (n + 1) ≡ true = sym c.blank.ensures ∙ w'.if-not-blank.false in
-            c.loop-done.invariant ∙ ap (λ (rows : List ℕ). distinct (map (stop_id table) (filter is rows))) (sym (row_skipped table n blank))
-      ])
-    ]
+    let kind = ap (means c.args.kind) (sym (c.text_under.ensures ∙ ap (λ (column : Option ℕ). text_under table column row) c.requires.location_type)) ∙ sym c.means.ensures ∙ c.if-means.true in
+    let all : filter is (given ++ row ∷ []) ≡ filter is given ++ row ∷ [] = filtered_in is given row kind in
+    let id = c.text_under-then-means.ensures ∙ ap (λ (column : Option ℕ). text_under table column row) c.requires.id in
+    rw c.in_ok-insert.ensures.keys (inserted c.loop-row.ids.keys c.text_under-then-means.result
+    ∙ ap (λ texts. with_text texts c.text_under-then-means.result.now) c.loop-row.invariant
+    ∙ ap (with_text (distinct (map (stop_id table) (filter is given)))) id
+    ∙ sym (ap distinct (ap (map (stop_id table)) all ∙ map_push (stop_id table) (filter is given) row) ∙ distinct-push (map (stop_id table) (filter is given)) (stop_id table row)))
+
+pub loop-row-preserved : goal.loop-row-preserved
+loop-row-preserved c =
+    let table = c.args.sheet.now in
+    let given = c.loop-row.yielded in
+    let row = c.in-Some.row in
+    let is = λ (row : ℕ). means c.args.kind (location_type table row) in
+    let kind = ap (means c.args.kind) (sym (c.text_under.ensures ∙ ap (λ (column : Option ℕ). text_under table column row) c.requires.location_type)) ∙ sym c.means.ensures ∙ c.if-means.false in
+    let all : filter is (given ++ row ∷ []) ≡ filter is given = filtered_out is given row kind in
+    c.loop-row.invariant ∙ ap (λ rows. distinct (map (stop_id table) rows)) (sym all)
+
+pub returns : goal.returns
+returns c =
+    let table = c.args.sheet.now in
+    c.loop-row.invariant
+    ∙ ap (λ rows. distinct (map (stop_id table) (filter (λ row. means c.args.kind (location_type table row)) rows)))
+    (turns_end table (c.into_iter-row-iterator.ensures.into_iter_gives ∙ c.filled_rows-row-items.ensures) _ _ c.loop-row.yielded_by c.in-None.is c.next.ensures.steps)

@@ -1,69 +1,86 @@
-use Rattle.std.proofs.Common.{◌≡◌, ◌∙◌, sym, ap, arith, ℕ, None, Some, true, false, ◌+◌, ◌<◌, length}
+use Rattle.std.proofs.Common.{◌≡◌, ◌∙◌, sym, ap, subst, arith, ℕ, None, Some, filter, length}
 use Rattle.std.specs.Prelude.{is_none}
-use Rattle.std.specs.List.{flat_map}
-use Rattle.gtfs_text.specs.Sheets.{is_blank, row_count}
+use Rattle.std.specs.List.{flat_map, filter_map}
+use Rattle.std.proofs.lemmas.List.{length_push}
 use Rattle.gtfs_rows.specs.declared.fault.FeedFile.TheVariants as files
 use Rattle.gtfs_rows.specs.Faults.{first_fault, fault_at}
-use Rattle.gtfs_rows.specs.Rows.{rows_to, rows_of}
+use Rattle.gtfs_rows.specs.Rows.{rows_of}
 use Rattle.gtfs_stops.specs.Stops.{lists_in}
 use Rattle.gtfs_stops.specs.Transfers.{IsTransfer}
 use Rattle.gtfs_stops.specs.Transfers.{transfer_tests, kept_transfer}
-use Rattle.gtfs_rows.proofs.RowFacts.{explains, row_decides, row_joins, row_skipped, row_passes, option_none, option_some, filtered_out}
+use Rattle.gtfs_rows.proofs.FilledFacts.{IsTurn, turn, turns_end, turn_decides, length-before}
+use Rattle.gtfs_rows.proofs.RowFacts.{explains, row_passes, option_none, option_some, filtered_out}
 use Rattle.gtfs_stops.proofs.TransferFacts.{kept_more, kept_same, one_more}
 use Rattle.std.proofs.lemmas.List.Elements.{All-push}
 use Rattle.gtfs_stops.proofs.transfers.read_rows.Goals as goal
-use Rattle.gtfs_stops.proofs.transfers.read_rows.Goals.{then-not-blank+in_default+in-Some-kept_row+in_ok-push-in-Some-kept_row, then-not-blank+in_default+in-None, else-not-blank}
 
-pub returns-in-Some-clause-transfers : goal.returns-in-Some-clause-transfers
-returns-in-Some-clause-transfers c =
+pub row_fault-requires-clause-row : goal.row_fault-requires-clause-row
+row_fault-requires-clause-row c = (turn (c.into_iter-row-iterator.ensures.into_iter_gives ∙ c.filled_rows-row-items.ensures) _ _ c.loop-row.yielded_by c.in-Some.is c.next.ensures.steps).there
+
+pub returns-in-Some-row_fault-clause-transfers : goal.returns-in-Some-row_fault-clause-transfers
+returns-in-Some-row_fault-clause-transfers c =
     let table = c.args.sheet.now in
     let tests = transfer_tests (lists_in c.args.ids.now) table in
-    let n = c.loop-done.done in
-    let there : is_blank table (n + 1) ≡ false = sym c.blank.ensures ∙ c.if-not-blank.true in
-    let below : n < row_count table = omega (arith, c.rows-done-end.ensures, c.loop-done-test.true) in
-    let first = option_some (λ kind. fault_at kind files.Transfers (n + 1)) c.row_fault.result (first_fault (tests (n + 1))) c.in-Some.kind c.row_fault.ensures c.in-Some.is in
-    rw c.new.ensures (explains c.in-Some.kind (first_fault (flat_map tests (rows_of table))) (fault_at c.in-Some.kind files.Transfers (n + 1))
-    (row_decides table tests n (fault_at c.in-Some.kind files.Transfers (n + 1)) below there c.loop-done.invariant.passed first))
+    let row = c.in-Some.row in
+    let here = turn (c.into_iter-row-iterator.ensures.into_iter_gives ∙ c.filled_rows-row-items.ensures) _ _ c.loop-row.yielded_by c.in-Some.is c.next.ensures.steps in
+    let first = option_some (λ kind. fault_at kind files.Transfers row) c.row_fault.result (first_fault (tests row)) c.in-Some-row_fault.kind c.row_fault.ensures c.in-Some-row_fault.is in
+    rw c.new.ensures (explains c.in-Some-row_fault.kind (first_fault (flat_map tests (rows_of table))) (fault_at c.in-Some-row_fault.kind files.Transfers row)
+    (turn_decides table tests c.loop-row.yielded row (fault_at c.in-Some-row_fault.kind files.Transfers row) here c.loop-row.invariant.passed first))
 
-pub loop-done-preserved : goal.loop-done-preserved
-loop-done-preserved c =
+pub kept_row-requires-clause-row : goal.kept_row-requires-clause-row
+kept_row-requires-clause-row c = (turn (c.into_iter-row-iterator.ensures.into_iter_gives ∙ c.filled_rows-row-items.ensures) _ _ c.loop-row.yielded_by c.in-Some.is c.next.ensures.steps).there
+
+pub overflow_add-skipped : goal.overflow_add-skipped
+overflow_add-skipped c =
+    let here : IsTurn c.args.sheet.now c.loop-row.yielded c.in-Some.row = turn (c.into_iter-row-iterator.ensures.into_iter_gives ∙ c.filled_rows-row-items.ensures) _ _ c.loop-row.yielded_by c.in-Some.is c.next.ensures.steps in
+    omega (arith, c.loop-row.invariant.few, length-before c.args.sheet.now c.loop-row.yielded c.in-Some.row here)
+
+pub loop-row-preserved-in-Continue-1 : goal.loop-row-preserved-in-Continue-1
+loop-row-preserved-in-Continue-1 c =
     let table = c.args.sheet.now in
     let ids = lists_in c.args.ids.now in
     let tests = transfer_tests ids table in
     let kept = kept_transfer ids table in
-    let is_skipped = λ (row : ℕ). is_none (kept row) in
-    let n = c.loop-done.done in
-    let old = c.loop-done.invariant in
-    elim c.if-not-blank.branch [
-      | then-not-blank+in_default+in-Some-kept_row+in_ok-push-in-Some-kept_row w ↦
-          let there : is_blank table (n + 1) ≡ false = sym c.blank.ensures ∙ w.if-not-blank.true in
-          let passes : first_fault (tests (n + 1)) ≡ None = option_none (λ kind. fault_at kind files.Transfers (n + 1)) w.row_fault.result (first_fault (tests (n + 1))) w.row_fault.ensures w.in_default.is in
-          let is : kept (n + 1) ≡ Some w.in-Some-kept_row.transfer = sym w.kept_row.ensures.value ∙ w.in-Some-kept_row.is in
-          rw (row_joins table n there, w.transfers-is, w.skipped-is, w.in_ok-push-in-Some-kept_row.ensures.items) (record {
-            passed = row_passes tests (rows_to table n) (n + 1) old.passed passes;
-            kept = kept_more kept (c.loop-done.transfers.items) (rows_to table n) (n + 1) w.in-Some-kept_row.transfer old.kept is;
-            skipped = old.skipped ∙ ap length (sym (filtered_out is_skipped (rows_to table n) (n + 1) (ap is_none is)));
-            few = omega (arith, old.few);
-            valid = All-push (IsTransfer (length c.args.ids.now.stops.keys) (length c.args.ids.now.stations.keys)) c.loop-done.transfers.items w.in-Some-kept_row.transfer old.valid w.in-Some-kept_row.ensures.valid;
-          })
-      | then-not-blank+in_default+in-None w ↦
-          let there : is_blank table (n + 1) ≡ false = sym c.blank.ensures ∙ w.if-not-blank.true in
-          let passes : first_fault (tests (n + 1)) ≡ None = option_none (λ kind. fault_at kind files.Transfers (n + 1)) w.row_fault.result (first_fault (tests (n + 1))) w.row_fault.ensures w.in_default.is in
-          let is : kept (n + 1) ≡ None = sym w.kept_row.ensures.value ∙ w.in-None.is in
-          rw (row_joins table n there, w.transfers-is, w.skipped-is) (record {
-            passed = row_passes tests (rows_to table n) (n + 1) old.passed passes;
-            kept = kept_same kept (c.loop-done.transfers.items) (rows_to table n) (n + 1) old.kept is;
-            skipped = one_more is_skipped c.loop-done.skipped (rows_to table n) (n + 1) old.skipped (ap is_none is);
-            few = omega (arith, old.few);
-            valid = old.valid;
-          })
-      | else-not-blank w ↦
-          let blank : is_blank table (n + 1) ≡ true = sym c.blank.ensures ∙ w.if-not-blank.false in
-          rw (row_skipped table n blank, w.transfers-is, w.skipped-is) (record {
-            passed = old.passed;
-            kept = old.kept;
-            skipped = old.skipped;
-            few = omega (arith, old.few);
-            valid = old.valid;
-          })
-    ]
+    let given = c.loop-row.yielded in
+    let row = c.in-Some.row in
+    let old = c.loop-row.invariant in
+    let passes : first_fault (tests row) ≡ None = option_none (λ kind. fault_at kind files.Transfers row) c.row_fault.result (first_fault (tests row)) c.row_fault.ensures c.in_default.is in
+    let is : kept row ≡ Some c.in-Some-kept_row.transfer = sym c.kept_row.ensures.value ∙ c.in-Some-kept_row.is in
+    rw c.in_ok-push-in-Some-kept_row.ensures.items (record {
+      passed = row_passes tests given row old.passed passes;
+      kept = kept_more kept (c.loop-row.transfers.items) given row c.in-Some-kept_row.transfer old.kept is;
+      skipped = old.skipped ∙ ap (length {A = ℕ}) (sym (filtered_out (λ row. is_none (kept row)) given row (ap is_none is)));
+      few = omega (arith, old.few, length_push given row);
+      valid = All-push (IsTransfer (length c.args.ids.now.stops.keys) (length c.args.ids.now.stations.keys)) c.loop-row.transfers.items c.in-Some-kept_row.transfer old.valid c.in-Some-kept_row.ensures.valid;
+    })
+
+pub loop-row-preserved : goal.loop-row-preserved
+loop-row-preserved c =
+    let table = c.args.sheet.now in
+    let ids = lists_in c.args.ids.now in
+    let tests = transfer_tests ids table in
+    let kept = kept_transfer ids table in
+    let given = c.loop-row.yielded in
+    let row = c.in-Some.row in
+    let old = c.loop-row.invariant in
+    let passes : first_fault (tests row) ≡ None = option_none (λ kind. fault_at kind files.Transfers row) c.row_fault.result (first_fault (tests row)) c.row_fault.ensures c.in_default.is in
+    let is : kept row ≡ None = sym c.kept_row.ensures.value ∙ c.in-None-kept_row.is in
+    record {
+      passed = row_passes tests given row old.passed passes;
+      kept = kept_same kept (c.loop-row.transfers.items) given row old.kept is;
+      skipped = one_more (λ row. is_none (kept row)) c.loop-row.skipped given row old.skipped (ap is_none is);
+      few = omega (arith, old.few, length_push given row);
+      valid = old.valid;
+    }
+
+pub returns-clause-transfers : goal.returns-clause-transfers
+returns-clause-transfers c =
+    let table = c.args.sheet.now in
+    let ids = lists_in c.args.ids.now in
+    let all = turns_end table (c.into_iter-row-iterator.ensures.into_iter_gives ∙ c.filled_rows-row-items.ensures) _ _ c.loop-row.yielded_by c.in-None.is c.next.ensures.steps in
+    (subst (λ rows. first_fault (flat_map (transfer_tests ids table) rows) ≡ None) all c.loop-row.invariant.passed, c.loop-row.invariant.kept ∙ ap (filter_map (kept_transfer ids table)) all)
+
+pub returns-clause-skipped : goal.returns-clause-skipped
+returns-clause-skipped c =
+    let table = c.args.sheet.now in
+    c.loop-row.invariant.skipped ∙ ap (λ rows. length (filter (λ row. is_none (kept_transfer (lists_in c.args.ids.now) table row)) rows)) (turns_end table (c.into_iter-row-iterator.ensures.into_iter_gives ∙ c.filled_rows-row-items.ensures) _ _ c.loop-row.yielded_by c.in-None.is c.next.ensures.steps)
