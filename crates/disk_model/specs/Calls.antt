@@ -8,7 +8,7 @@ use Rattle.disk_model.specs.declared.fault.ReadFault.TheVariants.{Failed, Memory
 abbrev pub WritesAndSyncs : {E : Type 0} → ℕ → List ℕ → Result Unit E → State → State → Type 0
 WritesAndSyncs at bytes result old new =
     MatchResult result (λ _. new ≡ after_sync (after_write at bytes old))
-        (λ _. WriteFailed at (length bytes) old new ⊎ (new ≡ after_write at bytes old))
+    (λ _. WriteFailed at (length bytes) old new ⊎ (new ≡ after_write at bytes old))
 
 -- a cut and a sync behind it: both were done; or the cut failed; or it was done and the sync failed
 abbrev pub CutsAndSyncs : {E : Type 0} → ℕ → Result Unit E → State → State → Type 0

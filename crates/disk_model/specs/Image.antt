@@ -33,8 +33,12 @@ settled_image bytes = record { synced = bytes; least = length bytes; greatest = 
 -- after a write of so many bytes, done or done in part
 abbrev pub with_write : ℕ → ℕ → Image → Image
 with_write at count image =
-    record { synced = image.synced; least = image.least; greatest = max image.greatest (at + count);
-        ranges = image.ranges ++ (at, count) ∷ [] }
+    record {
+      synced = image.synced;
+      least = image.least;
+      greatest = max image.greatest (at + count);
+      ranges = image.ranges ++ (at, count) ∷ [];
+    }
 
 -- after a cut to that length, done or done in part
 abbrev pub with_cut : ℕ → Image → Image

@@ -91,6 +91,13 @@ impl Basis {
         self.names.stop_named(id)
     }
 
+    /// The covered days.
+    pub fn cover(&self) -> &Cover
+        ensures { result.now ≡ self.now.cover }
+    {
+        &self.cover
+    }
+
     /// The service day and its time that a moment is.
     pub fn day_time(&self, moment: u32) -> DayTime
         ensures { Says self.now.cover moment result }

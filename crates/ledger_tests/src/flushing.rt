@@ -155,7 +155,16 @@ fn stored_as_they_come(rt: HostRuntime) -> Result<(), Fail> {
     let end = flush(&mut store, &mut waiting, &mut heard);
     assert!(rt; end == FlushEnd::Drained && waiting.closed);
     assert_eq!(rt; told(&waiting, &heard), (5, 4, 4));
-    assert!(rt; store.stored() == [StopId::new(0), StopId::new(1), StopId::new(3), StopId::new(2)].as_slice());
+    assert!(rt;
+        store.stored()
+            == [
+                StopId::new(0),
+                StopId::new(1),
+                StopId::new(3),
+                StopId::new(2)
+            ]
+            .as_slice()
+    );
     Ok(())
 }
 

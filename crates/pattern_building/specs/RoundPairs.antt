@@ -42,4 +42,4 @@ HasGiven rounds Seen content = (p : Pair) → IsGiven rounds Seen p → Contains
 abbrev pub CompleteAt : Table → ℕ → ℕ → ℕ → List Pair → Type 0
 CompleteAt table k s d content =
     (t : ℕ) (n : Numbers) → Unbeaten (Reaches table 1 k s t d) n
-        → (path : List Step) × IsPathOf table s t d n path × Contains content (path, t)
+    → (path : List Step) × IsPathOf table s t d n path × Contains content (path, t)

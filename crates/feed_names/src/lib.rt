@@ -1,0 +1,10 @@
+//! What a feed tells people of its stops, trips and routes, by their ids: texts to be shown, on which no answer stands.
+#![tactic(auto)]
+
+mod files;
+mod rows;
+mod texts;
+
+pub use files::{open_names, sheet_of};
+pub use rows::first_rows;
+pub use texts::{NamedRow, RouteName, StopName, TripName, names_of};
