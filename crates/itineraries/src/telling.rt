@@ -1,0 +1,231 @@
+//! From an answer to what is told of it.
+
+use crate::clock::Clock;
+use crate::itinerary::{Itinerary, Journey, Kind, Leg, Place, StopList};
+use crate::names::{NameSheets, Names};
+use crate::through::stops_between;
+use answer_lines::{Answer, DayTime, Point, Stage};
+use feed_basis::Basis;
+use std::alloc::{AllocError, Global};
+
+/// What was asked.
+#[derive(Clone, Copy)]
+pub struct Asked<'a> {
+    /// The command that asked, as `scan`.
+    pub command: &'a str,
+    /// The ids of the places to leave from and to go to.
+    pub from: &'a str,
+    pub to: &'a str,
+    /// The time to leave at.
+    pub departs: DayTime,
+}
+
+// What an answer is told by.
+#[derive(Clone, Copy)]
+struct Teller<'a, 'n> {
+    basis: &'a Basis,
+    clock: Clock,
+    names: &'n Names<'a>,
+}
+
+// The stops and trips whose names are wanted.
+#[derive(Drop)]
+struct Wanted<'a> {
+    stops: Vec<&'a str>,
+    trips: Vec<&'a str>,
+}
+
+impl<'a> Wanted<'a> {
+    // Those of a ride or a walk, with the stops that a ride calls at in between.
+    fn put(&mut self, alloc: Global, basis: &'a Basis, stage: &'a Stage) -> Result<(), AllocError> {
+        match stage {
+            Stage::Ride { trip, from, to, .. } => {
+                self.trips.push(trip.as_str())?;
+                self.stops.push(from.as_str())?;
+                self.stops.push(to.as_str())?;
+                for stop in stops_between(alloc, basis, stage)? {
+                    self.stops.push(stop)?;
+                }
+            }
+            Stage::Walk { from, to, .. } => {
+                self.stops.push(from.as_str())?;
+                self.stops.push(to.as_str())?;
+            }
+        }
+        Ok(())
+    }
+}
+
+// Those of an answer.
+fn wanted_of<'a>(
+    alloc: Global,
+    basis: &'a Basis,
+    asked: &Asked<'a>,
+    answer: &'a Answer,
+) -> Result<Wanted<'a>, AllocError> {
+    let mut wanted = Wanted {
+        stops: Vec::new(alloc),
+        trips: Vec::new(alloc),
+    };
+    wanted.stops.push(asked.from)?;
+    wanted.stops.push(asked.to)?;
+    if let Answer::Points(points) = answer {
+        for point in points {
+            for stage in &point.stages {
+                wanted.put(alloc, basis, stage)?;
+            }
+        }
+    }
+    Ok(wanted)
+}
+
+impl Teller<'_, '_> {
+    // The seconds from one time to a later one.
+    fn seconds(&self, departs: DayTime, arrives: DayTime) -> Option<u32> {
+        let departs = self.basis.moment(departs.date, departs.seconds)?;
+        let arrives = self.basis.moment(arrives.date, arrives.seconds)?;
+        arrives.checked_sub(departs)
+    }
+
+    // The stops that a ride calls at in between.
+    fn through(&self, alloc: Global, stage: &Stage) -> Result<Vec<Place>, AllocError> {
+        let mut places = Vec::new(alloc);
+        for stop in stops_between(alloc, self.basis, stage)? {
+            places.push(self.names.place(alloc, stop)?)?;
+        }
+        Ok(places)
+    }
+
+    // A ride or a walk, which begins at this time where it is a walk.
+    fn leg(&self, alloc: Global, begins: DayTime, stage: &Stage) -> Result<Leg, AllocError> {
+        let (trip, from, departs, to, arrives) = match stage {
+            Stage::Ride {
+                trip,
+                from,
+                departs,
+                to,
+                arrives,
+            } => (Some(trip.as_str()), from, *departs, to, *arrives),
+            Stage::Walk { from, to, arrives } => (None, from, begins, to, *arrives),
+        };
+        let (kind, trip) = match trip {
+            Some(trip) => (Kind::Ride, Some(self.names.trip(alloc, trip)?)),
+            None => (Kind::Walk, None),
+        };
+        Ok(Leg {
+            kind,
+            trip,
+            from: self.names.place(alloc, from.as_str())?,
+            departure: self.clock.time(alloc, departs)?,
+            to: self.names.place(alloc, to.as_str())?,
+            arrival: self.clock.time(alloc, arrives)?,
+            seconds: self.seconds(departs, arrives),
+            through: self.through(alloc, stage)?,
+        })
+    }
+
+    // A journey of one who is there at this time.
+    fn journey(
+        &self,
+        alloc: Global,
+        begins: DayTime,
+        point: &Point,
+    ) -> Result<Journey, AllocError> {
+        let mut legs = Vec::with_capacity(alloc, point.stages.len())?;
+        let mut at = begins;
+        let mut departs = begins;
+        for (place, stage) in point.stages.iter().enumerate() {
+            if let Stage::Ride {
+                departs: leaves,
+                ..
+            } = stage
+                && place == 0
+            {
+                departs = *leaves;
+            }
+            legs.push(self.leg(alloc, at, stage)?)?;
+            at = arrival_of(stage);
+        }
+        Ok(Journey {
+            rides: point.rides,
+            departure: Some(self.clock.time(alloc, departs)?),
+            arrival: self.clock.time(alloc, point.at)?,
+            seconds: self.seconds(departs, point.at),
+            legs: Some(legs),
+        })
+    }
+
+    // The journeys of an answer. Of a single ride only the arrival is known.
+    fn journeys(
+        &self,
+        alloc: Global,
+        begins: DayTime,
+        answer: &Answer,
+    ) -> Result<Vec<Journey>, AllocError> {
+        let mut journeys = Vec::new(alloc);
+        match answer {
+            Answer::NoRide => {}
+            Answer::Arrive(at) => journeys.push(Journey {
+                rides: 1,
+                departure: None,
+                arrival: self.clock.time(alloc, *at)?,
+                seconds: None,
+                legs: None,
+            })?,
+            Answer::Points(points) => {
+                for point in points {
+                    journeys.push(self.journey(alloc, begins, point)?)?;
+                }
+            }
+        }
+        Ok(journeys)
+    }
+}
+
+// When a ride or a walk arrives.
+fn arrival_of(stage: &Stage) -> DayTime {
+    match stage {
+        Stage::Ride { arrives, .. } | Stage::Walk { arrives, .. } => *arrives,
+    }
+}
+
+/// What is told of an answer, whose rides and walks are there, to what was asked over the basis, by the clock, with the names that the
+/// sheets have. It fails only where memory runs out.
+pub fn itinerary_of<'a>(
+    alloc: Global,
+    basis: &'a Basis,
+    clock: Clock,
+    sheets: &NameSheets,
+    asked: &Asked<'a>,
+    answer: &'a Answer,
+) -> Result<Itinerary<'a>, AllocError> {
+    let wanted = wanted_of(alloc, basis, asked, answer)?;
+    let names = Names::of(alloc, sheets, &wanted.stops, &wanted.trips)?;
+    let teller = Teller {
+        basis,
+        clock,
+        names: &names,
+    };
+    Ok(Itinerary {
+        command: asked.command,
+        from: names.place(alloc, asked.from)?,
+        to: names.place(alloc, asked.to)?,
+        departure: clock.time(alloc, asked.departs)?,
+        journeys: teller.journeys(alloc, asked.departs, answer)?,
+    })
+}
+
+/// Stops with the names that the sheets have. It fails only where memory runs out.
+pub fn stop_list_of<'a>(
+    alloc: Global,
+    sheets: &NameSheets,
+    command: &'a str,
+    ids: &[&str],
+) -> Result<StopList<'a>, AllocError> {
+    let names = Names::of(alloc, sheets, ids, &[])?;
+    let mut stops = Vec::with_capacity(alloc, ids.len())?;
+    for id in ids {
+        stops.push(names.place(alloc, id)?)?;
+    }
+    Ok(StopList { command, stops })
+}

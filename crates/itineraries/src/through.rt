@@ -1,0 +1,91 @@
+//! The stops that a ride calls at in between.
+
+ghost use Rattle.std.specs.Prelude.{◌<◌, length};
+
+use answer_lines::Stage;
+use feed_basis::Basis;
+use std::alloc::{AllocError, Global};
+use timetable::Call;
+
+// A ride, by what is told of it.
+#[derive(Clone, Copy)]
+struct Ride<'a> {
+    trip: &'a str,
+    from: &'a str,
+    departs: u32,
+    to: &'a str,
+    arrives: u32,
+}
+
+// The ride that is told, where it is one.
+fn ride_of<'a>(basis: &Basis, stage: &'a Stage) -> Option<Ride<'a>> {
+    match stage {
+        Stage::Walk { .. } => None,
+        Stage::Ride {
+            trip,
+            from,
+            departs,
+            to,
+            arrives,
+        } => Some(Ride {
+            trip: trip.as_str(),
+            from: from.as_str(),
+            departs: basis.moment(departs.date, departs.seconds)?,
+            to: to.as_str(),
+            arrives: basis.moment(arrives.date, arrives.seconds)?,
+        }),
+    }
+}
+
+// The id of a call's stop.
+fn stop_at<'a>(basis: &'a Basis, call: &Call) -> &'a str {
+    if call.stop.number() < basis.timetable().stops() {
+        basis.names().stop(call.stop)
+    } else {
+        ""
+    }
+}
+
+// The calls of the ride's trip, from the one at which it boards to the one at which it alights, where these are calls of it.
+fn calls_of<'a>(basis: &Basis, ride: &Ride<'_>, calls: &'a [Call]) -> Option<&'a [Call]> {
+    let boards = calls.iter().position(|call| call.departure == ride.departs
+        && stop_at(basis, call) == ride.from)?;
+    let behind = &calls[boards..];
+    let alights = behind.iter().skip(1).position(|call| call.arrival == ride.arrives
+        && stop_at(basis, call) == ride.to)?;
+    behind.get(1..alights + 1)
+}
+
+// Whether an instance is of the trip that has this id.
+fn is_of(basis: &Basis, instance: usize, trip: &str) -> bool
+    requires { instance < length basis.now.timetable.instances }
+{
+    basis
+        .names()
+        .trip(basis.timetable().instance(instance).trip())
+        == trip
+}
+
+/// The ids of the stops that a ride calls at between the one where it boards and the one where it alights; none of a walk. It fails only
+/// where memory runs out. The time grows with the timetable's trips on days.
+pub fn stops_between<'a>(
+    alloc: Global,
+    basis: &'a Basis,
+    stage: &Stage,
+) -> Result<Vec<&'a str>, AllocError> {
+    let mut stops = Vec::new(alloc);
+    let Some(ride) = ride_of(basis, stage) else {
+        return Ok(stops);
+    };
+    for (number, instance) in basis.timetable().instances().iter().enumerate() {
+        if is_of(basis, number, ride.trip)
+            && let Some(calls) = calls_of(basis, &ride, instance.calls())
+        {
+            for call in calls {
+                stops.push(stop_at(basis, call))?;
+            }
+            return Ok(stops);
+        }
+    }
+    Ok(stops)
+}
