@@ -8,10 +8,10 @@ use feed_names::open_names;
 use gtfs_tables::{FaultKind, FeedFault, FeedFile};
 use gtfs_text::Sheet;
 use itineraries::{
-    Asked as Question, Clock, NameSheets, geojson, itinerary_of, json, people_text, stop_list_of,
+    Asked as Question, Clock, NameSheets, fault_json, geojson, itinerary_of, json, people_text,
+    stop_list_of,
 };
 use program_inputs::Fault;
-use serde::Serialize;
 use std::alloc::{AllocError, Global};
 use std::format;
 use stop_search::{list_stops, near_stops};
@@ -157,97 +157,10 @@ impl Teller for FolderTeller<'_> {
         if let Format::Names = format {
             return None;
         }
-        told_fault(alloc, fault).ok()
+        line(fault_json(alloc, fault).ok()?).ok()
     }
 
     fn near(&self, alloc: Global, folder: &str, id: &str) -> Option<String> {
         self.near_lines(alloc, folder, id).ok()
     }
-}
-
-// A text up to its first space.
-fn first_word(text: &str) -> &str {
-    match text.split_once(' ') {
-        Some((word, _)) => word,
-        None => text,
-    }
-}
-
-// The code of a fault's text, which stands before its name where there is one.
-fn code_of(shown: &str) -> Option<&str> {
-    let (code, _) = shown.split_once(' ')?;
-    Some(code)
-}
-
-// The name in a fault's text.
-fn name_of(shown: &str) -> &str {
-    match shown.split_once(' ') {
-        Some((_, rest)) => first_word(rest),
-        None => shown,
-    }
-}
-
-// The row of the feed's file that is at fault.
-fn row_of(fault: &Fault<'_>) -> Option<usize> {
-    match fault {
-        Fault::Feed(fault) => Some(fault.row),
-        _ => None,
-    }
-}
-
-// The id that a fault is about.
-fn id_of<'a>(fault: &Fault<'a>) -> Option<&'a str> {
-    match fault {
-        Fault::UnknownStop(id) | Fault::NotStored(id) => Some(id),
-        _ => None,
-    }
-}
-
-// A fault, as it is told to machines.
-#[derive(Drop, Serialize)]
-struct FaultText {
-    // As `F3`; none where the fault has no code.
-    code: Option<String>,
-    name: String,
-    // The feed's file that is at fault, and its row.
-    file: Option<String>,
-    row: Option<usize>,
-    id: Option<String>,
-    status: u8,
-}
-
-// A fault under its name.
-#[derive(Drop, Serialize)]
-struct ToldFault {
-    fault: FaultText,
-}
-
-// A copy of a text, where there is one.
-fn copy_of(alloc: Global, text: Option<&str>) -> Result<Option<String>, AllocError> {
-    match text {
-        Some(text) => Ok(Some(String::from_str(alloc, text)?)),
-        None => Ok(None),
-    }
-}
-
-// The name of the feed's file that is at fault.
-fn file_of(alloc: Global, fault: &Fault<'_>) -> Result<Option<String>, AllocError> {
-    match fault {
-        Fault::Feed(fault) => Ok(Some(format!(in alloc; "{}", fault.file)?)),
-        _ => Ok(None),
-    }
-}
-
-// A fault as an object of JSON, on a line.
-fn told_fault(alloc: Global, fault: &Fault<'_>) -> Result<String, AllocError> {
-    let shown = format!(in alloc; "{fault}")?;
-    let text = FaultText {
-        code: copy_of(alloc, code_of(shown.as_str()))?,
-        name: String::from_str(alloc, name_of(shown.as_str()))?,
-        file: file_of(alloc, fault)?,
-        row: row_of(fault),
-        id: copy_of(alloc, id_of(fault))?,
-        status: fault.status(),
-    };
-    line(json(alloc, &ToldFault { fault: text })?)
 }
