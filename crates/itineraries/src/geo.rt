@@ -135,8 +135,8 @@ fn put_features<'a>(
     Ok(())
 }
 
-/// The rides and walks of the journeys as GeoJSON, on one line, without a line's end: a feature for each, in the order of the journeys, through
-/// the stops that a ride calls at. It fails only where memory runs out.
+/// The rides and walks of the journeys as GeoJSON, on one line, without a line's end: a feature for each, in the order of the journeys,
+/// through the stops that a ride calls at. It fails only where memory runs out.
 pub fn geojson(alloc: Global, itinerary: &Itinerary<'_>) -> Result<String, AllocError> {
     let mut features = Vec::new(alloc);
     for (place, journey) in itinerary.journeys.iter().enumerate() {
