@@ -1,7 +1,7 @@
 use Rattle.std.proofs.Common.{◌-◌, ◌<◌, ◌≤◌, length, ℕ, slice_index_or}
 use Rattle.pattern_tree.specs.Forest.{Branch, IsBefore, step_of}
 use Rattle.pattern_tree.specs.Branch.{branches}
-use Rattle.pattern_tree.proofs.siblings.place.Given as goal
+use Rattle.pattern_tree.proofs.siblings.index_of.Given as goal
 
 abbrev pub invariant-loop-low : goal.invariant-loop-low
 invariant-loop-low g l = record {

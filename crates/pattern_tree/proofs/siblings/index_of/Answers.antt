@@ -4,7 +4,7 @@ use Rattle.pattern_tree.specs.Forest.{Branch, IsBefore, step_of, Step}
 use Rattle.pattern_tree.specs.Branch.{branch, branches}
 use Rattle.pattern_tree.proofs.NodeFacts.{branch_at}
 use Rattle.pattern_tree.proofs.StepFacts.{below_middle, above_middle}
-use Rattle.pattern_tree.proofs.siblings.place.Goals as goal
+use Rattle.pattern_tree.proofs.siblings.index_of.Goals as goal
 
 pub loop-low-preserved-in-Less : goal.loop-low-preserved-in-Less
 loop-low-preserved-in-Less g c =
