@@ -10,7 +10,7 @@ use Rattle.board.specs.Trees.{IsRight}
 use Rattle.shared_planner.specs.Asking.{AreBestBetween, IsAnswered, IsLook, IsUnanswered}
 use Rattle.shared_planner.specs.PlannerView.{PlannerView}
 use Rattle.shared_planner.specs.declared.fault.AskFault.{AskFault}
-use Rattle.answer_lines.specs.Moments.{Says}
+use Rattle.answer_lines.specs.Moments.{TellsMoment}
 use Rattle.answer_lines.specs.declared.answer.Answer.{Answer}
 use Rattle.answer_lines.specs.declared.answer.Answer.TheVariants as answers
 use Rattle.answer_lines.specs.declared.answer.Point.{Point}
@@ -25,7 +25,7 @@ use Rattle.serving.specs.declared.reply.Reply.TheVariants as replies
 -- a point tells the rides and the arrival of a journey, and nothing else of it
 pub record TellsPoint (cover : CoverDays) (journey : PointData) (point : Point) : Type 0 where
   pub rides : point.rides ≡ journey.rides
-  pub at : Says cover journey.arrival point.at
+  pub at : TellsMoment cover journey.arrival point.at
   pub untold : point.stages.items ≡ []
 
 -- the answer tells these journeys
