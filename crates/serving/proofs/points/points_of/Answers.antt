@@ -1,6 +1,6 @@
 use Rattle.std.proofs.Common.{ℕ, rules, subst, ap, ◌∙◌}
 use Rattle.pattern_query.specs.Answer.{PointData}
-use Rattle.answer_lines.specs.Moments.{Says}
+use Rattle.answer_lines.specs.Moments.{TellsMoment}
 use Rattle.serving.specs.Answers.{TellsPoint}
 use Rattle.serving.proofs.PointFacts.{zip_more}
 use Rattle.serving.proofs.points.points_of.Goals as goal
@@ -14,6 +14,6 @@ loop-journey-preserved c =
     c.loop-journey-test.true c.loop-journey.invariant
     (record {
       rides = c.rides.ensures ∙ ap (λ (j : PointData). j.rides) is;
-      at = subst (λ (n : ℕ). Says cover n c.day_time.result) (c.arrival.ensures ∙ ap (λ (j : PointData). j.arrival) is) c.day_time.ensures;
+      at = subst (λ (n : ℕ). TellsMoment cover n c.day_time.result) (c.arrival.ensures ∙ ap (λ (j : PointData). j.arrival) is) c.day_time.ensures;
       untold = search rules;
     }))
