@@ -15,6 +15,7 @@ use feed_basis::Basis;
 use question_lines::Question;
 use shared_planner::{AskFault, Planner};
 use std::alloc::Global;
+use timetable::LATEST_MOMENT;
 use told_journeys::told;
 
 // The refusal of a question, as it is replied.
@@ -37,7 +38,7 @@ fn answer_of(
     legs: bool,
     journeys: &[pattern_query::Point],
 ) -> Reply<'static>
-    requires early { depart ≤ 4_000_000_000 }
+    requires early { depart ≤ LATEST_MOMENT }
     requires known { All (IsKnownJourney basis.now depart) journeys.now }
     ensures { IsTold basis.now depart legs journeys.now result }
 {
