@@ -169,7 +169,8 @@ pub fn run_serve<
 ) -> (u8, Option<D>)
     requires { S.IsAlwaysCallable open_store }
     ensures run { IsOverStore (opening_of (FnOnceReturnsAt S.FnOnce open_store) D.honest D.state D.failures) path.now
-        (IsServeRun (telling_of T.tells T.reports T.finds T.replies) plan.now.style basis.now plan.now.settings.rides (I.remaining input.old))
+        (IsServeRun (telling_of T.tells T.reports T.finds T.replies) plan.now.style basis.now plan.now.settings.rides
+        (I.remaining input.old))
         (run_of (W.contents out.old) (W.contents out.new) result.0) result.1 }
     ensures statuses { Contains statuses result.0 }
 {

@@ -76,8 +76,9 @@ impl<'s, T: ReplyTeller, R: BufRead, W: Write> Meanwhile for Serving<'s, T, R, W
 }
 
 /// Replies to the questions of the input, a line each, on `out`, as the teller has it, while workers build the trees that the file of the
-/// disk lacks, and each is stored and shown to who asks: `serve_lines` says what the lines and the replies are, and `build` what a build is.
-/// Once there are no more lines, or the output refuses a write, no tree is begun any more, and what is in hand ends. The disk comes back.
+/// disk lacks, and each is stored and shown to who asks: `serve_lines` says what the lines and the replies are, and `build` what a build
+/// is. Once there are no more lines, or the output refuses a write, no tree is begun any more, and what is in hand ends. The disk comes
+/// back.
 ///
 /// Each reply stands for one look at the trees that are stored by then. Of a trusted disk an answer is exactly the best of all journeys.
 pub fn serve<
