@@ -89,3 +89,21 @@ pub fn fault_json(alloc: Global, fault: &Fault<'_>) -> Result<String, AllocError
     };
     json(alloc, &Told { fault: text })
 }
+
+/// A fault of this code and name alone, for what no `Fault` says, as an object of JSON like the others.
+pub fn bare_fault_json(
+    alloc: Global,
+    code: Option<&str>,
+    name: &str,
+    status: u8,
+) -> Result<String, AllocError> {
+    let text = FaultText {
+        code,
+        name,
+        file: None,
+        row: None,
+        id: None,
+        status,
+    };
+    json(alloc, &Told { fault: text })
+}

@@ -10,6 +10,7 @@ use commands::run_words;
 use disk_model::FileDisk;
 use program_inputs::{given_words, list_folder, open_feed, out_of_memory, texts, unread};
 use std::hash::RandomState;
+use std::io::BufReader;
 use std::process::ExitCode;
 use std::sync::Wait;
 use std::thread::Threads;
@@ -25,6 +26,9 @@ fn status<T: Threads + Wait + Sync>(rt: &HostRuntime, threads: &T) -> u8 {
     let Ok(texts) = texts(alloc, words.as_slice()) else {
         return out_of_memory("tp", &mut err);
     };
+    let Ok(mut input) = BufReader::new(alloc, rt.stdin()) else {
+        return out_of_memory("tp", &mut err);
+    };
     let keys = RandomState::new(rt).ok();
     let (status, _disk) = run_words(
         alloc,
@@ -36,6 +40,7 @@ fn status<T: Threads + Wait + Sync>(rt: &HostRuntime, threads: &T) -> u8 {
         |folder| list_folder(rt, folder),
         |path| FileDisk::open(rt, path),
         |asked| Meter::new(rt, asked),
+        &mut input,
         &mut out,
         &mut err,
     );
