@@ -18,7 +18,7 @@ use std::thread::Threads;
 // Does what the words say, with workers in such threads, and gives the status.
 fn status<T: Threads + Wait + Sync>(rt: &HostRuntime, threads: &T) -> u8 {
     let alloc = rt.alloc();
-    let (mut out, mut err) = (rt.stdout(), rt.stderr());
+    let (out, mut err) = (rt.stdout(), rt.stderr());
     let words = match given_words(rt) {
         Ok(words) => words,
         Err(error) => return unread("tp", &error, &mut err),
@@ -30,7 +30,7 @@ fn status<T: Threads + Wait + Sync>(rt: &HostRuntime, threads: &T) -> u8 {
         return out_of_memory("tp", &mut err);
     };
     let keys = RandomState::new(rt).ok();
-    let (status, _disk) = run_words(
+    let (status, _disk, _out) = run_words(
         alloc,
         threads,
         keys,
@@ -41,7 +41,7 @@ fn status<T: Threads + Wait + Sync>(rt: &HostRuntime, threads: &T) -> u8 {
         |path| FileDisk::open(rt, path),
         |asked| Meter::new(rt, asked),
         &mut input,
-        &mut out,
+        out,
         &mut err,
     );
     status
