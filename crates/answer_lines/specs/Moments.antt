@@ -5,5 +5,5 @@ use Rattle.service_days.specs.Cover.{CoverDays}
 use Rattle.answer_lines.specs.declared.moment.DayTime.{DayTime}
 
 -- the time of a service day is that of the moment, by the last covered day that has begun
-abbrev pub Says : CoverDays → ℕ → DayTime → Type 0
-Says c moment time = IsSplit c moment (time.date, time.seconds)
+abbrev pub TellsMoment : CoverDays → ℕ → DayTime → Type 0
+TellsMoment c moment time = IsSplit c moment (time.date, time.seconds)

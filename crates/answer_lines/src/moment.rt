@@ -1,7 +1,7 @@
 //! Moments as the program prints them.
 ghost use Rattle.std.specs.Prelude.{Some};
 ghost use Rattle.answer_lines.specs.Printed.{day_time_text};
-ghost use Rattle.answer_lines.specs.Moments.{Says};
+ghost use Rattle.answer_lines.specs.Moments.{TellsMoment};
 
 use jiff::civil::Date;
 use service_days::Cover;
@@ -34,7 +34,7 @@ impl fmt::Display for DayTime {
 
 /// A moment, as a time of a service day.
 pub fn day_time(cover: &Cover, moment: u32) -> DayTime
-    ensures { Says cover.now moment result }
+    ensures { TellsMoment cover.now moment result }
 {
     let (date, seconds) = cover.split(moment);
     DayTime { date, seconds }

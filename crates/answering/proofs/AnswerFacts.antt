@@ -11,9 +11,9 @@ use Rattle.pattern_tree.specs.Content.{Content}
 use Rattle.pattern_query.specs.Answer.{PointData, numbers, AreBest}
 use Rattle.planner.specs.Questions.{IsAskedPoint, ReachesBetween}
 use Rattle.scanned_journeys.specs.Journeys.{IsJourney}
-use Rattle.answering.specs.Answers.{IsReached, IsRideBetween, Shows}
+use Rattle.answering.specs.Answers.{IsReached, IsRideBetween, TellsReached}
 use Rattle.answering.specs.Found.{IsJourneyBetween}
-use Rattle.told_journeys.specs.Points.{ShowsNumbers, Tells}
+use Rattle.told_journeys.specs.Points.{TellsNumbers, Tells}
 use Rattle.answer_lines.specs.declared.answer.Point.{Point}
 use Rattle.feed_basis.specs.Basis.{BasisData}
 
@@ -49,7 +49,7 @@ module _ (table : Table) (k p q d : ℕ) where
 
 -- the numbers alone are shown
 pub shown_numbers : (basis : BasisData) (froms tos : List ℕ) (d : ℕ) (front : List Numbers) (points : List Point)
-    → AllZip (ShowsNumbers basis) front points → AllZip (Shows basis froms tos d false) front points
+    → AllZip (TellsNumbers basis) front points → AllZip (TellsReached basis froms tos d false) front points
 shown_numbers basis froms tos d [] [] h = tt
 shown_numbers basis froms tos d [] (point ∷ points) h = absurd h
 shown_numbers basis froms tos d (n ∷ front) [] h = absurd h
@@ -97,7 +97,7 @@ are_reached table froms tos d (p ∷ journeys) are =
 -- journeys between the stops are told
 pub shown_journeys : (basis : BasisData) (froms tos : List ℕ) (d : ℕ) (wanted : Bool) (journeys : List PointData) (points : List Point)
     → All (IsJourneyBetween basis.timetable froms tos d) journeys → AllZip (Tells basis d wanted) journeys points
-    → AllZip (Shows basis froms tos d wanted) (map numbers journeys) points
+    → AllZip (TellsReached basis froms tos d wanted) (map numbers journeys) points
 shown_journeys basis froms tos d wanted [] [] are h = tt
 shown_journeys basis froms tos d wanted [] (point ∷ points) are h = absurd h
 shown_journeys basis froms tos d wanted (p ∷ journeys) [] are h = absurd h

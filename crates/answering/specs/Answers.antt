@@ -14,8 +14,8 @@ use Rattle.answer_lines.specs.declared.answer.Point.{Point}
 use Rattle.feed_basis.specs.Basis.{BasisData}
 use Rattle.command_line.specs.declared.job.Question.{Question}
 use Rattle.answer_lines.specs.declared.stage.Stage.{Stage}
-use Rattle.answer_lines.specs.Moments.{Says}
-use Rattle.told_journeys.specs.Stages.{ShowsPart, parts_of}
+use Rattle.answer_lines.specs.Moments.{TellsMoment}
+use Rattle.told_journeys.specs.Stages.{TellsStage, stages_of}
 
 -- the leg is a ride from one of the first stops to one of the others that departs at d or later
 abbrev pub IsRideBetween : BasisData → List ℕ → List ℕ → ℕ → Leg → Type 0
@@ -27,7 +27,7 @@ IsDirect basis froms tos d answers.NoRide = (leg : Leg) → ¬ IsRideBetween bas
 IsDirect basis froms tos d (answers.Arrive time) =
     (leg : Leg) × IsRideBetween basis froms tos d leg
     × ((other : Leg) → IsRideBetween basis froms tos d other → arrives basis.timetable leg ≤ arrives basis.timetable other)
-    × Says basis.cover (arrives basis.timetable leg) time
+    × TellsMoment basis.cover (arrives basis.timetable leg) time
 IsDirect basis froms tos d (answers.Points points) = ⊥
 
 -- the legs are a journey from one of the first stops at d to one of the others, with these numbers
@@ -47,25 +47,25 @@ pub record AreStagesOf (basis : BasisData) (froms tos : List ℕ) (d : ℕ) (n :
   pub to : ℕ
   pub legs : List Leg
   pub is : IsJourneyOf basis.timetable froms tos d n from to legs
-  pub told : AllZip (ShowsPart basis) (parts_of basis.timetable from d legs to) stages
+  pub told : AllZip (TellsStage basis) (stages_of basis.timetable from d legs to) stages
 
 -- a point has the rides and the arrival of these numbers, and the stages of such a journey where they are wanted
-pub record Shows (basis : BasisData) (froms tos : List ℕ) (d : ℕ) (wanted : Bool) (n : Numbers) (point : Point) : Type 0 where
+pub record TellsReached (basis : BasisData) (froms tos : List ℕ) (d : ℕ) (wanted : Bool) (n : Numbers) (point : Point) : Type 0 where
   pub rides : point.rides ≡ n.rides
-  pub at : Says basis.cover n.arrival point.at
+  pub at : TellsMoment basis.cover n.arrival point.at
   pub told : wanted ≡ true → AreStagesOf basis froms tos d n point.stages.items
   pub untold : wanted ≡ false → point.stages.items ≡ []
 
--- each point shows the numbers of this front at its place
-abbrev pub ShowsFront : BasisData → List ℕ → List ℕ → ℕ → Bool → List Numbers → Answer → Type 0
-ShowsFront basis froms tos d wanted front answers.NoRide = ⊥
-ShowsFront basis froms tos d wanted front (answers.Arrive time) = ⊥
-ShowsFront basis froms tos d wanted front (answers.Points points) = AllZip (Shows basis froms tos d wanted) front points.items
+-- each point tells the numbers of this front at its index
+abbrev pub TellsFront : BasisData → List ℕ → List ℕ → ℕ → Bool → List Numbers → Answer → Type 0
+TellsFront basis froms tos d wanted front answers.NoRide = ⊥
+TellsFront basis froms tos d wanted front (answers.Arrive time) = ⊥
+TellsFront basis froms tos d wanted front (answers.Points points) = AllZip (TellsReached basis froms tos d wanted) front points.items
 
 -- the best numbers over journeys of at most k rides between these stops, by rising rides
 abbrev pub ArePoints : BasisData → ℕ → Bool → List ℕ → List ℕ → ℕ → Answer → Type 0
 ArePoints basis k wanted froms tos d answer =
-    (front : List Numbers) × AreBest (ReachesBetween basis.timetable k froms tos d) front × ShowsFront basis froms tos d wanted front answer
+    (front : List Numbers) × AreBest (ReachesBetween basis.timetable k froms tos d) front × TellsFront basis froms tos d wanted front answer
 
 -- The answer from the trees that are held: those of the first stops are among them, and each point is a journey with its numbers. Where
 -- these trees are complete, the points are the best over all journeys of at most k rides.
@@ -73,7 +73,7 @@ pub record AreTreePoints (basis : BasisData) (held : Held) (wanted : Bool) (from
   pub stored : All (IsStored held) froms
   pub front : List Numbers
   pub journeys : All (IsReached basis.timetable froms tos d) front
-  pub shown : ShowsFront basis froms tos d wanted front answer
+  pub shown : TellsFront basis froms tos d wanted front answer
   pub exact : (k : ℕ) → AreComplete basis.timetable held k froms → AreBest (ReachesBetween basis.timetable k froms tos d) front
 
 -- the question's ids stand for these stops, and its moment is this one, which is covered

@@ -18,13 +18,13 @@ use program_inputs::Fault;
 use rounds::Rides;
 use scanned_journeys::scan_journeys;
 use std::alloc::{AllocError, Global};
-use timetable::StopId;
+use timetable::{LATEST_MOMENT, StopId};
 use told_journeys::{points_of, told};
 
 // The moment to leave at, where it is one and it is covered.
 fn covered_moment(basis: &Basis, moment: Option<u32>) -> Option<u32>
     ensures moment { IfSome result (λ depart. (moment ≡ Some depart) × (depart ≤ basis.now.timetable.horizon)) }
-    ensures early { IfSome result (λ depart. depart ≤ 4_000_000_000) }
+    ensures early { IfSome result (λ depart. depart ≤ LATEST_MOMENT) }
     ensures sound { IfSome result (λ _. IsSound basis.now) }
     ensures none { IfNone result (¬ IsCovered basis.now.timetable moment) }
 {
@@ -54,7 +54,7 @@ fn between<'a>(
         (asked.from ∷ []) (asked.to ∷ []) asked.depart) }
     ensures from { IfOk result (λ asked. asked.from < stops_of basis.now.timetable) }
     ensures to { IfOk result (λ asked. asked.to < stops_of basis.now.timetable) }
-    ensures early { IfOk result (λ asked. asked.depart ≤ 4_000_000_000) }
+    ensures early { IfOk result (λ asked. asked.depart ≤ LATEST_MOMENT) }
     ensures sound { IfOk result (λ _. IsSound basis.now) }
     ensures refusal { IfErr result (IsUnanswered (stop_alone basis.now.names) NoneMissing basis.now.timetable moment question.now) }
 {
@@ -98,7 +98,7 @@ fn scan_numbers(
 ) -> Result<Answer, AllocError>
     requires from { asked.from < stops_of basis.now.timetable }
     requires to { asked.to < stops_of basis.now.timetable }
-    requires early { asked.depart ≤ 4_000_000_000 }
+    requires early { asked.depart ≤ LATEST_MOMENT }
     ensures { IfOk result (ArePoints basis.now rides false (asked.from ∷ []) (asked.to ∷ []) asked.depart) }
 {
     let front = rounds::scan(
@@ -123,7 +123,7 @@ fn scan_with_legs(
     requires sound { IsSound basis.now }
     requires from { asked.from < stops_of basis.now.timetable }
     requires to { asked.to < stops_of basis.now.timetable }
-    requires early { asked.depart ≤ 4_000_000_000 }
+    requires early { asked.depart ≤ LATEST_MOMENT }
     ensures { IfOk result (ArePoints basis.now rides true (asked.from ∷ []) (asked.to ∷ []) asked.depart) }
 {
     let network = basis.network(alloc)?;
@@ -177,7 +177,7 @@ fn journeys<'a, T: Trees>(
     requires network { network.now ≡ basis.now.timetable }
     ensures found { IfOk result (λ found. AreFound basis.now (T.held trees.now) question.now found.1 found.0) }
     ensures moment { IfOk result (λ found. (moment ≡ Some found.1) × (found.1 ≤ basis.now.timetable.horizon)) }
-    ensures early { IfOk result (λ found. found.1 ≤ 4_000_000_000) }
+    ensures early { IfOk result (λ found. found.1 ≤ LATEST_MOMENT) }
     ensures sound { IfOk result (λ _. IsSound basis.now) }
     ensures refusal { IfErr result (IsUnanswered (stops_at basis.now.names) (IsMissing basis.now (T.held trees.now) question.now)
         basis.now.timetable moment question.now) }

@@ -10,7 +10,7 @@ use direct_connections::Network;
 use pattern_query::{Patterns, ask};
 use rounds::Scratch;
 use std::alloc::AllocError;
-use timetable::{Timetable, plain_direct};
+use timetable::{LATEST_MOMENT, Timetable, plain_direct};
 
 // When the best ride that answers the question arrives, by the lines.
 fn ride_arrival(network: &Network, question: Question) -> Option<u32> {
@@ -34,7 +34,7 @@ fn journey_arrival(
     requires table { IsScratchFor scratch.old timetable.now }
     requires from { question.from < stops_of timetable.now }
     requires to { question.to < stops_of timetable.now }
-    requires early { question.depart ≤ 4_000_000_000 }
+    requires early { question.depart ≤ LATEST_MOMENT }
     ensures { IsScratchFor scratch.new timetable.now }
 {
     let Question { from, to, depart } = question;
@@ -45,7 +45,7 @@ fn journey_arrival(
 // When the last of the best journeys that answer the question arrives, by the tree of the stop that it is from.
 fn tree_arrival(network: &Network, trees: &[Patterns], question: Question) -> Option<u32>
     requires from { question.from < length trees.now }
-    requires early { question.depart ≤ 4_000_000_000 }
+    requires early { question.depart ≤ LATEST_MOMENT }
 {
     let Question { from, to, depart } = question;
     let answer = ask(network, &trees[from.number()], to, depart);

@@ -36,12 +36,17 @@ scan_app = with_rule (with_rule (journey_app (codes "scan")) (flag_rule (codes "
 abbrev pub store_app : Text → App
 store_app name = with_rule (common_app name) (required_rule (codes "store"))
 
--- all trees that the store lacks, built by so many workers, perhaps told how far the build is
+-- a command by which so many workers build the trees that the store lacks
+abbrev pub building_app : Text → App
+building_app name = with_rule (store_app name) (number_rule (codes "workers") (codes "2") 1 64)
+
+-- all of them, perhaps told how far the build is
 abbrev pub build_app : App
-build_app =
-    with_rule (with_rule (store_app (codes "build"))
-    (number_rule (codes "workers") (codes "2") 1 64))
-    (flag_rule (codes "progress"))
+build_app = with_rule (building_app (codes "build")) (flag_rule (codes "progress"))
+
+-- questions line by line, while they are built
+abbrev pub serve_app : App
+serve_app = building_app (codes "serve")
 
 -- the stops whose trees are stored
 abbrev pub list_app : App
@@ -65,7 +70,7 @@ tells_version app = record app { top = record app.top { has_version = true } }
 -- the program, which tells its version: else one of its commands must be named
 abbrev pub program_app : App
 program_app =
-    with_subcommand (with_subcommand (with_subcommand (with_subcommand (with_subcommand (with_subcommand (with_subcommand
+    with_subcommand (with_subcommand (with_subcommand (with_subcommand (with_subcommand (with_subcommand (with_subcommand (with_subcommand
     (needs_subcommand (tells_version (new_app (codes "tp"))))
     check_app.top)
     stops_app.top)
@@ -73,4 +78,5 @@ program_app =
     scan_app.top)
     build_app.top)
     list_app.top)
-    ask_app.top
+    ask_app.top)
+    serve_app.top

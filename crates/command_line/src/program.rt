@@ -4,7 +4,8 @@ ghost use Rattle.std.specs.Prelude.{◌≡◌, codes, false, IfOk, IfErr, IsOkAn
 ghost use Rattle.clap.specs.Words.{app_of, rule_of, kind_of, subcommand_of, subcommand_rows_of, fault_of, with_subcommand, FailsBy};
 ghost use Rattle.clap.specs.declared.error.kind.ErrorKind.TheVariants.{OutOfMemory};
 ghost use Rattle.clap.specs.declared.builder.command.Command.TheViews.{out-Command as fields_of};
-ghost use Rattle.command_line.specs.CommandLine.{ask_app, build_app, check_app, journey_app, list_app, program_app, scan_app, stops_app, store_app, text_rule};
+ghost use Rattle.command_line.specs.CommandLine.{ask_app, build_app, building_app, check_app, journey_app, list_app, program_app};
+ghost use Rattle.command_line.specs.CommandLine.{scan_app, serve_app, stops_app, store_app, text_rule};
 
 use clap::{Arg, ArgMatches, Command, Error};
 use program_inputs::{common, flag, number, optional, required};
@@ -16,6 +17,9 @@ const ABOUT: &str = "Plans journeys over a GTFS Schedule feed.";
 
 const FAULTS: &str = "\
 Example: tp scan --feed demo/feed-m --date 20240102 --from A --to D --at 08:00:00
+
+An answer is lines of ids. With --names, scan and ask tell rides and walks with names, for people;
+with --format json, direct, scan and ask answer in JSON, and with --format geojson for a map.
 
 A fault is a line on standard error, its code and name; for a fault of the feed with the file and
 the row, where row 0 is the header or the whole file:
@@ -86,6 +90,17 @@ memory was refused; the status is 3 then. While it builds, it tells on standard 
 where that is a terminal.
 
 Example: tp build --feed demo/feed-m --date 20240102 --store demo.store";
+
+const SERVE: &str = "Replies to questions line by line, while the missing trees are built";
+
+const SERVE_MORE: &str = "\
+Each line of standard input is a question: the ids of two stops or stations, a date and a time, with
+a tab between each and the next. The reply is what ask prints, or `refused` and why there is no
+answer, and then a line with a dot alone; it is written before the next line is read. A stop whose
+tree isn't stored yet is refused as Q3 NotStored: ask again later. At the end of the input no new
+tree is begun, and `stored N of M` is told on standard error; the status is 3 where trees are missing.
+
+Example: tp serve --feed demo/feed-m --date 20240102 --store demo.store < questions.tsv";
 
 const LIST: &str = "The stops whose trees are stored, in the order in which they were";
 
@@ -222,16 +237,42 @@ fn store<'a>(
     Ok(command.after_help(more))
 }
 
+// A command by which workers build pattern trees, and more to be told below its options.
+fn building<'a>(
+    alloc: Global,
+    name: &'a str,
+    about: &'a str,
+    more: &'a str,
+) -> Result<Command<'a>, Error>
+    ensures shape { IfOk result (λ c. app_of c ≡ building_app name.entry.now) }
+    ensures local { IfOk result (λ c. (fields_of c).has_globals ≡ false) }
+    ensures err { IfErr result (λ e. kind_of e ≡ OutOfMemory) }
+{
+    let command = store(alloc, name, about, more)?.arg(number(
+        alloc, "workers", "N", "2", 1, 64, WORKERS,
+    ))?;
+    Ok(command)
+}
+
 // The command that stores pattern trees.
 fn build<'a>(alloc: Global) -> Result<Command<'a>, Error>
     ensures shape { IfOk result (λ c. app_of c ≡ build_app) }
     ensures local { IfOk result (λ c. (fields_of c).has_globals ≡ false) }
     ensures err { IfErr result (λ e. kind_of e ≡ OutOfMemory) }
 {
-    let command = store(alloc, "build", BUILD, BUILD_MORE)?
-        .arg(number(alloc, "workers", "N", "2", 1, 64, WORKERS))?
-        .arg(flag(alloc, "progress", PROGRESS))?;
+    let command = building(alloc, "build", BUILD, BUILD_MORE)?.arg(flag(
+        alloc, "progress", PROGRESS,
+    ))?;
     Ok(command)
+}
+
+// The command that replies to questions while pattern trees are stored.
+fn serve<'a>(alloc: Global) -> Result<Command<'a>, Error>
+    ensures shape { IfOk result (λ c. app_of c ≡ serve_app) }
+    ensures local { IfOk result (λ c. (fields_of c).has_globals ≡ false) }
+    ensures err { IfErr result (λ e. kind_of e ≡ OutOfMemory) }
+{
+    building(alloc, "serve", SERVE, SERVE_MORE)
 }
 
 // The command that answers from pattern trees.
@@ -293,6 +334,7 @@ fn program<'a>(alloc: Global) -> Result<Command<'a>, Error>
     let program = with_command(program, build(alloc))?;
     let program = with_command(program, list(alloc))?;
     let program = with_command(program, ask(alloc))?;
+    let program = with_command(program, serve(alloc))?;
     Ok(program)
 }
 

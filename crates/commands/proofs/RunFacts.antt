@@ -9,7 +9,7 @@ use Rattle.command_line.specs.declared.workers.Workers.{Workers}
 use Rattle.program_inputs.specs.declared.settings.Settings.{Settings}
 use Rattle.feed_basis.specs.Basis.{BasisData}
 use Rattle.commands.specs.Errands.{IsErrand}
-use Rattle.commands.specs.Runs.{IsBuildRun, IsCommandRun, IsListRun, IsOverStore, IsTaskRun, Opening, Run}
+use Rattle.commands.specs.Runs.{IsBuildRun, IsCommandRun, IsListRun, IsOverStore, IsServeRun, IsTaskRun, Opening, Run}
 use Rattle.commands.specs.Tellings.{Telling}
 use Rattle.commands.specs.Words.{HasWords}
 use Rattle.commands.specs.declared.errand.Errand.{Errand}
@@ -20,13 +20,15 @@ pub has_words : (first : List ℕ) (command : Command) (errand : Errand) → IsE
 has_words first (commands.Answer task) (errands.Answer asked leaving) h = (leaving.day, leaving.seconds, h.1)
 has_words first (commands.Answer task) (errands.Build path workers) h = absurd h
 has_words first (commands.Answer task) (errands.List path) h = absurd h
+has_words first (commands.Answer task) (errands.Serve path workers) h = absurd h
 has_words first (commands.Build store workers progress) errand h = tt
 has_words first (commands.List store) errand h = tt
+has_words first (commands.Serve store workers) errand h = tt
 
-module _ {D : Type 0} (o : Opening D) (t : Telling) (style : Style) (settings : Settings) (basis : BasisData) (run : Run) (disk : Option D) where
+module _ {D : Type 0} (o : Opening D) (t : Telling) (input : Option (List ℕ)) (style : Style) (settings : Settings) (basis : BasisData) (run : Run) (disk : Option D) where
   pub question_run : (command : Command) (task : Task) (leaving : Leaving) (moment : Option ℕ)
       → IsErrand settings.date.now command (errands.Answer task leaving) → IsMoment basis.cover leaving.day leaving.seconds moment
-      → IsTaskRun o t style basis settings.rides moment task run disk → IsCommandRun o t style settings basis command run disk
+      → IsTaskRun o t style basis settings.rides moment task run disk → IsCommandRun o t input style settings basis command run disk
   question_run (commands.Answer asked) task leaving moment h is done = (
     moment,
     record { day = leaving.day; seconds = leaving.seconds; words = h.1; is = is },
@@ -34,19 +36,31 @@ module _ {D : Type 0} (o : Opening D) (t : Telling) (style : Style) (settings : 
   )
   question_run (commands.Build store workers progress) task leaving moment h is done = absurd h
   question_run (commands.List store) task leaving moment h is done = absurd h
+  question_run (commands.Serve store workers) task leaving moment h is done = absurd h
 
   pub build_run : (command : Command) (path : Bor (List ℕ)) (workers : Workers) → IsErrand settings.date.now command (errands.Build path workers)
       → IsOverStore o path.now (IsBuildRun basis settings.rides) run disk
-      → IsCommandRun o t style settings basis command run disk
+      → IsCommandRun o t input style settings basis command run disk
   build_run (commands.Build store asked progress) path workers h done =
       subst (λ p. IsOverStore o p (IsBuildRun basis settings.rides) run disk) h.0 done
   build_run (commands.Answer task) path workers h done = absurd h
   build_run (commands.List store) path workers h done = absurd h
+  build_run (commands.Serve store asked) path workers h done = absurd h
 
   pub list_run : (command : Command) (path : Bor (List ℕ)) → IsErrand settings.date.now command (errands.List path)
       → IsOverStore o path.now (IsListRun t style basis settings.rides) run disk
-      → IsCommandRun o t style settings basis command run disk
+      → IsCommandRun o t input style settings basis command run disk
   list_run (commands.List store) path h done =
       subst (λ p. IsOverStore o p (IsListRun t style basis settings.rides) run disk) h done
   list_run (commands.Answer task) path h done = absurd h
   list_run (commands.Build store workers progress) path h done = absurd h
+  list_run (commands.Serve store workers) path h done = absurd h
+
+  pub serve_run : (command : Command) (path : Bor (List ℕ)) (workers : Workers) → IsErrand settings.date.now command (errands.Serve path workers)
+      → IsOverStore o path.now (IsServeRun basis settings.rides input) run disk
+      → IsCommandRun o t input style settings basis command run disk
+  serve_run (commands.Serve store asked) path workers h done =
+      subst (λ p. IsOverStore o p (IsServeRun basis settings.rides input) run disk) h.0 done
+  serve_run (commands.Answer task) path workers h done = absurd h
+  serve_run (commands.Build store asked progress) path workers h done = absurd h
+  serve_run (commands.List store) path workers h done = absurd h

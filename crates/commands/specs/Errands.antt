@@ -11,9 +11,16 @@ abbrev pub IsErrand : List ℕ → Command → Errand → Type 0
 IsErrand first (commands.Answer task) (errands.Answer asked leaving) = (asked ≡ task) × IsLeaving first task leaving.day leaving.seconds
 IsErrand first (commands.Build store workers progress) (errands.Build path taken) = (path.now ≡ store.now) × (taken ≡ workers)
 IsErrand first (commands.List store) (errands.List path) = path.now ≡ store.now
+IsErrand first (commands.Serve store workers) (errands.Serve path taken) = (path.now ≡ store.now) × (taken ≡ workers)
 IsErrand first (commands.Answer task) (errands.Build path workers) = ⊥
 IsErrand first (commands.Answer task) (errands.List path) = ⊥
+IsErrand first (commands.Answer task) (errands.Serve path workers) = ⊥
 IsErrand first (commands.Build store workers progress) (errands.Answer asked leaving) = ⊥
 IsErrand first (commands.Build store workers progress) (errands.List path) = ⊥
+IsErrand first (commands.Build store workers progress) (errands.Serve path taken) = ⊥
 IsErrand first (commands.List store) (errands.Answer asked leaving) = ⊥
 IsErrand first (commands.List store) (errands.Build path workers) = ⊥
+IsErrand first (commands.List store) (errands.Serve path workers) = ⊥
+IsErrand first (commands.Serve store workers) (errands.Answer asked leaving) = ⊥
+IsErrand first (commands.Serve store workers) (errands.Build path taken) = ⊥
+IsErrand first (commands.Serve store workers) (errands.List path) = ⊥

@@ -1,5 +1,5 @@
 -- What a run leaves on standard output, and its status.
-use Rattle.std.specs.Prelude.{◌≡◌, ◌⊎◌, ℕ, List, [], ◌∷◌, ◌++◌, Option}
+use Rattle.std.specs.Prelude.{◌≡◌, ◌⊎◌, ℕ, List, [], ◌∷◌, ◌++◌, Option, Result, Ok, Err}
 use Rattle.std.specs.Io.KnownBytes.{Appends, Keeps}
 use Rattle.answer_lines.specs.Printed.{answer_text}
 use Rattle.answer_lines.specs.Printing.{AppendsBeginning}
@@ -8,6 +8,9 @@ use Rattle.answer_lines.specs.declared.answer.Answer.{Answer}
 use Rattle.answer_lines.specs.declared.report.Report.{Report}
 use Rattle.program_inputs.specs.Faults.{status_of}
 use Rattle.program_inputs.specs.declared.fault.Fault.{Fault}
+use Rattle.serving.specs.declared.serving.End.{End}
+use Rattle.serving.specs.declared.serving.End.TheVariants as ends
+use Rattle.store_answers.specs.declared.served.Served.{Served}
 
 -- these lines stand on standard output
 pub record IsPrinted (Lines : List ℕ → ℕ → Type 0) (old new : Option (List ℕ)) (status : ℕ) : Type 0 where
@@ -49,6 +52,22 @@ AreReportLines Right text status = (report : Report) × Right report × (text �
 -- the text stands on standard output and the status is this one, or else it is cut off
 abbrev pub IsTextPrinted : List ℕ → ℕ → Option (List ℕ) → Option (List ℕ) → ℕ → Type 0
 IsTextPrinted text meant old new status = ((status ≡ meant) × Appends old new text) ⊎ IsCutOff text old new status
+
+-- the status that tells what came of a build
+abbrev pub built_status : Result Report Fault → ℕ
+built_status (Ok report) = report_status report
+built_status (Err fault) = status_of fault
+
+-- the status that tells how replies ended: standard output refused a write, memory ran out before the first line, or else what came of the
+-- build beside them
+abbrev pub status_after : End → Result Report Fault → ℕ
+status_after ends.OutputRefused built = 8
+status_after ends.NoMemory built = 7
+status_after ends.AllRead built = built_status built
+status_after ends.Unread built = built_status built
+
+abbrev pub served_status : Served → ℕ
+served_status served = status_after served.end served.built
 
 -- the statuses that the program ends with
 abbrev pub statuses : List ℕ

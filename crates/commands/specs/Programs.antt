@@ -27,10 +27,10 @@ pub record NameJob (words : List Text) (job : Job) : Type 0 where
   pub is : IsJob (subcommand_of program_app words) job
 
 -- What a job over a feed's files leaves: `lists` says which names a folder was said to have, `keyed` whether there are keys to look ids up with.
-abbrev pub IsDone : {D N : Type 0} → Opening D → Telling → (List ℕ → Result Names N → Type 0) → Bool → Feed → Job → Run → Option D → Type 0
-IsDone o t lists keyed feed (jobs.Check folder) run disk = IsCheckRun (lists folder.now) keyed feed run × (disk ≡ None)
-IsDone o t lists keyed feed (jobs.Stops folder text all) run disk = ⊥
-IsDone o t lists keyed feed (jobs.Plan plan) run disk = IsRun o t keyed feed plan run disk
+abbrev pub IsDone : {D N : Type 0} → Opening D → Telling → Option (List ℕ) → (List ℕ → Result Names N → Type 0) → Bool → Feed → Job → Run → Option D → Type 0
+IsDone o t input lists keyed feed (jobs.Check folder) run disk = IsCheckRun (lists folder.now) keyed feed run × (disk ≡ None)
+IsDone o t input lists keyed feed (jobs.Stops folder text all) run disk = ⊥
+IsDone o t input lists keyed feed (jobs.Plan plan) run disk = IsRun o t input keyed feed plan run disk
 
 -- The job is done over the files that opening the feed's folder gave, whatever feed they are; or memory ran out as they were opened.
 abbrev pub IsJobRun : {F E : Type 0} → (List ℕ → Result F E → Type 0) → (F → Feed → Type 0) → (Feed → Type 0) → Type 0 → List ℕ → Type 0
@@ -44,12 +44,12 @@ IsStopsRun t (jobs.Check folder) run = ⊥
 IsStopsRun t (jobs.Stops folder text all) run = IsStopsText (t.finds folder.now) text all run.before run.after run.status
 IsStopsRun t (jobs.Plan plan) run = ⊥
 
--- These words, over the feed that their folder opens to, the names that this folder was said to have, and the disk that their store's file
--- opens to, leave these lines, this status and this disk.
-abbrev pub IsProgramRun : {D F E N : Type 0} → Opening D → Telling → (List ℕ → Result F E → Type 0) → (F → Feed → Type 0)
+-- These words, over the bytes of standard input where they are known, the feed that their folder opens to, the names that this folder was
+-- said to have, and the disk that their store's file opens to, leave these lines, this status and this disk.
+abbrev pub IsProgramRun : {D F E N : Type 0} → Opening D → Telling → Option (List ℕ) → (List ℕ → Result F E → Type 0) → (F → Feed → Type 0)
     → (List ℕ → Result Names N → Type 0) → Bool → List Text → Run → Option D → Type 0
-IsProgramRun o t opens reads lists keyed words run disk =
+IsProgramRun o t input opens reads lists keyed words run disk =
     (IsNoJob words run × (disk ≡ None))
     ⊎ ((job : Job) × NameJob words job
     × ((IsStopsRun t job run × (disk ≡ None))
-    ⊎ IsJobRun opens reads (λ feed. IsDone o t lists keyed feed job run disk) (Tells (λ f. f ≡ Memory) run × (disk ≡ None)) (feed_of job)))
+    ⊎ IsJobRun opens reads (λ feed. IsDone o t input lists keyed feed job run disk) (Tells (λ f. f ≡ Memory) run × (disk ≡ None)) (feed_of job)))

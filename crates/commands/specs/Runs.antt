@@ -1,5 +1,5 @@
 -- What a run of the program over a feed and the disk of a store leaves.
-use Rattle.std.specs.Prelude.{◌≡◌, ◌↔◌, ◌⊎◌, ℕ, List, Option, None, Some, Result, Ok, Err, Bool, true}
+use Rattle.std.specs.Prelude.{◌≡◌, ◌↔◌, ◌⊎◌, ℕ, List, Option, None, Some, Result, Ok, Err, IfErr, Bool, true}
 use Rattle.disk_model.specs.Disk.{State}
 use Rattle.disk_model.specs.declared.fault.FileFault.{FileFault}
 use Rattle.disk_model.specs.declared.fault.FileFault.TheVariants as files
@@ -26,9 +26,11 @@ use Rattle.answering.specs.Refusals.{IsUnanswered, NoneMissing}
 use Rattle.store_answers.specs.Asked.{IsStoredAnswer, IsStoredRefusal}
 use Rattle.store_answers.specs.Builds.{IsBuilt, IsUnbuilt}
 use Rattle.store_answers.specs.Listings.{IsListed, IsUnlisted}
-use Rattle.store_answers.specs.Stores.{OnlyFailing}
+use Rattle.store_answers.specs.Replies.{IsServing}
+use Rattle.store_answers.specs.Stores.{IsUnopened, OnlyFailing, form_over}
+use Rattle.store_answers.specs.declared.served.Served.{Served}
 use Rattle.commands.specs.Feeds.{IsGround, IsGroundFault, LeavesAt}
-use Rattle.commands.specs.Prints.{AreReportLines, IsFaulted, IsPrint}
+use Rattle.commands.specs.Prints.{AreReportLines, IsFaulted, IsPrint, served_status}
 use Rattle.commands.specs.Tellings.{IsAnswerPrint, IsReportPrint, Telling, tells_legs}
 
 -- a run: standard output before it and after it, and its status
@@ -115,6 +117,18 @@ IsListRun t style basis k old new MayTell run =
     IsReportPrint t.reports style (IsListed basis k old new) (λ fault. IsUnlisted basis k old new fault × MayTell fault)
     run.before run.after run.status
 
+-- questions of an input were replied to, while what a store lacks was built, and the status tells how both ended
+pub record IsServedRun (basis : BasisData) (k : ℕ) (input : Option (List ℕ)) (old new : State) (MayTell : Fault → Type 0) (run : Run) : Type 0 where
+  pub served : Served
+  pub serving : IsServing basis k old new input run.before run.after served
+  pub may_tell : IfErr served.built MayTell
+  pub said : run.status ≡ served_status served
+
+-- the same, or the store isn't opened
+abbrev pub IsServeRun : BasisData → ℕ → Option (List ℕ) → Use
+IsServeRun basis k input old new MayTell run =
+    IsServedRun basis k input old new MayTell run ⊎ Tells (λ fault. IsUnopened (form_over basis k) old new fault × MayTell fault) run
+
 -- a question, over the timetable, at the moment of its words
 abbrev pub IsTaskRun : {D : Type 0} → Opening D → Telling → Style → BasisData → ℕ → Option ℕ → Task → Run → Option D → Type 0
 IsTaskRun o t style basis k moment (tasks.Direct question) run disk =
@@ -124,21 +138,23 @@ IsTaskRun o t style basis k moment (tasks.Scan question legs) run disk =
 IsTaskRun o t style basis k moment (tasks.Ask question on legs store) run disk =
     IsOverStore o store.now (IsAskRun t style basis k moment question legs) run disk
 
--- a command, over the timetable
-abbrev pub IsCommandRun : {D : Type 0} → Opening D → Telling → Style → Settings → BasisData → Command → Run → Option D → Type 0
-IsCommandRun o t style settings basis (commands.Answer task) run disk =
+-- a command, over the timetable, and over the bytes of standard input where they are known
+abbrev pub IsCommandRun : {D : Type 0} → Opening D → Telling → Option (List ℕ) → Style → Settings → BasisData → Command → Run → Option D → Type 0
+IsCommandRun o t input style settings basis (commands.Answer task) run disk =
     (moment : Option ℕ) × LeavesAt settings task basis moment × IsTaskRun o t style basis settings.rides moment task run disk
-IsCommandRun o t style settings basis (commands.Build store workers progress) run disk =
+IsCommandRun o t input style settings basis (commands.Build store workers progress) run disk =
     IsOverStore o store.now (IsBuildRun basis settings.rides) run disk
-IsCommandRun o t style settings basis (commands.List store) run disk =
+IsCommandRun o t input style settings basis (commands.List store) run disk =
     IsOverStore o store.now (IsListRun t style basis settings.rides) run disk
+IsCommandRun o t input style settings basis (commands.Serve store workers) run disk =
+    IsOverStore o store.now (IsServeRun basis settings.rides input) run disk
 
 -- What a run leaves, in the order in which faults are looked for: the words, the feed and its days; then the store, and then the question.
 -- The store is opened only where the feed and its days are without fault.
-abbrev pub IsRun : {D : Type 0} → Opening D → Telling → Bool → Feed → Plan → Run → Option D → Type 0
-IsRun o t keyed feed plan run disk =
+abbrev pub IsRun : {D : Type 0} → Opening D → Telling → Option (List ℕ) → Bool → Feed → Plan → Run → Option D → Type 0
+IsRun o t input keyed feed plan run disk =
     (Tells (IsGroundFault keyed feed plan) run × (disk ≡ None))
-    ⊎ ((basis : BasisData) × IsGround keyed feed plan.settings basis × IsCommandRun o t plan.style plan.settings basis plan.command run disk)
+    ⊎ ((basis : BasisData) × IsGround keyed feed plan.settings basis × IsCommandRun o t input plan.style plan.settings basis plan.command run disk)
 
 -- the lines that tell what the feed has, and what else is among the names that its folder was said to have
 abbrev pub AreFeedLines : {E : Type 0} → (Result Names E → Type 0) → Bool → Feed → List ℕ → ℕ → Type 0

@@ -25,6 +25,8 @@ pub enum Errand<'a> {
     Build { path: &'a str, workers: Workers },
     /// From the file of that path.
     List(&'a str),
+    /// Over the file of that path, while so many workers build.
+    Serve { path: &'a str, workers: Workers },
 }
 
 /// The words of a plan, with its days and its time read.
@@ -65,6 +67,10 @@ pub fn words_of<'a>(plan: &Plan<'a>) -> Result<Words<'a>, Fault<'a>>
             workers: *workers,
         },
         Command::List { store } => Errand::List(store),
+        Command::Serve { store, workers } => Errand::Serve {
+            path: store,
+            workers: *workers,
+        },
     };
     Ok(Words { first, errand })
 }

@@ -7,6 +7,7 @@ mod errand;
 mod printing;
 mod program;
 mod running;
+mod served;
 mod storing;
 mod telling;
 

@@ -18,7 +18,7 @@ use program_inputs::{out_of_memory, show};
 use std::alloc::Global;
 use std::hash::RandomState;
 use std::io;
-use std::io::{Read, Write};
+use std::io::{BufRead, Read, Write};
 use std::sync::Wait;
 use std::thread::Threads;
 
@@ -30,8 +30,8 @@ fn shows_progress(plan: &Plan<'_>) -> bool {
 /// Reads the program's words, the first of which is its name, and does what they say: `open_feed` opens the files of the feed in the
 /// folder that they name, and `list_folder` gives the names in it; both fail only where memory runs out; `open_store` opens the file of
 /// the store; `progress` gives who is told how far a build is, by whether the words ask that it is shown. Each is called at its turn, or
-/// not at all; `teller` has the texts of formats beside lines, and of stops that are listed. A build has its workers in threads of `rt`. The
-/// answer goes to `out`, a fault to `err`.
+/// not at all; `teller` has the texts of formats beside lines, and of stops that are listed. A build has its workers in threads of `rt`.
+/// Questions that are asked line by line stand in `input`. The answer goes to `out`, a fault to `err`.
 ///
 /// Gives the status to end with, and the disk of the store where it was opened. Ids are looked up under `keys`: where the system gave no
 /// randomness for them, that is the fault.
@@ -39,13 +39,14 @@ pub fn run_words<
     'a,
     H: Threads + Wait + Sync,
     R: Read + Drop,
-    D: Disk + Drop,
+    D: Disk + Drop + Send,
     P: Progress + Drop,
     O: FnOnce(&str) -> io::Result<Files<R>>,
     L: FnOnce(&str) -> io::Result<Option<Vec<String>>>,
     S: FnOnce(&str) -> Result<D, FileFault>,
     M: FnOnce(bool) -> P,
     T: Teller,
+    I: BufRead,
     W: Write,
     E: Write,
 >(
@@ -58,6 +59,7 @@ pub fn run_words<
     list_folder: L,
     open_store: S,
     progress: M,
+    input: &mut I,
     out: &mut W,
     err: &mut E,
 ) -> (u8, Option<D>)
@@ -66,7 +68,8 @@ pub fn run_words<
     requires store { S.IsAlwaysCallable open_store }
     requires progress { M.IsAlwaysCallable progress }
     ensures { IsProgramRun (opening_of (FnOnceReturnsAt S.FnOnce open_store) D.honest D.state D.failures)
-        (telling_of T.tells T.reports T.finds) (FnOnceReturnsAt O.FnOnce open_feed) (AreReaders R.remaining) (FnOnceReturnsAt L.FnOnce list_folder) (is_some keys)
+        (telling_of T.tells T.reports T.finds) (I.remaining input.old) (FnOnceReturnsAt O.FnOnce open_feed) (AreReaders R.remaining)
+        (FnOnceReturnsAt L.FnOnce list_folder) (is_some keys)
         (map (λ word. word.now) words.entry.now)
         (run_of (W.contents out.old) (W.contents out.new) result.0) result.1 }
 {
@@ -102,6 +105,7 @@ pub fn run_words<
                 files,
                 open_store,
                 &mut progress,
+                input,
                 out,
                 err,
             )

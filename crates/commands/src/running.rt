@@ -11,7 +11,7 @@ ghost use Rattle.commands.specs.Tellings.{telling_of};
 ghost use Rattle.commands.specs.Runs.{IsRun, IsTaskRun, opening_of, run_of};
 
 use crate::errand::{Errand, words_of};
-use crate::storing::{run_ask, run_build, run_list};
+use crate::storing::{run_ask, run_build, run_list, run_serve};
 use crate::telling::{Asked, Teller, print_answer_as, tell_plan_fault, tells_legs};
 use answering::{direct, scan};
 use command_line::{Plan, Task};
@@ -22,7 +22,7 @@ use precomputing::Progress;
 use program_inputs::Fault;
 use std::alloc::Global;
 use std::hash::RandomState;
-use std::io::{Read, Write};
+use std::io::{BufRead, Read, Write};
 use std::sync::Wait;
 use std::thread::Threads;
 use timetable::Rides;
@@ -103,18 +103,20 @@ fn ground<'a, R: Read + Drop>(
 /// Does the plan over the feed's files, and over the disk of the store that it names: `open_store` opens the file of that path, and is
 /// called only where the feed and its days are without fault. The answer goes to `out`; a fault goes to `err` behind `tp: `, with a line
 /// beneath it where there is something to do about it. In a style that isn't lines, `teller` has the texts. A build has its workers in
-/// threads of `rt`; while it goes on, `progress` is told how far it is.
+/// threads of `rt`; while it goes on, `progress` is told how far it is. Questions that are asked line by line stand in `input`.
 ///
 /// Gives the status to end with, and the disk where it was opened: 0 done; 1 the feed or its days are at fault; 2 the dates or the time
-/// are; 3 a stop has no tree, since it would be too large or memory was refused for it; 4 the store is at fault, or its device; 6 the question is at fault; 7 memory ran
-/// out; 8 `out` refused a write. Ids are looked up under `keys`: where the system gave no randomness for them, that is the fault.
+/// are; 3 a stop has no tree, since it would be too large, memory was refused for it, or the questions ended before it was built; 4 the
+/// store is at fault, or its device; 6 the question is at fault; 7 memory ran out; 8 `out` refused a write. Ids are looked up under
+/// `keys`: where the system gave no randomness for them, that is the fault.
 pub fn run<
     H: Threads + Wait + Sync,
     R: Read + Drop,
-    D: Disk + Drop,
+    D: Disk + Drop + Send,
     S: FnOnce(&str) -> Result<D, FileFault>,
     P: Progress,
     T: Teller,
+    I: BufRead,
     W: Write,
     E: Write,
 >(
@@ -126,13 +128,14 @@ pub fn run<
     files: Files<R>,
     open_store: S,
     progress: &mut P,
+    input: &mut I,
     out: &mut W,
     err: &mut E,
 ) -> (u8, Option<D>)
     requires { S.IsAlwaysCallable open_store }
     ensures run { (feed : Feed) → AreReaders R.remaining files feed
         → IsRun (opening_of (FnOnceReturnsAt S.FnOnce open_store) D.honest D.state D.failures)
-        (telling_of T.tells T.reports T.finds) (is_some keys) feed plan.now
+        (telling_of T.tells T.reports T.finds) (I.remaining input.old) (is_some keys) feed plan.now
         (run_of (W.contents out.old) (W.contents out.new) result.0) result.1 }
     ensures statuses { Contains statuses result.0 }
 {
@@ -158,6 +161,9 @@ pub fn run<
         ),
         Errand::List(path) => run_list(
             alloc, teller, plan, &basis, rides, path, open_store, out, err,
+        ),
+        Errand::Serve { path, workers } => run_serve(
+            alloc, rt, &basis, rides, path, workers, open_store, input, out, err,
         ),
     }
 }

@@ -5,9 +5,10 @@ ghost use Rattle.std.specs.Fn.{FnOnceReturnsAt};
 ghost use Rattle.std.specs.List.{Contains};
 ghost use Rattle.commands.specs.Prints.{statuses};
 ghost use Rattle.commands.specs.Tellings.{telling_of};
-ghost use Rattle.commands.specs.Runs.{IsAskRun, IsBuildRun, IsListRun, IsOverStore, of_file, opening_of, run_of};
+ghost use Rattle.commands.specs.Runs.{IsAskRun, IsBuildRun, IsListRun, IsOverStore, IsServeRun, of_file, opening_of, run_of};
 
 use crate::printing::{print_report, tell_fault};
+use crate::served::tell_serving;
 use crate::telling::{
     Asked, Teller, print_answer_as, print_report_as, tell_plan_fault, tells_legs,
 };
@@ -18,10 +19,10 @@ use precomputing::Progress;
 use program_inputs::Fault;
 use recovery::RecoverFault;
 use std::alloc::Global;
-use std::io::Write;
+use std::io::{BufRead, Write};
 use std::sync::Wait;
 use std::thread::Threads;
-use store_answers::{ask_stored, build, list};
+use store_answers::{ask_stored, build, list, serve};
 use timetable::Rides;
 
 // Why a file isn't opened, as the program tells it.
@@ -96,6 +97,41 @@ pub fn run_build<
         Ok(disk) => {
             let (report, disk) = build(alloc, rt, basis, rides, disk, workers, progress);
             (print_report(alloc, report, out, err), Some(disk))
+        }
+    }
+}
+
+/// Replies to the questions of the input, line by line, over the file of that path, while workers build the trees that it lacks.
+pub fn run_serve<
+    H: Threads + Wait + Sync,
+    D: Disk + Drop + Send,
+    S: FnOnce(&str) -> Result<D, FileFault>,
+    I: BufRead,
+    W: Write,
+    E: Write,
+>(
+    alloc: Global,
+    rt: &H,
+    basis: &Basis,
+    rides: Rides,
+    path: &str,
+    workers: Workers,
+    open_store: S,
+    input: &mut I,
+    out: &mut W,
+    err: &mut E,
+) -> (u8, Option<D>)
+    requires { S.IsAlwaysCallable open_store }
+    ensures run { IsOverStore (opening_of (FnOnceReturnsAt S.FnOnce open_store) D.honest D.state D.failures) path.now
+        (IsServeRun basis.now rides (I.remaining input.old))
+        (run_of (W.contents out.old) (W.contents out.new) result.0) result.1 }
+    ensures statuses { Contains statuses result.0 }
+{
+    match open_store(path) {
+        Err(fault) => (tell_fault(&file_fault(fault), err), None),
+        Ok(disk) => {
+            let (served, disk) = serve(alloc, rt, basis, rides, disk, workers, input, out);
+            (tell_serving(&served, err), Some(disk))
         }
     }
 }

@@ -18,8 +18,8 @@ IsRowFault feed settings first f =
     Explains (first_fault (feed_tests feed)) f.kind f
     ⊎ ((cover : CoverDays) × AreDays feed settings first cover × IsFault (values_of feed) cover settings.default_walk f)
 
--- With keys to look ids up with, the faults in the order in which they are looked for: the feed is at fault; its days from the first on
--- are. Memory may run out at any time.
+-- With hash keys to look ids up with, the faults in the order in which they are looked for: the feed is at fault; its days from the
+-- first on are. Memory may run out at any time.
 abbrev pub IsKeyedFault : Feed → Settings → Date → Fault → Type 0
 IsKeyedFault feed settings first (faults.Feed f) = IsRowFault feed settings first f
 IsKeyedFault feed settings first (faults.Days f) =
@@ -36,7 +36,7 @@ IsKeyedFault feed settings first faults.StoreInUse = ⊥
 IsKeyedFault feed settings first faults.PutFailed = ⊥
 IsKeyedFault feed settings first (faults.NotStored id) = ⊥
 
--- Where the system gave no randomness for keys, that is the fault, whatever the feed is.
+-- Where the system gave no randomness for hash keys, that is the fault, whatever the feed is.
 abbrev pub IsBasisFault : Bool → Feed → Settings → Date → Fault → Type 0
 IsBasisFault false feed settings first fault = fault ≡ faults.NoRandomness
 IsBasisFault true feed settings first fault = IsKeyedFault feed settings first fault

@@ -2,7 +2,7 @@
 
 ghost use Rattle.std.specs.Prelude.{◌≡◌, ◌∷◌, ◌<◌, [], true, IfOk, IfErr, IfSome, OnOk, is_some, option_map};
 ghost use Rattle.std.specs.Arc.{arc_value};
-ghost use Rattle.answer_lines.specs.Moments.{Says};
+ghost use Rattle.answer_lines.specs.Moments.{TellsMoment};
 ghost use Rattle.feed_basis.specs.Basis.{AreTablesOf, IsBasis, IsSound};
 ghost use Rattle.feed_basis.specs.BasisFaults.{IsBasisFault, IsKeyedFault};
 ghost use Rattle.feed_basis.specs.Ids.{stop_alone};
@@ -100,7 +100,7 @@ impl Basis {
 
     /// The service day and its time that a moment is.
     pub fn day_time(&self, moment: u32) -> DayTime
-        ensures { Says self.now.cover moment result }
+        ensures { TellsMoment self.now.cover moment result }
     {
         day_time(&self.cover, moment)
     }
@@ -117,7 +117,7 @@ impl Basis {
 // The timetable of a feed's tables on the days from the first one on.
 fn basis_over<'a>(
     alloc: Global,
-    keys: RandomState,
+    hash_keys: RandomState,
     settings: &Settings<'a>,
     first: Date,
     tables: &Tables,
@@ -127,7 +127,7 @@ fn basis_over<'a>(
 {
     let cover = Cover::new(first, settings.days, settings.zone)?;
     let timetable = assemble(alloc, tables, &cover, settings.default_walk)?;
-    let names = Names::of(alloc, keys, tables)?;
+    let names = Names::of(alloc, hash_keys, tables)?;
     let Ok(timetable) = Arc::new(alloc, timetable) else {
         return Err(Fault::Memory);
     };
@@ -142,22 +142,23 @@ fn basis_over<'a>(
 }
 
 /// What questions are asked of, over the feed's files and the days from the first one on. It is given only where every test of the feed
-/// holds and the settings' zone is one. Ids are looked up under `keys`: where the system gave no randomness for them, that is the fault,
-/// and nothing is read.
+/// holds and the settings' zone is one. Ids are looked up under `hash_keys`: where the system gave no randomness for them, that is the
+/// fault, and nothing is read.
 pub fn basis_of<'a, R: Read + Drop>(
     alloc: Global,
-    keys: Option<RandomState>,
+    hash_keys: Option<RandomState>,
     settings: &Settings<'a>,
     first: Date,
     files: Files<R>,
 ) -> Result<Basis, Fault<'a>>
     ensures basis { (feed : Feed) → AreReaders R.remaining files feed → IfOk result (IsBasis feed settings.now first) }
-    ensures keyed { OnOk result (is_some keys ≡ true) }
-    ensures fault { (feed : Feed) → AreReaders R.remaining files feed → IfErr result (IsBasisFault (is_some keys) feed settings.now first) }
+    ensures keyed { OnOk result (is_some hash_keys ≡ true) }
+    ensures fault { (feed : Feed) → AreReaders R.remaining files feed
+        → IfErr result (IsBasisFault (is_some hash_keys) feed settings.now first) }
 {
-    let Some(keys) = keys else {
+    let Some(hash_keys) = hash_keys else {
         return Err(Fault::NoRandomness);
     };
-    let tables = read_tables(alloc, keys, files)?;
-    basis_over(alloc, keys, settings, first, &tables)
+    let tables = read_tables(alloc, hash_keys, files)?;
+    basis_over(alloc, hash_keys, settings, first, &tables)
 }

@@ -37,7 +37,7 @@ pub record AreCounts (feed : Feed) (counts : Counts) : Type 0 where
   pub calendar_dates : IsTrue counts.missing.calendar_dates ↔ (feed.calendar_dates ≡ None)
   pub transfers : IsTrue counts.missing.transfers ↔ (feed.transfers ≡ None)
 
--- with keys to look ids up with, the fault of the feed's first test that doesn't hold; memory may run out at any time
+-- with hash keys to look ids up with, the fault of the feed's first test that doesn't hold; memory may run out at any time
 abbrev pub IsReadingFault : Feed → Fault → Type 0
 IsReadingFault feed (faults.Feed f) = Explains (first_fault (feed_tests feed)) f.kind f
 IsReadingFault feed faults.Memory = Unit {0}
@@ -53,7 +53,7 @@ IsReadingFault feed faults.StoreInUse = ⊥
 IsReadingFault feed faults.PutFailed = ⊥
 IsReadingFault feed (faults.NotStored id) = ⊥
 
--- where the system gave no randomness for keys, that is the fault, whatever the feed is
+-- where the system gave no randomness for hash keys, that is the fault, whatever the feed is
 abbrev pub IsCheckFault : Bool → Feed → Fault → Type 0
 IsCheckFault false feed fault = fault ≡ faults.NoRandomness
 IsCheckFault true feed fault = IsReadingFault feed fault

@@ -71,21 +71,22 @@ fn counted(tables: &Tables, missing: Missing) -> Counts
 }
 
 /// Reads the feed's files, and counts what the feed has. It is given only where every test of the feed holds; else the fault of the first
-/// test that doesn't. Ids are looked up under `keys`: where the system gave no randomness for them, that is the fault, and nothing is read.
+/// test that doesn't. Ids are looked up under `hash_keys`: where the system gave no randomness for them, that is the fault, and nothing is
+/// read.
 /// A reader that fails (`ReadFailed`) and want of memory can come in place of any answer.
 pub fn counts_of<R: Read + Drop>(
     alloc: Global,
-    keys: Option<RandomState>,
+    hash_keys: Option<RandomState>,
     files: Files<R>,
 ) -> Result<Counts, Fault<'static>>
     ensures counts { (feed : Feed) → AreReaders R.remaining files feed → IfOk result (AreCounts feed) }
-    ensures keyed { OnOk result (is_some keys ≡ true) }
-    ensures fault { (feed : Feed) → AreReaders R.remaining files feed → IfErr result (IsCheckFault (is_some keys) feed) }
+    ensures keyed { OnOk result (is_some hash_keys ≡ true) }
+    ensures fault { (feed : Feed) → AreReaders R.remaining files feed → IfErr result (IsCheckFault (is_some hash_keys) feed) }
 {
-    let Some(keys) = keys else {
+    let Some(hash_keys) = hash_keys else {
         return Err(Fault::NoRandomness);
     };
     let missing = missing_of(&files);
-    let tables = read_tables(alloc, keys, files)?;
+    let tables = read_tables(alloc, hash_keys, files)?;
     Ok(counted(&tables, missing))
 }

@@ -114,7 +114,7 @@ fn read_row(
 // The rows, where each passes its tests.
 fn read_rows(
     alloc: Global,
-    keys: RandomState,
+    hash_keys: RandomState,
     sheet: &Sheet,
     columns: CalendarColumns,
 ) -> Result<Vec<CalendarRow>, FeedFault>
@@ -122,7 +122,7 @@ fn read_rows(
     ensures { Answers (λ rows. rows.items) result (flat_map (calendar_row_tests sheet.now) (rows_of sheet.now))
         (calendar_values sheet.now) }
 {
-    let mut services: Texts<'_> = IndexSet::with_hasher(alloc, keys);
+    let mut services: Texts<'_> = IndexSet::with_hasher(alloc, hash_keys);
     let mut rows = Vec::new(alloc);
     for row in filled_rows(sheet) {
         let is_new = services.insert(text_under(sheet, columns.service, row))?;
@@ -135,7 +135,7 @@ fn read_rows(
 // The rows of the file, where each of its tests holds.
 fn read_sheet(
     alloc: Global,
-    keys: RandomState,
+    hash_keys: RandomState,
     sheet: &Sheet,
 ) -> Result<Vec<CalendarRow>, FeedFault>
     ensures { Answers (λ rows. rows.items) result (calendar_tests sheet.now) (calendar_values sheet.now) }
@@ -144,7 +144,7 @@ fn read_sheet(
     if !are_there(&[columns.service, columns.start, columns.end]) || !are_there(&columns.weekdays) {
         return Err(FeedFault::new(FaultKind::MissingColumn, FeedFile::Calendar, 0));
     }
-    let rows = read_rows(alloc, keys, sheet, columns)?;
+    let rows = read_rows(alloc, hash_keys, sheet, columns)?;
     if sheet.rows() > ROW_LIMIT {
         return Err(FeedFault::new(FaultKind::TooMany, FeedFile::Calendar, 0));
     }
@@ -158,11 +158,11 @@ fn read_sheet(
 /// `MissingColumn`, row 0, where one of the ten columns isn't there; then row by row `BadField` for an empty
 /// `service_id`, `DuplicateKey` for one that an earlier row has, `BadField` for a weekday that is neither `0` nor `1`,
 /// and `BadField` for a date that is no day of the calendar; then `TooMany`, row 0, for more than 999,999,999 rows, blank
-/// ones among them. `ReadFailed` and `Memory` can come in place of any answer. Services are looked up under `keys`, which
+/// ones among them. `ReadFailed` and `Memory` can come in place of any answer. Services are looked up under `hash_keys`, which
 /// nobody who writes a feed can know.
 pub fn read_calendar<R: Read + Drop>(
     alloc: Global,
-    keys: RandomState,
+    hash_keys: RandomState,
     reader: Option<R>,
 ) -> Result<Vec<CalendarRow>, FeedFault>
     ensures { (bytes : Option (List ℕ)) → IsContent R.remaining reader bytes
@@ -172,5 +172,5 @@ pub fn read_calendar<R: Read + Drop>(
         return Ok(Vec::new(alloc));
     }
     let sheet = open_sheet(alloc, FeedFile::Calendar, reader)?;
-    read_sheet(alloc, keys, &sheet)
+    read_sheet(alloc, hash_keys, &sheet)
 }

@@ -90,7 +90,7 @@ fn read_row(
 // The rows, where each passes its tests.
 fn read_rows(
     alloc: Global,
-    keys: RandomState,
+    hash_keys: RandomState,
     sheet: &Sheet,
     columns: DateColumns,
 ) -> Result<Vec<CalendarDate>, FeedFault>
@@ -98,7 +98,7 @@ fn read_rows(
     ensures { Answers (λ rows. rows.items) result (flat_map (calendar_date_tests sheet.now) (rows_of sheet.now))
         (calendar_date_values sheet.now) }
 {
-    let mut dates: IndexSet<ServiceDate<'_>, RandomState> = IndexSet::with_hasher(alloc, keys);
+    let mut dates: IndexSet<ServiceDate<'_>, RandomState> = IndexSet::with_hasher(alloc, hash_keys);
     let mut rows = Vec::new(alloc);
     for row in filled_rows(sheet) {
         let value = read_row(alloc, sheet, columns, row)?;
@@ -115,7 +115,7 @@ fn read_rows(
 // The rows of the file, where each of its tests holds.
 fn read_sheet(
     alloc: Global,
-    keys: RandomState,
+    hash_keys: RandomState,
     sheet: &Sheet,
 ) -> Result<Vec<CalendarDate>, FeedFault>
     ensures { Answers (λ rows. rows.items) result (calendar_dates_tests sheet.now) (calendar_date_values sheet.now) }
@@ -124,7 +124,7 @@ fn read_sheet(
     if columns.service.is_none() || columns.date.is_none() || columns.exception_type.is_none() {
         return Err(FeedFault::new(FaultKind::MissingColumn, FeedFile::CalendarDates, 0));
     }
-    let rows = read_rows(alloc, keys, sheet, columns)?;
+    let rows = read_rows(alloc, hash_keys, sheet, columns)?;
     if sheet.rows() > ROW_LIMIT {
         return Err(FeedFault::new(FaultKind::TooMany, FeedFile::CalendarDates, 0));
     }
@@ -139,10 +139,10 @@ fn read_sheet(
 /// `service_id`, for a `date` that is no day of the calendar and for an `exception_type` that is neither `1` nor `2`, and
 /// `DuplicateKey` where an earlier row has the service and the day; then `TooMany`, row 0, for more than 999,999,999 rows,
 /// blank ones among them. `ReadFailed` and `Memory` can come in place of any answer. Services and days are looked up under
-/// `keys`, which nobody who writes a feed can know.
+/// `hash_keys`, which nobody who writes a feed can know.
 pub fn read_calendar_dates<R: Read + Drop>(
     alloc: Global,
-    keys: RandomState,
+    hash_keys: RandomState,
     reader: Option<R>,
 ) -> Result<Vec<CalendarDate>, FeedFault>
     ensures { (bytes : Option (List ℕ)) → IsContent R.remaining reader bytes
@@ -153,5 +153,5 @@ pub fn read_calendar_dates<R: Read + Drop>(
         return Ok(Vec::new(alloc));
     }
     let sheet = open_sheet(alloc, FeedFile::CalendarDates, reader)?;
-    read_sheet(alloc, keys, &sheet)
+    read_sheet(alloc, hash_keys, &sheet)
 }

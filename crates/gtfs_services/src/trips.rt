@@ -21,9 +21,9 @@ use std::hash::RandomState;
 pub struct TripRows<'a> {
     /// The trips, in file order.
     pub trips: Vec<Trip>,
-    /// The services that trips name, each once, in the order of their first trips: a trip's `service` is a place here.
+    /// The services that trips name, each once, in the order of their first trips: a trip's `service` is an index here.
     pub services: Vec<Id>,
-    /// The ids of the trips, to look a trip up by: the place of an id is the number of its trip.
+    /// The ids of the trips, to look a trip up by: the index of an id is the number of its trip.
     pub ids: Texts<'a>,
 }
 
@@ -63,7 +63,7 @@ fn row_fault(sheet: &Sheet, columns: TripColumns, is_new: bool, row: usize) -> O
 // Tests each row, and gives the ids.
 fn test_rows<'a>(
     alloc: Global,
-    keys: RandomState,
+    hash_keys: RandomState,
     sheet: &'a Sheet,
     columns: TripColumns,
 ) -> Result<Texts<'a>, FeedFault>
@@ -71,7 +71,7 @@ fn test_rows<'a>(
     ensures tests { Passes result (flat_map (trip_tests sheet.now) (rows_of sheet.now)) }
     ensures ids { IfOk result (λ ids. texts_in ids.keys ≡ trip_ids sheet.now) }
 {
-    let mut ids = IndexSet::with_hasher(alloc, keys);
+    let mut ids = IndexSet::with_hasher(alloc, hash_keys);
     for row in filled_rows(sheet) {
         let is_new = ids.insert(text_under(sheet, columns.id, row))?;
         if let Some(kind) = row_fault(sheet, columns, is_new, row) {
@@ -81,7 +81,7 @@ fn test_rows<'a>(
     Ok(ids)
 }
 
-// The trips. The texts of services join `services`, where a service's number is its place.
+// The trips. The texts of services join `services`, where a service's number is its index.
 fn keep_trips<'a>(
     alloc: Global,
     sheet: &'a Sheet,
@@ -122,10 +122,10 @@ fn keep_services(alloc: Global, services: &Texts<'_>) -> Result<Vec<Id>, AllocEr
 /// The error is the first of these, with its row: `MissingColumn`, row 0, where there is no column `trip_id` or no
 /// `service_id`; then row by row `BadField` for an empty `trip_id`, `DuplicateKey` for one that an earlier row has, and
 /// `BadField` for an empty `service_id`; then `TooMany`, row 0, for more than 999,999,999 rows, blank ones among them.
-/// `Memory` can come in place of any answer. Texts are looked up under `keys`, which nobody who writes a feed can know.
+/// `Memory` can come in place of any answer. Texts are looked up under `hash_keys`, which nobody who writes a feed can know.
 pub fn read_trips(
     alloc: Global,
-    keys: RandomState,
+    hash_keys: RandomState,
     sheet: &Sheet,
 ) -> Result<TripRows<'_>, FeedFault>
     ensures trips { Answers (λ rows. rows.trips.items) result (trips_tests sheet.now) (trip_values sheet.now) }
@@ -139,11 +139,11 @@ pub fn read_trips(
     if columns.id.is_none() || columns.service.is_none() {
         return Err(FeedFault::new(FaultKind::MissingColumn, FeedFile::Trips, 0));
     }
-    let ids = test_rows(alloc, keys, sheet, columns)?;
+    let ids = test_rows(alloc, hash_keys, sheet, columns)?;
     if sheet.rows() > ROW_LIMIT {
         return Err(FeedFault::new(FaultKind::TooMany, FeedFile::Trips, 0));
     }
-    let mut services = IndexSet::with_hasher(alloc, keys);
+    let mut services = IndexSet::with_hasher(alloc, hash_keys);
     let trips = keep_trips(alloc, sheet, columns, &mut services)?;
     let services = keep_services(alloc, &services)?;
     Ok(TripRows {

@@ -80,7 +80,7 @@ fn means(kind: RowKind, text: &str) -> bool
 // The ids of the rows of a kind, in the whole file, each once.
 fn ids_of<'a>(
     alloc: Global,
-    keys: RandomState,
+    hash_keys: RandomState,
     sheet: &'a Sheet,
     columns: StopColumns,
     kind: RowKind,
@@ -88,7 +88,7 @@ fn ids_of<'a>(
     requires { AreStopColumns sheet.now columns }
     ensures { IfOk result (λ ids. texts_in ids.keys ≡ distinct (ids_of_kind kind sheet.now)) }
 {
-    let mut ids = IndexSet::with_hasher(alloc, keys);
+    let mut ids = IndexSet::with_hasher(alloc, hash_keys);
     for row in filled_rows(sheet) {
         if means(kind, text_under(sheet, columns.location_type, row)) {
             ids.insert(text_under(sheet, columns.id, row))?;
@@ -133,7 +133,7 @@ fn row_fault(
 // Tests each row, and gives the ids.
 fn test_rows<'a>(
     alloc: Global,
-    keys: RandomState,
+    hash_keys: RandomState,
     sheet: &'a Sheet,
     columns: StopColumns,
     stations: &Texts<'a>,
@@ -144,7 +144,7 @@ fn test_rows<'a>(
     ensures ids { IfOk result (λ ids. texts_in ids.keys ≡ map (stop_id sheet.now) (rows_of sheet.now)) }
     ensures apart { OnOk result (AreApart (stop_id sheet.now) (rows_of sheet.now)) }
 {
-    let mut ids = IndexSet::with_hasher(alloc, keys);
+    let mut ids = IndexSet::with_hasher(alloc, hash_keys);
     for row in filled_rows(sheet) {
         let is_new = ids.insert(text_under(sheet, columns.id, row))?;
         if let Some(kind) = row_fault(sheet, columns, stations, is_new, row) {
@@ -154,7 +154,7 @@ fn test_rows<'a>(
     Ok(ids)
 }
 
-// The stops. A station's number is its place among the ids of stations.
+// The stops. A station's number is its index among the ids of stations.
 fn keep_stops(
     alloc: Global,
     sheet: &Sheet,
@@ -203,7 +203,7 @@ fn keep_stations(alloc: Global, ids: &Texts<'_>) -> Result<Vec<Station>, AllocEr
 // The ids of the file, where each of its tests holds.
 fn read_ids<'a>(
     alloc: Global,
-    keys: RandomState,
+    hash_keys: RandomState,
     sheet: &'a Sheet,
     columns: StopColumns,
 ) -> Result<StopIds<'a>, FeedFault>
@@ -216,12 +216,12 @@ fn read_ids<'a>(
     if columns.id.is_none() {
         return Err(FeedFault::new(FaultKind::MissingColumn, FeedFile::Stops, 0));
     }
-    let stations = ids_of(alloc, keys, sheet, columns, RowKind::Station)?;
-    let all = test_rows(alloc, keys, sheet, columns, &stations)?;
+    let stations = ids_of(alloc, hash_keys, sheet, columns, RowKind::Station)?;
+    let all = test_rows(alloc, hash_keys, sheet, columns, &stations)?;
     if sheet.rows() > ROW_LIMIT {
         return Err(FeedFault::new(FaultKind::TooMany, FeedFile::Stops, 0));
     }
-    let stops = ids_of(alloc, keys, sheet, columns, RowKind::Stop)?;
+    let stops = ids_of(alloc, hash_keys, sheet, columns, RowKind::Stop)?;
     if stops.len() > STOP_LIMIT {
         return Err(FeedFault::new(FaultKind::TooMany, FeedFile::Stops, 0));
     }
@@ -235,7 +235,7 @@ fn read_ids<'a>(
 /// The rows of stops.txt, where each of its tests holds.
 pub fn read_stops(
     alloc: Global,
-    keys: RandomState,
+    hash_keys: RandomState,
     sheet: &Sheet,
 ) -> Result<StopRows<'_>, FeedFault>
     ensures stops { Answers (λ rows. rows.stops.items) result (stops_tests sheet.now) (stop_values sheet.now) }
@@ -248,7 +248,7 @@ pub fn read_stops(
     ensures linked { IfOk result (λ rows. All (λ stop. IfSome stop.station (λ n. n < length rows.stations.items)) rows.stops.items) }
 {
     let columns = stop_columns(sheet);
-    let ids = read_ids(alloc, keys, sheet, columns)?;
+    let ids = read_ids(alloc, hash_keys, sheet, columns)?;
     let stops = keep_stops(alloc, sheet, columns, &ids.stations)?;
     let stations = keep_stations(alloc, &ids.stations)?;
     Ok(StopRows {

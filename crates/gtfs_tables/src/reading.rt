@@ -83,7 +83,7 @@ struct Calendars {
 // The rows of calendar.txt and of calendar_dates.txt, of which one at least is there.
 fn read_calendars<R: Read + Drop>(
     alloc: Global,
-    keys: RandomState,
+    hash_keys: RandomState,
     calendar: Option<R>,
     calendar_dates: Option<R>,
 ) -> Result<Calendars, FeedFault>
@@ -95,8 +95,8 @@ fn read_calendars<R: Read + Drop>(
     if !is_any_there(&calendar, &calendar_dates) {
         return Err(FeedFault::new(FaultKind::MissingFile, FeedFile::Calendar, 0));
     }
-    let rows = read_calendar(alloc, keys, calendar)?;
-    let dates = read_calendar_dates(alloc, keys, calendar_dates)?;
+    let rows = read_calendar(alloc, hash_keys, calendar)?;
+    let dates = read_calendar_dates(alloc, hash_keys, calendar_dates)?;
     Ok(Calendars { rows, dates })
 }
 
@@ -110,7 +110,7 @@ struct Times {
 // What the files of services and stop_times.txt say, under the ids of stops and trips.
 fn read_times<R: Read + Drop>(
     alloc: Global,
-    keys: RandomState,
+    hash_keys: RandomState,
     calendar: Option<R>,
     calendar_dates: Option<R>,
     stop_times: Option<R>,
@@ -125,8 +125,8 @@ fn read_times<R: Read + Drop>(
         (time_values (texts_in stops.now.keys) (texts_in trips.now.keys) bytes) }
     ensures valid { IfOk result (λ times. AreCallLists (length stops.now.keys) (length trips.now.keys) times.calls.calls) }
 {
-    let calendars = read_calendars(alloc, keys, calendar, calendar_dates)?;
-    let calls = read_stop_times(alloc, keys, stop_times, stops, trips)?;
+    let calendars = read_calendars(alloc, hash_keys, calendar, calendar_dates)?;
+    let calls = read_stop_times(alloc, hash_keys, stop_times, stops, trips)?;
     Ok(Times { calendars, calls })
 }
 
@@ -150,7 +150,7 @@ struct Schedule {
 // The schedule that the files say, under the ids of stops.
 fn read_schedule<R: Read + Drop>(
     alloc: Global,
-    keys: RandomState,
+    hash_keys: RandomState,
     files: ScheduleFiles<R>,
     stops: &Texts<'_>,
 ) -> Result<Schedule, FeedFault>
@@ -160,10 +160,10 @@ fn read_schedule<R: Read + Drop>(
     ensures valid { IfOk result (IsSchedule (length stops.now.keys)) }
 {
     let trips_sheet = open_sheet(alloc, FeedFile::Trips, files.trips)?;
-    let trips = read_trips(alloc, keys, &trips_sheet)?;
+    let trips = read_trips(alloc, hash_keys, &trips_sheet)?;
     let times = read_times(
         alloc,
-        keys,
+        hash_keys,
         files.calendar,
         files.calendar_dates,
         files.stop_times,
@@ -187,7 +187,7 @@ struct Connections {
 // The connections that the files say, under the ids of stops.txt.
 fn read_connections<R: Read + Drop>(
     alloc: Global,
-    keys: RandomState,
+    hash_keys: RandomState,
     files: ScheduleFiles<R>,
     transfers: Option<R>,
     ids: &StopIds<'_>,
@@ -200,7 +200,7 @@ fn read_connections<R: Read + Drop>(
         (connection_values (lists_in ids.now) bytes links) }
     ensures valid { IfOk result (AreConnections (length ids.now.stops.keys) (length ids.now.stations.keys)) }
 {
-    let schedule = read_schedule(alloc, keys, files, &ids.stops)?;
+    let schedule = read_schedule(alloc, hash_keys, files, &ids.stops)?;
     let transfers = read_optional_transfers(alloc, transfers, ids)?;
     Ok(Connections {
         schedule,
@@ -211,7 +211,7 @@ fn read_connections<R: Read + Drop>(
 // The connections, under ids that nobody needs behind them.
 fn connections_of<R: Read + Drop>(
     alloc: Global,
-    keys: RandomState,
+    hash_keys: RandomState,
     files: ScheduleFiles<R>,
     transfers: Option<R>,
     ids: StopIds<'_>,
@@ -224,7 +224,7 @@ fn connections_of<R: Read + Drop>(
         (connection_values (lists_in ids.entry) bytes links) }
     ensures valid { IfOk result (AreConnections (length ids.entry.stops.keys) (length ids.entry.stations.keys)) }
 {
-    read_connections(alloc, keys, files, transfers, &ids)
+    read_connections(alloc, hash_keys, files, transfers, &ids)
 }
 
 // What was read of all files.
@@ -238,7 +238,7 @@ struct FeedRows {
 // The rows of all files, by the order of their tests.
 fn read_rows<R: Read + Drop>(
     alloc: Global,
-    keys: RandomState,
+    hash_keys: RandomState,
     files: Files<R>,
 ) -> Result<FeedRows, FeedFault>
     ensures rows { (feed : Feed) → AreReaders R.remaining files feed → Answers rows_in result (feed_tests feed) (values_of feed) }
@@ -255,8 +255,8 @@ fn read_rows<R: Read + Drop>(
         stops,
         stations,
         ids,
-    } = read_stops(alloc, keys, &sheet)?;
-    let connections = connections_of(alloc, keys, schedule_files, files.transfers, ids)?;
+    } = read_stops(alloc, hash_keys, &sheet)?;
+    let connections = connections_of(alloc, hash_keys, schedule_files, files.transfers, ids)?;
     Ok(FeedRows {
         stops,
         stations,
@@ -300,14 +300,14 @@ fn tables_of(rows: FeedRows) -> Tables
 /// else the fault of the first that doesn't, by the order of files, rows and tests in docs/FORMATS.md. `ReadFailed`, where a
 /// file's reader fails, and `Memory` can come in place of any answer.
 ///
-/// Ids are looked up under `keys`, which nobody who writes a feed can know.
+/// Ids are looked up under `hash_keys`, which nobody who writes a feed can know.
 pub fn read_tables<R: Read + Drop>(
     alloc: Global,
-    keys: RandomState,
+    hash_keys: RandomState,
     files: Files<R>,
 ) -> Result<Tables, FeedFault>
     ensures { (feed : Feed) → AreReaders R.remaining files feed → Answers (λ tables. tables) result (feed_tests feed) (values_of feed) }
 {
-    let rows = read_rows(alloc, keys, files)?;
+    let rows = read_rows(alloc, hash_keys, files)?;
     Ok(tables_of(rows))
 }

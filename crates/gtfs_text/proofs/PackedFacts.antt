@@ -1,5 +1,5 @@
 -- Packed records.
-use Rattle.std.proofs.Common.{◌≡◌, ℕ, zero, suc, ◌+◌, ◌-◌, ◌^◌, ◌<◌, ◌≤◌, Bool, true, false, List, [], ◌∷◌, ◌++◌, length, take, drop, get_or, refl, cond, arith, ◌∙◌, ap, nat_eq, nat_lt, Some, None, append_assoc, length-append, map, add-one, lt-ltb}
+use Rattle.std.proofs.Common.{◌≡◌, ℕ, zero, suc, ◌+◌, ◌-◌, ◌^◌, ◌<◌, ◌≤◌, Bool, true, false, List, [], ◌∷◌, ◌++◌, length, take, drop, get_or, flat_map, refl, cond, arith, ◌∙◌, ap, nat_eq, nat_lt, Some, None, append_assoc, length-append, map, add-one, lt-ltb}
 use Rattle.std.specs.List.{list_all, position_from}
 use Rattle.std.specs.Int.{w64, to_le_bytes}
 use Rattle.std.proofs.lemmas.Nat.{from_le_bytes-to_le_bytes_8}
@@ -10,7 +10,11 @@ use Rattle.std.proofs.lemmas.Bool.{ltb-true}
 use Rattle.std.proofs.Math.Seq.{take-append_seam, drop-append_seam, take-suc, take-length}
 use Rattle.gtfs_text.specs.Sheets.{without_spaces}
 use Rattle.gtfs_text.proofs.TestFacts.{both}
-use Rattle.gtfs_text.specs.Packed.{length_bytes, packed_field, packed_fields, is_long, first_length, behind_length, first_field, next_fields, fields_within, unpacked}
+use Rattle.gtfs_text.specs.Packed.{length_bytes, packed_field, is_long, first_length, behind_length, first_field, next_fields, fields_within, unpacked}
+
+-- a record, packed
+abbrev pub packed_fields : List (List ℕ) → List ℕ
+packed_fields fields = flat_map packed_field fields
 
 -- a packed record is shorter after its first field
 behind_shorter : (packed : List ℕ) → 0 < length packed → length (behind_length packed) < length packed

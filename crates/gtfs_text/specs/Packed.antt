@@ -1,5 +1,5 @@
 -- How a sheet keeps a record in one text: for each field its length, and then its bytes.
-use Rattle.std.specs.Prelude.{Bool, ℕ, zero, suc, List, [], ◌∷◌, ◌++◌, length, take, drop, get_or, flat_map, nat_le, nat_lt, if◌then◌else◌, ◌==◌, ◌&&◌}
+use Rattle.std.specs.Prelude.{Bool, ℕ, zero, suc, List, [], ◌∷◌, ◌++◌, length, take, drop, get_or, nat_le, nat_lt, if◌then◌else◌, ◌==◌, ◌&&◌}
 use Rattle.std.specs.Int.{w64, to_le_bytes, from_le_bytes}
 
 -- a length: one byte below 255, or 255 and eight bytes, the lowest first
@@ -9,10 +9,6 @@ length_bytes size = if nat_lt size 255 then size ∷ [] else 255 ∷ to_le_bytes
 -- a field of a packed record
 abbrev pub packed_field : List ℕ → List ℕ
 packed_field field = length_bytes (length field) ++ field
-
--- a record, packed
-abbrev pub packed_fields : List (List ℕ) → List ℕ
-packed_fields fields = flat_map packed_field fields
 
 -- a packed record begins with a length of nine bytes
 abbrev pub is_long : List ℕ → Bool

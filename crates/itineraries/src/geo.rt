@@ -135,12 +135,12 @@ fn put_features<'a>(
     Ok(())
 }
 
-/// The rides and walks of the journeys as GeoJSON, on one line, without a line's end: a feature for each, in the order of the journeys, through
-/// the stops that a ride calls at. It fails only where memory runs out.
+/// The rides and walks of the journeys as GeoJSON, on one line, without a line's end: a feature for each, in the order of the journeys,
+/// through the stops that a ride calls at. It fails only where memory runs out.
 pub fn geojson(alloc: Global, itinerary: &Itinerary<'_>) -> Result<String, AllocError> {
     let mut features = Vec::new(alloc);
-    for (place, journey) in itinerary.journeys.iter().enumerate() {
-        put_features(alloc, &mut features, place.saturating_add(1), journey)?;
+    for (index, journey) in itinerary.journeys.iter().enumerate() {
+        put_features(alloc, &mut features, index.saturating_add(1), journey)?;
     }
     let collection = FeatureCollection {
         kind: "FeatureCollection",

@@ -134,12 +134,12 @@ impl Teller<'_, '_> {
         let mut legs = Vec::with_capacity(alloc, point.stages.len())?;
         let mut at = begins;
         let mut departs = begins;
-        for (place, stage) in point.stages.iter().enumerate() {
+        for (index, stage) in point.stages.iter().enumerate() {
             if let Stage::Ride {
                 departs: leaves,
                 ..
             } = stage
-                && place == 0
+                && index == 0
             {
                 departs = *leaves;
             }

@@ -18,15 +18,15 @@ halt_cmp a b = ordering_then (nat_cmp a.stop b.stop) (ordering_then (bool_cmp a.
 abbrev pub times_cmp : Times → Times → Ordering
 times_cmp a b = ordering_then (nat_cmp a.arrival b.arrival) (nat_cmp a.departure b.departure)
 
--- instances by their stops and flags, from the first place on
+-- instances by their stops and flags, from the first position on
 abbrev pub by_halts : Table → ℕ → ℕ → Ordering
 by_halts table m n = slice_cmp halt_cmp (halts_of table m) (halts_of table n)
 
--- instances by their times, from the first place on
+-- instances by their times, from the first position on
 abbrev pub by_times : Table → ℕ → ℕ → Ordering
 by_times table m n = slice_cmp times_cmp (course_of table m) (course_of table n)
 
--- what of a place goes into a fingerprint
+-- what of a position goes into a fingerprint
 abbrev pub code : Halt → ℕ
 code halt = 4 * halt.stop + (if halt.board then 2 else 0) + (if halt.alight then 1 else 0)
 

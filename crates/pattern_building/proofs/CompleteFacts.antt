@@ -6,6 +6,7 @@ use Rattle.std.proofs.lemmas.Bool.{cases_eq}
 use Rattle.std.proofs.lemmas.List.{length-map}
 use Rattle.std.proofs.lemmas.List.Kept.{AllPairs-cons}
 use Rattle.std.proofs.lemmas.List.Elements.{All-from_get_or}
+use Rattle.timetable.specs.declared.TheConstants.{LATEST_MOMENT}
 use Rattle.timetable.specs.declared.parts.Call.{Call}
 use Rattle.timetable.specs.declared.parts.Leg.{Leg}
 use Rattle.timetable.specs.declared.parts.Numbers.{Numbers}
@@ -95,7 +96,7 @@ end_inside table s d valid legs t z some j =
     ]
 
 -- an event is no later than the latest time
-pub event_early : (table : Table) (s e : ℕ) → IsTable table → IsEvent table s e → e ≤ 4000000000
+pub event_early : (table : Table) (s e : ℕ) → IsTable table → IsEvent table s e → e ≤ LATEST_MOMENT
 event_early table s e valid event =
     let leg = event.0 in
     let c = there (call_at table leg.instance leg.board) event.1.boards in

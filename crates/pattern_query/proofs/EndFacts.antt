@@ -29,7 +29,7 @@ some_of : {X : Type 0} (xs : List X) (k : ℕ) → k < length xs → X
 some_of [] k lt = absurd (let b : ⊥ = omega (arith, lt) in b)
 some_of (x ∷ xs) k lt = x
 
--- all of a list from some place on
+-- all of a list from some index on
 pub rest_is : {X : Type 0} (from : ℕ) (xs : List X) → take (length xs - from) (drop from xs) ≡ drop from xs
 rest_is from xs = ap (λ k. take k (drop from xs)) (sym (length-drop from xs)) ∙ take-length (drop from xs)
 
@@ -70,12 +70,12 @@ module _ (ps : List Pattern) (end from n : ℕ) (rises : AreByEnd ps)
       let first = get_or-drop from ps n d in
       let here = get_or-drop from ps k d in
       let same = ap (λ (p : Pattern). p.end) first in
-      let place = ap (λ (p : Pattern). p.end) here in
+      let index = ap (λ (p : Pattern). p.end) here in
       let late = not_below (from + n) d (omega arith) (omega (arith, fits, more)) in
       let rise = rises (from + n) (from + k) d more fits in
       elim (cases_eq (get_or (drop from ps) n d).end end) [
         | inl e ↦ absurd (high.other d (omega (arith, le, lt)) e)
-        | inr ne ↦ strictly end (get_or (drop from ps) n d).end (get_or (drop from ps) k d).end ne (omega (arith, late, same)) (omega (arith, rise, same, place))
+        | inr ne ↦ strictly end (get_or (drop from ps) n d).end (get_or (drop from ps) k d).end ne (omega (arith, late, same)) (omega (arith, rise, same, index))
       ]
 
   part_length : length part ≡ n
@@ -110,8 +110,8 @@ module _ (ps : List Pattern) (end from n : ℕ) (rises : AreByEnd ps)
         | inl lt' ↦ absurd (let b = below k d lt' in let bad : ⊥ = omega (arith, b, ends) in bad)
         | inr le ↦ le
       ] in
-      let place : from + (k - from) ≡ k = omega (arith, late) in
-      let there : get_or (drop from ps) (k - from) d ≡ get_or ps k d = get_or-drop from ps (k - from) d ∙ ap (λ i. get_or ps i d) place in
+      let index : from + (k - from) ≡ k = omega (arith, late) in
+      let there : get_or (drop from ps) (k - from) d ≡ get_or ps k d = get_or-drop from ps (k - from) d ∙ ap (λ i. get_or ps i d) index in
       let few : k - from < n = elim (cases_lt (k - from) n) [
         | inl lt' ↦ lt'
         | inr le ↦ absurd (
@@ -124,7 +124,7 @@ module _ (ps : List Pattern) (end from n : ℕ) (rises : AreByEnd ps)
         k - from,
         (omega (arith, few, m, l)),
         get_or-map path_of part (k - from) d path (omega (arith, few, l))
-            ∙ ap path_of (part_at (k - from) d few ∙ ap (λ i. get_or ps i d) place) ∙ ap (λ (p : Pair). p.0) pair,
+            ∙ ap path_of (part_at (k - from) d few ∙ ap (λ i. get_or ps i d) index) ∙ ap (λ (p : Pair). p.0) pair,
       )
 
   pub part_is : (path : List Step) → Contains (map path_of part) path ↔ Contains (pairs_of ps) (path, end)

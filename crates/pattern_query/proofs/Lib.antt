@@ -1,5 +1,5 @@
 pub mod WaySteps
-pub mod PlaceSteps
+pub mod SlotSteps
 pub mod FollowSteps
 pub mod Choosing
 pub mod Best

@@ -10,9 +10,9 @@ use arrayvec::ArrayVec;
 use direct_connections::Network;
 use std::alloc::Allocator;
 use std::marker::Model;
-use timetable::StopId;
+use timetable::{LATEST_MOMENT, StopId};
 
-/// The best journeys found so far: a place for each number of rides, from 0 to 8.
+/// The best journeys found so far: a slot for each number of rides, from 0 to 8.
 #[derive(Debug, Drop)]
 pub struct BestSoFar {
     points: [Option<Point>; 9],
@@ -21,13 +21,13 @@ pub struct BestSoFar {
 impl Model for BestSoFar {
     ghost use Rattle.std.specs.Prelude.{List, Option};
     ghost use Rattle.pattern_query.specs.Answer.{PointData};
-    ghost use Rattle.pattern_query.specs.BestSoFar.{ArePlaces};
+    ghost use Rattle.pattern_query.specs.BestSoFar.{AreSlots};
 
     ghost Value = { List (Option PointData) };
 
     ghost view = { λ a. a.points };
 
-    ghost invariant = { λ a. ArePlaces a.points };
+    ghost invariant = { λ a. AreSlots a.points };
 }
 
 // Whether a point of fewer than `rides` rides arrives by the moment.
@@ -35,8 +35,8 @@ pub(crate) fn is_there_by(points: &[Option<Point>], rides: usize, moment: u32) -
     requires { rides ≤ length points.now }
     ensures { IsTrue result ↔ ThereBy points.now rides moment }
 {
-    for place in &points[..rides] {
-        if let Some(point) = place {
+    for slot in &points[..rides] {
+        if let Some(point) = slot {
             if point.arrival() <= moment {
                 return true;
             }
@@ -45,7 +45,7 @@ pub(crate) fn is_there_by(points: &[Option<Point>], rides: usize, moment: u32) -
     false
 }
 
-// Puts the point in its place, unless one with as few rides arrives as early.
+// Puts the point in its slot, unless one with as few rides arrives as early.
 pub(crate) fn offer(points: &mut [Option<Point>], point: Point)
     requires { point.rides < length points.old }
     ensures { Offered points.old point points.new }
@@ -67,7 +67,7 @@ impl BestSoFar {
     }
 
     /// Puts in the journeys of a source's patterns to `to` at the moment, where none with as few rides arrives as early. The
-    /// moment is at most 4,000,000,000 seconds. It takes no memory.
+    /// moment is at most `LATEST_MOMENT`. It takes no memory.
     pub fn search<A: Allocator>(
         &mut self,
         network: &Network,
@@ -75,7 +75,7 @@ impl BestSoFar {
         to: StopId,
         depart: u32,
     )
-        requires early { depart ≤ 4_000_000_000 }
+        requires early { depart ≤ LATEST_MOMENT }
         ensures { AddsTree network.now patterns.now to depart self.old self.new }
     {
         let search = Search {
@@ -92,8 +92,8 @@ impl BestSoFar {
         ensures { AreChosen self.now result }
     {
         let mut points = ArrayVec::new();
-        for (rides, place) in self.points.iter().enumerate() {
-            if let Some(point) = place {
+        for (rides, slot) in self.points.iter().enumerate() {
+            if let Some(point) = slot {
                 if !is_there_by(&self.points, rides, point.arrival()) {
                     points.push(point.copy());
                 }

@@ -40,14 +40,14 @@ impl<A: Allocator> Visitor for Listed<A> {
     }
 }
 
-// The place of the first pattern that doesn't end at the stop, or how many patterns there are. Few end at one stop, and they lie
+// The index of the first pattern that doesn't end at the stop, or how many patterns there are. Few end at one stop, and they lie
 // side by side: a look at each takes less time than a binary search among all that end at later stops.
 fn first_other(patterns: &[Pattern], end: StopId) -> usize
     ensures { IsFirstOther patterns.now end result }
 {
-    for (place, pattern) in patterns.iter().enumerate() {
+    for (index, pattern) in patterns.iter().enumerate() {
         if pattern.end != end {
-            return place;
+            return index;
         }
     }
     patterns.len()

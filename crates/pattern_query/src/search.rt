@@ -11,7 +11,7 @@ use crate::answer::{Legs, Point};
 use crate::best_so_far::{is_there_by, offer};
 use crate::patterns::Pattern;
 use direct_connections::Network;
-use timetable::{Leg, StopId};
+use timetable::{LATEST_MOMENT, Leg, StopId};
 
 /// What is sought, and where: journeys from a source to a stop.
 #[derive(Clone, Copy)]
@@ -60,7 +60,7 @@ impl Search<'_> {
         points: &[Option<Point>],
     ) -> Option<Leg>
         requires way { Earliest self.now.network.now self.now.source self.now.depart legs.now.items at since }
-        requires early { since ≤ 4_000_000_000 }
+        requires early { since ≤ LATEST_MOMENT }
         requires room { rides < length points.now }
         ensures boards { IfSome result (Boards self.now.network.now (is_some legs.now.items) at since step.0 step.1) }
         ensures none { IfNone result (AreThere self.now.network.now self.now.source self.now.to self.now.depart
@@ -81,7 +81,7 @@ impl Search<'_> {
     // Offers the journey of the legs and the walk from where they lead.
     fn arrive(&self, at: StopId, since: u32, legs: &Legs, points: &mut [Option<Point>])
         requires way { Earliest self.now.network.now self.now.source self.now.depart legs.now.items at since }
-        requires early { since ≤ 4_000_000_000 }
+        requires early { since ≤ LATEST_MOMENT }
         requires room { length legs.now.items < length points.old }
         ensures { Searched self.now.network.now self.now.source self.now.to self.now.depart
             (Exactly (pattern self.now.network.now legs.now.items)) points.old points.new }
@@ -94,7 +94,7 @@ impl Search<'_> {
 
     // Offers the earliest journey along a path, or on foot along an empty one.
     fn follow(&self, path: &[(StopId, StopId)], points: &mut [Option<Point>])
-        requires early { self.now.depart ≤ 4_000_000_000 }
+        requires early { self.now.depart ≤ LATEST_MOMENT }
         requires short { length path.now ≤ 8 }
         requires nine { length points.old ≡ 9 }
         ensures { Searched self.now.network.now self.now.source self.now.to self.now.depart (Exactly path.now) points.old points.new }
@@ -115,7 +115,7 @@ impl Search<'_> {
 
     /// Puts in the journeys from the source to the stop on foot, and along the paths of the patterns.
     pub(crate) fn run(&self, patterns: &[Pattern], points: &mut [Option<Point>])
-        requires early { self.now.depart ≤ 4_000_000_000 }
+        requires early { self.now.depart ≤ LATEST_MOMENT }
         requires nine { length points.old ≡ 9 }
         ensures { Searched self.now.network.now self.now.source self.now.to self.now.depart
             (EmptyOrIn (map path_of patterns.now)) points.old points.new }

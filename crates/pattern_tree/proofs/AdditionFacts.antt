@@ -3,9 +3,14 @@ use Rattle.std.proofs.Common.{◌≡◌, ℕ, zero, suc, ◌<◌, ◌≤◌, ◌
 use Rattle.std.specs.List.{insert}
 use Rattle.std.proofs.lemmas.Bool.{cases_order, lt-ltb, le-ltb, eq-eqb, ne_eqb}
 use Rattle.pattern_tree.specs.Forest.{Branch, Forest, forest, Step, IsBefore, Rises, step_of}
-use Rattle.pattern_tree.specs.Added.{chain_of, with_end, is_before, cons, with_pair, with_pair_from}
+use Rattle.pattern_tree.specs.Added.{chain_of, with_end, is_before, cons, with_pair}
 use Rattle.pattern_tree.specs.Siblings.{StepsRise, IsStepAt, IsGapAt}
 use Rattle.pattern_tree.proofs.PairFacts.{rises_from as rises_first, rises_tail as rises_rest}
+
+-- one node with the pair of q and e from it on
+abbrev pub with_pair_from : List Step → ℕ → Branch → Branch
+with_pair_from [] e b = record { board = b.board; alight = b.alight; ends = with_end e b.ends; next = b.next }
+with_pair_from (t ∷ q) e b = record { board = b.board; alight = b.alight; ends = b.ends; next = with_pair t q e b.next }
 
 pub before_true : (s t : Step) → IsBefore s t → is_before s t ≡ true
 before_true s t (inl a) = rw (lt-ltb s.0 t.0 a)

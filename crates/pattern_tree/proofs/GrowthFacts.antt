@@ -3,14 +3,14 @@ use Rattle.std.proofs.Common.{◌≡◌, ℕ, ◌+◌, ◌<◌, List, [], ◌∷
 use Rattle.std.specs.List.{insert, take-map, drop-map}
 use Rattle.std.proofs.lemmas.List.{take_more, map-set, map-append, set-get_or, length-map}
 use Rattle.pattern_tree.specs.Forest.{Branch, Forest, forest, Step, IsOrdered}
-use Rattle.pattern_tree.specs.Added.{chain_of, with_pair, with_pair_from}
+use Rattle.pattern_tree.specs.Added.{chain_of, with_pair}
 use Rattle.pattern_tree.specs.Branch.{branch_step, branch, branches}
 use Rattle.pattern_tree.specs.Siblings.{IsStepAt, IsGapAt}
 use Rattle.pattern_tree.specs.declared.node.Node.{Node}
 use Rattle.pattern_tree.specs.declared.node.Node.TheOpen.{Node-F}
 use Rattle.pattern_tree.specs.declared.node.Node.TheViews.{out-Node, roll-Node}
 use Rattle.pattern_tree.specs.declared.node.Node.TheFolds.{fold-roll-Node}
-use Rattle.pattern_tree.proofs.AdditionFacts.{added_at, added_gap}
+use Rattle.pattern_tree.proofs.AdditionFacts.{added_at, added_gap, with_pair_from}
 use Rattle.pattern_tree.proofs.SiblingFacts.{steps_rise}
 use Rattle.pattern_tree.proofs.NodeFacts.{branch_out, branch_at}
 

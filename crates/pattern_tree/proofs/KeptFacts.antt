@@ -3,8 +3,8 @@ use Rattle.std.proofs.Common.{◌≡◌, ℕ, zero, suc, ◌+◌, ◌<◌, ◌�
 use Rattle.std.proofs.lemmas.Bool.{cases_order, lt-ltb, le-ltb}
 use Rattle.pattern_tree.specs.Forest.{Branch, Forest, none, node, forest, Step, IsBefore, IsBeforeFirst, IsOrdered, Rises, HasItem, step_of, node_count, end_count, levels}
 use Rattle.pattern_tree.specs.Paths.{Has, IsIn}
-use Rattle.pattern_tree.specs.Added.{chain_of, with_end, cons, with_pair, with_pair_from, missing_count}
-use Rattle.pattern_tree.proofs.AdditionFacts.{compared, added_first, added_later, added_here, before_true, before_false, before_self}
+use Rattle.pattern_tree.specs.Added.{chain_of, with_end, cons, with_pair, missing_count}
+use Rattle.pattern_tree.proofs.AdditionFacts.{compared, added_first, added_later, added_here, before_true, before_false, before_self, with_pair_from}
 use Rattle.pattern_tree.proofs.PairFacts.{rises_tail}
 use Rattle.pattern_tree.specs.Siblings.{StepsRise, IsStepAt, IsGapAt}
 

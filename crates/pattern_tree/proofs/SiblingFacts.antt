@@ -2,9 +2,14 @@
 use Rattle.std.proofs.Common.{IsTrue, Bool, false, rules, ◌≡◌, ℕ, zero, suc, ◌<◌, ◌⊎◌, ◌↔◌, List, [], ◌∷◌, length, get_or, inl, inr, arith, sym, subst}
 use Rattle.std.proofs.lemmas.Bool.{cases_order, cases_lt}
 use Rattle.pattern_tree.specs.Forest.{Branch, Forest, none, node, forest, Step, IsBefore, IsBeforeFirst, IsOrdered, Rises, HasItem, step_of}
-use Rattle.pattern_tree.specs.Paths.{Has, HasFrom, IsIn}
+use Rattle.pattern_tree.specs.Paths.{Has, IsIn}
 use Rattle.pattern_tree.specs.Siblings.{StepsRise, IsStepAt, IsGapAt}
 use Rattle.pattern_tree.proofs.StepFacts.{before_trans, before_irreflexive}
+
+-- a path leads from one node on, whose step is behind, to a node that has the end e
+abbrev pub HasFrom : List Step → ℕ → List ℕ → Forest → Type 0
+HasFrom [] e ends next = IsIn e ends
+HasFrom (t ∷ q) e ends next = Has (t ∷ q) e next
 
 -- the first of the siblings comes before each of the others
 first_before : (s : Step) (bs : List Branch) → IsBeforeFirst s (forest bs) → IsOrdered (forest bs) → (j : ℕ) (d : Branch) → j < length bs → IsBefore s (step_of (get_or bs j d))
@@ -57,7 +62,7 @@ has_somewhere (b ∷ bs) s q e d h =
       | inr k ↦ let w = has_somewhere bs s q e d k in record { index = suc w.index; in_range = omega (arith, w.in_range); is = w.is; has = w.has }
     ]
 
--- nothing begins with a step that has no place
+-- nothing begins with a step that has no index
 pub gap_has_not : (bs : List Branch) (s : Step) (q : List Step) (e i : ℕ) (d : Branch) → IsGapAt bs s i → Has (s ∷ q) e (forest bs) → ⊥
 gap_has_not bs s q e i d gap h =
     let w = has_somewhere bs s q e d h in
@@ -66,9 +71,9 @@ gap_has_not bs s q e i d gap h =
       | inr more ↦ before_irreflexive s (subst (λ (t : Step). IsBefore s t) (sym w.is) (gap.2 w.index d more w.in_range))
     ]
 
--- a step's place is where all that begins with it is found
-pub has_at_place : (bs : List Branch) (s : Step) (q : List Step) (e i : ℕ) (d : Branch) → StepsRise bs → IsStepAt bs s i → Has (s ∷ q) e (forest bs) → HasFrom q e (get_or bs i d).ends (get_or bs i d).next
-has_at_place bs s q e i d rise at h =
+-- a step's index is where all that begins with it is found
+pub has_at_index : (bs : List Branch) (s : Step) (q : List Step) (e i : ℕ) (d : Branch) → StepsRise bs → IsStepAt bs s i → Has (s ∷ q) e (forest bs) → HasFrom q e (get_or bs i d).ends (get_or bs i d).next
+has_at_index bs s q e i d rise at h =
     let w = has_somewhere bs s q e d h in
     elim (cases_order w.index i) [
       | inl same ↦ subst (λ (k : ℕ). HasFrom q e (get_or bs k d).ends (get_or bs k d).next) same w.has
@@ -76,17 +81,17 @@ has_at_place bs s q e i d rise at h =
       | inr (inr more) ↦ absurd (before_irreflexive s (subst (λ (t : Step). IsBefore s t) (sym w.is) (subst (λ (t : Step). IsBefore t (step_of (get_or bs w.index d))) (at.1 d) (rise i w.index d more w.in_range))))
     ]
 
--- what a search that found no place answers
-pub no_place : (bs : List Branch) (path q : List Step) (s : Step) (e i : ℕ) → path ≡ s ∷ q → IsGapAt bs s i → IsTrue false ↔ Has path e (forest bs)
-no_place bs path q s e i is gap =
+-- what a search that found no index answers
+pub no_index : (bs : List Branch) (path q : List Step) (s : Step) (e i : ℕ) → path ≡ s ∷ q → IsGapAt bs s i → IsTrue false ↔ Has path e (forest bs)
+no_index bs path q s e i is gap =
     (λ h. absurd (search rules), λ h. absurd (gap_has_not bs s q e i (record { board = 0; alight = 0; ends = []; next = none }) gap (subst (λ (p : List Step). Has p e (forest bs)) is h)))
 
-pub at_place : (bs : List Branch) (path q : List Step) (s : Step) (e i : ℕ) (n : Branch) (b : Bool) → IsOrdered (forest bs) → path ≡ s ∷ q → IsStepAt bs s i → ((d : Branch) → get_or bs i d ≡ n) → IsTrue b ↔ HasFrom q e n.ends n.next → IsTrue b ↔ Has path e (forest bs)
-at_place bs path q s e i n b ordered is at same h =
+pub at_index : (bs : List Branch) (path q : List Step) (s : Step) (e i : ℕ) (n : Branch) (b : Bool) → IsOrdered (forest bs) → path ≡ s ∷ q → IsStepAt bs s i → ((d : Branch) → get_or bs i d ≡ n) → IsTrue b ↔ HasFrom q e n.ends n.next → IsTrue b ↔ Has path e (forest bs)
+at_index bs path q s e i n b ordered is at same h =
     let back = subst (λ (m : Branch). HasFrom q e m.ends m.next) (same n) in
     let forth = subst (λ (m : Branch). HasFrom q e m.ends m.next) (sym (same n)) in (
       λ t. subst (λ (p : List Step). Has p e (forest bs)) (sym is) (has_at bs s q e i n at.0 (sym (at.1 n)) (forth (h.0 t))),
-      λ k. h.1 (back (has_at_place bs s q e i n (steps_rise bs ordered) at (subst (λ (p : List Step). Has p e (forest bs)) is k))),
+      λ k. h.1 (back (has_at_index bs s q e i n (steps_rise bs ordered) at (subst (λ (p : List Step). Has p e (forest bs)) is k))),
     )
 
 pub from_end : (q : List Step) (e : ℕ) (ends : List ℕ) (next : Forest) (b : Bool) → length q ≡ 0 → IsTrue b ↔ IsIn e ends → IsTrue b ↔ HasFrom q e ends next

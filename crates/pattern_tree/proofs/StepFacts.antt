@@ -1,4 +1,4 @@
--- The order of steps, and places among siblings. Crates above cite what is said of the order from here.
+-- The order of steps, and their indexes among siblings. Crates above cite what is said of the order from here.
 use Rattle.std.proofs.Common.{◌≡◌, ℕ, ◌+◌, ◌<◌, ◌≤◌, List, length, get_or, inl, inr, arith, subst}
 use Rattle.std.proofs.lemmas.Bool.{cases_lt}
 use Rattle.pattern_tree.specs.Forest.{Branch, Forest, none, node, Step, IsBefore, IsBeforeFirst, step_of}

@@ -30,11 +30,6 @@ with_pair s (t ∷ q) e (node b a ends next rest) =
     cond (is_before s (b, a)) (cons (chain_of s (t ∷ q) e) (node b a ends next rest))
     (cond (is_before (b, a) s) (node b a ends next (with_pair s (t ∷ q) e rest)) (node b a ends (with_pair t q e next) rest))
 
--- one node with the pair of q and e from it on
-abbrev pub with_pair_from : List Step → ℕ → Branch → Branch
-with_pair_from [] e b = record { board = b.board; alight = b.alight; ends = with_end e b.ends; next = b.next }
-with_pair_from (t ∷ q) e b = record { board = b.board; alight = b.alight; ends = b.ends; next = with_pair t q e b.next }
-
 -- how many of s and q have no node
 abbrev pub missing_count : Step → List Step → Forest → ℕ
 missing_count s q none = length (s ∷ q)

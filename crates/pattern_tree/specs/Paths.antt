@@ -13,8 +13,3 @@ Has [] e f = ⊥
 Has (s ∷ q) e none = ⊥
 Has (s ∷ []) e (node b a ends next rest) = ((s ≡ (b, a)) × IsIn e ends) ⊎ Has (s ∷ []) e rest
 Has (s ∷ t ∷ q) e (node b a ends next rest) = ((s ≡ (b, a)) × Has (t ∷ q) e next) ⊎ Has (s ∷ t ∷ q) e rest
-
--- the same from one node on, whose step is behind
-abbrev pub HasFrom : List Step → ℕ → List ℕ → Forest → Type 0
-HasFrom [] e ends next = IsIn e ends
-HasFrom (t ∷ q) e ends next = Has (t ∷ q) e next

@@ -1,4 +1,4 @@
--- Places among siblings. Only private clauses cite these words.
+-- Steps among siblings, by index. Only private clauses cite these words.
 use Rattle.std.specs.Prelude.{◌≡◌, ℕ, ◌<◌, ◌≤◌, List, length, slice_index_or, Result, MatchResult}
 use Rattle.std.specs.declared.cmp.Ordering.{Ordering}
 use Rattle.std.specs.declared.cmp.Ordering.TheVariants.{Less, Equal, Greater}
@@ -20,8 +20,8 @@ IsGapAt bs s i =
     × ((k : ℕ) (d : Branch) → i ≤ k → k < length bs → IsBefore s (step_of (slice_index_or bs k d)))
 
 -- where the step s is, or where it would go
-abbrev pub IsPlaceOf : List Branch → Step → Result ℕ ℕ → Type 0
-IsPlaceOf bs s r = MatchResult r (IsStepAt bs s) (IsGapAt bs s)
+abbrev pub IsIndexOf : List Branch → Step → Result ℕ ℕ → Type 0
+IsIndexOf bs s r = MatchResult r (IsStepAt bs s) (IsGapAt bs s)
 
 -- how s compares with t
 abbrev pub IsOrderOf : Step → Step → Ordering → Type 0

@@ -6,7 +6,7 @@ ghost use Rattle.pattern_tree.specs.Branch.{branch, branches};
 ghost use Rattle.pattern_tree.specs.Added.{chain_of, with_end, with_pair};
 
 use crate::node::Node;
-use crate::siblings::place;
+use crate::siblings::index_of;
 use std::alloc::{AllocError, Allocator};
 use timetable::StopId;
 
@@ -56,7 +56,7 @@ pub(crate) fn add<A: Allocator + Clone>(
     ensures ok { OnOk result (forest (branches level.new.items) ≡ with_pair step.now later.now end (forest (branches level.old.items))) }
     ensures err { OnErr result (branches level.new.items ≡ branches level.old.items) }
 {
-    match place(level, step) {
+    match index_of(level, step) {
         Err(at) => {
             let node = chain(level.allocator(), step, later, end)?;
             level.insert(at, node)?;

@@ -7,7 +7,7 @@ ghost use Rattle.pattern_tree.specs.Branch.{branches};
 ghost use Rattle.pattern_tree.specs.Added.{missing_count};
 
 use crate::node::Node;
-use crate::siblings::{has_end, place};
+use crate::siblings::{has_end, index_of};
 use std::alloc::Allocator;
 use timetable::StopId;
 
@@ -19,7 +19,7 @@ pub(crate) fn holds<A: Allocator>(level: &[Node<A>], path: &[(StopId, StopId)], 
     let Some((step, later)) = path.split_first() else {
         return false;
     };
-    let Ok(at) = place(level, step) else {
+    let Ok(at) = index_of(level, step) else {
         return false;
     };
     let node = &level[at];
@@ -41,7 +41,7 @@ pub(crate) fn missing<A: Allocator>(
     ensures count { result ≡ missing_count step.now later.now (forest (branches level.now)) }
     ensures bound { result ≤ length later.now + 1 }
 {
-    let Ok(at) = place(level, step) else {
+    let Ok(at) = index_of(level, step) else {
         return later.len() + 1;
     };
     let Some((below, rest)) = later.split_first() else {

@@ -1,10 +1,10 @@
-//! Places among siblings and among ends, by binary search.
+//! Steps among siblings and ends among ends, by binary search.
 
 ghost use Rattle.std.specs.Prelude.{◌↔◌, IsTrue};
 ghost use Rattle.pattern_tree.specs.Forest.{Rises, step_of};
 ghost use Rattle.pattern_tree.specs.Paths.{IsIn};
 ghost use Rattle.pattern_tree.specs.Branch.{branch, branches};
-ghost use Rattle.pattern_tree.specs.Siblings.{StepsRise, IsPlaceOf, IsOrderOf};
+ghost use Rattle.pattern_tree.specs.Siblings.{StepsRise, IsIndexOf, IsOrderOf};
 
 use crate::node::Node;
 use std::alloc::Allocator;
@@ -22,13 +22,13 @@ fn order_of<A: Allocator>(node: &Node<A>, step: &(StopId, StopId)) -> Ordering
     }
 }
 
-/// The place of a step among siblings: where it is, or where it would go.
-pub(crate) fn place<A: Allocator>(
+/// The index of a step among siblings: where it is, or where it would go.
+pub(crate) fn index_of<A: Allocator>(
     level: &[Node<A>],
     step: &(StopId, StopId),
 ) -> Result<usize, usize>
     requires { StepsRise (branches level.now) }
-    ensures { IsPlaceOf (branches level.now) step.now result }
+    ensures { IsIndexOf (branches level.now) step.now result }
 {
     let mut low = 0;
     let mut high = level.len();

@@ -8,7 +8,7 @@ use Rattle.timetable.specs.Journeys.{Reaches, Unbeaten}
 use Rattle.pattern_tree.specs.Content.{Content}
 use Rattle.pattern_query.specs.Answer.{PointData, numbers, AreBest}
 use Rattle.pattern_query.specs.BestSoFar.{at, ThereBy, AreChosen}
-use Rattle.pattern_query.proofs.PlaceSteps.{none_some}
+use Rattle.pattern_query.proofs.SlotSteps.{none_some}
 use Rattle.pattern_query.proofs.Best.{best_chosen, best_of_all}
 use Rattle.pattern_query.proofs.TreeSteps.{few_rides, has_best}
 use Rattle.planner.specs.Gathered.{AddsAsked}
@@ -24,18 +24,18 @@ the_tree : (s : ℕ) (o : Option Content) → IsSomeAnd o (λ tree. tree.source 
 the_tree s None h = absurd h
 the_tree s (Some tree) h = (tree, refl, h)
 
-module _ (table : Table) (held : Held) (froms tos : List ℕ) (d : ℕ) (start places : List (Option PointData)) (points : List PointData)
-    (none : (r : ℕ) → at start r ≡ None) (added : AddsAsked table (IsAsked held froms tos) d start places) (chosen : AreChosen places points) where
-  is_point : (r : ℕ) (p : PointData) → at places r ≡ Some p → (p.rides ≡ r) × IsAskedPoint table held froms tos d p
+module _ (table : Table) (held : Held) (froms tos : List ℕ) (d : ℕ) (start slots : List (Option PointData)) (points : List PointData)
+    (none : (r : ℕ) → at start r ≡ None) (added : AddsAsked table (IsAsked held froms tos) d start slots) (chosen : AreChosen slots points) where
+  is_point : (r : ℕ) (p : PointData) → at slots r ≡ Some p → (p.rides ≡ r) × IsAskedPoint table held froms tos d p
   is_point r p e = elim (added.attained r p e) [ inl was ↦ absurd (none_some p (sym (none r) ∙ was)) | inr is ↦ (is.0, (is.1, is.2, is.3)) ]
 
   pub points_are : All (IsAskedPoint table held froms tos d) points
   points_are k p in' = (is_point (get_or points k p).rides (get_or points k p) (chosen.each k p in').0).1
 
   pub best_are : AreBest (AskedReaches table held froms tos d) (map numbers points)
-  best_are = best_chosen (AskedReaches table held froms tos d) places points
+  best_are = best_chosen (AskedReaches table held froms tos d) slots points
       (λ r p e. let is = is_point r p e in ((is.1.0, p.to, is.1.1, (p.legs, is.1.2.journey, is.1.2.counted)), is.0))
-      (λ n of. subst (λ r. ThereBy places (suc r) n.arrival) of.3.2 (added.least of.0 of.1 of.3.0 n.arrival of.2 of.3.1)) chosen
+      (λ n of. subst (λ r. ThereBy slots (suc r) n.arrival) of.3.2 (added.least of.0 of.1 of.3.0 n.arrival of.2 of.3.1)) chosen
 
 -- where the trees are complete
 module _ (table : Table) (held : Held) (froms tos : List ℕ) (d : ℕ) (points : List Numbers)

@@ -13,8 +13,8 @@ pub in_none : {X : Type 0} (x : X) → Contains [] x → ⊥
 in_none x c = let k = at_from_Contains [] x c in let b : ⊥ = omega (arith, k.1) in b
 
 module _ (table : Table) (d : ℕ) where
-  pub asked_none : (Asked : Content → ℕ → Type 0) → ((tree : Content) (t : ℕ) → ¬ Asked tree t) → (places : List (Option PointData)) → AddsAsked table Asked d places places
-  asked_none Asked none places = record {
+  pub asked_none : (Asked : Content → ℕ → Type 0) → ((tree : Content) (t : ℕ) → ¬ Asked tree t) → (slots : List (Option PointData)) → AddsAsked table Asked d slots slots
+  asked_none Asked none slots = record {
     attained = λ r p e. inl e;
     kept = λ n a h. h;
     least = λ tree t legs z asked j. absurd (none tree t asked);

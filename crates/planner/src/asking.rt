@@ -10,7 +10,7 @@ use crate::places::stops_of;
 use crate::trees::Trees;
 use direct_connections::Network;
 use pattern_query::{Answer, BestSoFar, Patterns};
-use timetable::{Names, StopId};
+use timetable::{LATEST_MOMENT, Names, StopId};
 
 // Puts in the journeys of the patterns to each of the stops.
 fn search_to(
@@ -20,7 +20,7 @@ fn search_to(
     depart: u32,
     best: &mut BestSoFar,
 )
-    requires early { depart ≤ 4_000_000_000 }
+    requires early { depart ≤ LATEST_MOMENT }
     ensures { AddsAsked network.now (IsTo patterns.now tos.now) depart best.old best.new }
 {
     for to in tos {

@@ -15,7 +15,7 @@ use Rattle.pattern_tree.proofs.OrderFacts.{longest_still, tree_still}
 use Rattle.section_store.specs.Lasting.{IsExact}
 use Rattle.section_store.specs.Sections.{Form, IsNew, Stands, AreTexts}
 use Rattle.section_store.specs.Sources.{is_among}
-use Rattle.planner_life.specs.Board.{shown, IsPlaceOf, IsBoardOf, IsRight, AreRight, IsWhole, IsWholeAmong, AreWholeAmong}
+use Rattle.planner_life.specs.Board.{shown, IsSlotOf, IsBoardOf, IsRight, AreRight, IsWhole, IsWholeAmong, AreWholeAmong}
 
 pub in_one : (m s : ℕ) → Contains (m ∷ []) s → s ≡ m
 in_one m s (k, below, is) = let zero' : k ≡ 0 = omega (arith, below) in sym (subst (λ (i : ℕ). get_or (m ∷ []) i s ≡ s) zero' is)
@@ -61,57 +61,57 @@ some_is a b is = cc
 pub none_some : (a : Content) → None ≡ Some a → ⊥
 none_some a is = cc
 
--- a tree in its place
+-- a tree in its slot
 pub board_more : (stops : ℕ) (list : List ℕ) (board : List (Option Content)) (tree : Content) → length board ≡ stops → IsBoardOf stops list board
     → IsBoardOf stops (list ++ tree.source ∷ []) (slice_set board tree.source (Some tree))
 board_more stops list board tree long is = λ s below. elim (cases_eq s tree.source) [
   | inl same ↦
       let at : shown (slice_set board tree.source (Some tree)) tree.source ≡ Some tree = get_or-set_same board tree.source (Some tree) None (omega (arith, below, same, long)) in
-      let there : IsPlaceOf (list ++ tree.source ∷ []) tree.source (Some tree) = record {
+      let there : IsSlotOf (list ++ tree.source ∷ []) tree.source (Some tree) = record {
         there = sym (among_last tree.source list);
         own = λ other is. ap (λ (t : Content). t.source) (sym (some_is tree other is));
       } in
-      let here : IsPlaceOf (list ++ tree.source ∷ []) tree.source (shown (slice_set board tree.source (Some tree)) tree.source) =
-      subst (IsPlaceOf (list ++ tree.source ∷ []) tree.source) (sym at) there in
-      subst (λ (n : ℕ). IsPlaceOf (list ++ tree.source ∷ []) n (shown (slice_set board tree.source (Some tree)) n)) (sym same) here
+      let here : IsSlotOf (list ++ tree.source ∷ []) tree.source (shown (slice_set board tree.source (Some tree)) tree.source) =
+      subst (IsSlotOf (list ++ tree.source ∷ []) tree.source) (sym at) there in
+      subst (λ (n : ℕ). IsSlotOf (list ++ tree.source ∷ []) n (shown (slice_set board tree.source (Some tree)) n)) (sym same) here
   | inr other ↦
-      let kept : IsPlaceOf (list ++ tree.source ∷ []) s (shown board s) = record {
+      let kept : IsSlotOf (list ++ tree.source ∷ []) s (shown board s) = record {
         there = (is s below).there ∙ sym (among_other s tree.source list other);
         own = (is s below).own;
       } in
-      subst (IsPlaceOf (list ++ tree.source ∷ []) s) (sym (get_or-set_other board tree.source s (Some tree) None other)) kept
+      subst (IsSlotOf (list ++ tree.source ∷ []) s) (sym (get_or-set_other board tree.source s (Some tree) None other)) kept
 ]
 
 pub board_none : (stops : ℕ) (board : List (Option Content)) → ((s : ℕ) → shown board s ≡ None) → IsBoardOf stops [] board
 board_none stops board bare = λ s below. record {
-  there = ap (λ (place : Option Content). is_some place) (bare s);
+  there = ap (λ (slot : Option Content). is_some slot) (bare s);
   own = λ tree at. absurd (none_some tree (sym (bare s) ∙ at));
 }
 
--- what a place tells
-pub place_none : (list : List ℕ) (s : ℕ) (place : Option Content) → IsPlaceOf list s place → None ≡ place → IsNew s list
-place_none list s place is at = among_new s list (sym is.there ∙ ap (λ (p : Option Content). is_some p) (sym at))
+-- what a slot tells
+pub slot_none : (list : List ℕ) (s : ℕ) (slot : Option Content) → IsSlotOf list s slot → None ≡ slot → IsNew s list
+slot_none list s slot is at = among_new s list (sym is.there ∙ ap (λ (p : Option Content). is_some p) (sym at))
 
-pub place_some : (list : List ℕ) (s : ℕ) (place : Option Content) (tree : Content) → IsPlaceOf list s place → Some tree ≡ place → Contains list s × (tree.source ≡ s)
-place_some list s place tree is at = (among_has s list (sym is.there ∙ ap (λ (p : Option Content). is_some p) (sym at)), is.own tree (sym at))
+pub slot_some : (list : List ℕ) (s : ℕ) (slot : Option Content) (tree : Content) → IsSlotOf list s slot → Some tree ≡ slot → Contains list s × (tree.source ≡ s)
+slot_some list s slot tree is at = (among_has s list (sym is.there ∙ ap (λ (p : Option Content). is_some p) (sym at)), is.own tree (sym at))
 
 copied_some : (found : Option (Bor Content)) → is_some (option_copied found) ≡ is_some found
 copied_some None = refl
 copied_some (Some tree) = refl
 
--- what a look at a place tells
-pub look_none : (list : List ℕ) (s : ℕ) (place : Option Content) (found : Option (Bor Content)) → IsPlaceOf list s place → option_copied found ≡ place → is_some found ≡ false → IsNew s list
-look_none list s place found is at none =
+-- what a look at a slot tells
+pub look_none : (list : List ℕ) (s : ℕ) (slot : Option Content) (found : Option (Bor Content)) → IsSlotOf list s slot → option_copied found ≡ slot → is_some found ≡ false → IsNew s list
+look_none list s slot found is at none =
     among_new s list (sym is.there ∙ ap (λ (p : Option Content). is_some p) (sym at) ∙ copied_some found ∙ none)
 
-pub look_some : (list : List ℕ) (s : ℕ) (place : Option Content) (found : Option (Bor Content)) → IsPlaceOf list s place → option_copied found ≡ place → is_some found ≡ true → Contains list s
-look_some list s place found is at some =
+pub look_some : (list : List ℕ) (s : ℕ) (slot : Option Content) (found : Option (Bor Content)) → IsSlotOf list s slot → option_copied found ≡ slot → is_some found ≡ true → Contains list s
+look_some list s slot found is at some =
     among_has s list (sym is.there ∙ ap (λ (p : Option Content). is_some p) (sym at) ∙ copied_some found ∙ some)
 
-set_at : (board : List (Option Content)) (i : ℕ) (place : Option Content) → (shown (slice_set board i place) i ≡ place) ⊎ (shown (slice_set board i place) i ≡ shown board i)
-set_at [] i place = inr refl
-set_at (x ∷ board) zero place = inl refl
-set_at (x ∷ board) (suc i) place = set_at board i place
+set_at : (board : List (Option Content)) (i : ℕ) (slot : Option Content) → (shown (slice_set board i slot) i ≡ slot) ⊎ (shown (slice_set board i slot) i ≡ shown board i)
+set_at [] i slot = inr refl
+set_at (x ∷ board) zero slot = inl refl
+set_at (x ∷ board) (suc i) slot = set_at board i slot
 
 -- what holds of each tree there
 abbrev EachShown : (Content → Type 0) → List (Option Content) → Type 0

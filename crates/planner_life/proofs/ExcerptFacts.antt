@@ -11,9 +11,9 @@ use Rattle.pattern_tree.specs.Content.{Content}
 use Rattle.section_store.specs.Sections.{Form, sources}
 use Rattle.section_store.specs.Sources.{is_among}
 use Rattle.recovery.specs.Excerpts.{trees_of}
-use Rattle.planner_life.specs.Board.{AreOwn, IsBoardOf, IsPlaceOf, IsWholeAmong, ShowsAmong, shown}
+use Rattle.planner_life.specs.Board.{AreOwn, IsBoardOf, IsSlotOf, IsWholeAmong, ShowsAmong, shown}
 use Rattle.planner_life.proofs.BoardFacts.{among_is, none_some}
-use Rattle.planner_life.proofs.DeskFacts.{place_held, place_missing}
+use Rattle.planner_life.proofs.DeskFacts.{slot_held, slot_missing}
 
 -- the sources of trees, looked at one by one
 among_sources : (s : ℕ) (trees : List Content) → is_among s (sources trees) ≡ list_any (λ (t : Content). nat_eq t.source s) trees
@@ -38,18 +38,18 @@ kept_among s froms trees has =
 pub shows_among : (stops : ℕ) (froms : List ℕ) (trees : List Content) (board : List (Option Content)) → IsBoardOf stops (sources (trees_of froms trees)) board
     → ShowsAmong stops froms (sources trees) board
 shows_among stops froms trees board is = record {
-  held = λ s below has. place_held (sources trees) s (shown board s) (place s below has);
-  missing = λ s below has. place_missing (sources trees) s (shown board s) (place s below has);
+  held = λ s below has. slot_held (sources trees) s (shown board s) (slot s below has);
+  missing = λ s below has. slot_missing (sources trees) s (shown board s) (slot s below has);
 } where
-  place : (s : ℕ) → s < stops → Contains froms s → IsPlaceOf (sources trees) s (shown board s)
-  place s below has = record { there = (is s below).there ∙ kept_among s froms trees has; own = (is s below).own }
+  slot : (s : ℕ) → s < stops → Contains froms s → IsSlotOf (sources trees) s (shown board s)
+  slot s below has = record { there = (is s below).there ∙ kept_among s froms trees has; own = (is s below).own }
 
 -- those that are kept are whole where all are
 pub kept_whole : (form : Form) (among froms : List ℕ) (trees : List Content) → All (IsWholeAmong form among) trees
     → All (IsWholeAmong form among) (trees_of froms trees)
 kept_whole form among froms trees all = All-filter (λ (t : Content). is_among t.source froms) (IsWholeAmong form among) trees all
 
--- a board of trees has each in its own place
+-- a board of trees has each in its own slot
 pub board_own : (stops : ℕ) (list : List ℕ) (board : List (Option Content)) → length board ≡ stops → IsBoardOf stops list board → AreOwn board
 board_own stops list board long is s tree at = elim (cases_lt s stops) [
   | inl below ↦ (is s below).own tree at

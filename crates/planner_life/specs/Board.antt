@@ -12,16 +12,16 @@ use Rattle.section_store.specs.Sources.{is_among}
 abbrev pub shown : List (Option Content) → ℕ → Option Content
 shown board s = slice_index_or board s None
 
--- what stands in a stop's place is the stop's tree, where the list has the stop, else nothing
-pub record IsPlaceOf (list : List ℕ) (s : ℕ) (place : Option Content) : Type 0 where
-  pub there : is_some place ≡ is_among s list
-  pub own : (tree : Content) → place ≡ Some tree → tree.source ≡ s
+-- what stands in a stop's slot is the stop's tree, where the list has the stop, else nothing
+pub record IsSlotOf (list : List ℕ) (s : ℕ) (slot : Option Content) : Type 0 where
+  pub there : is_some slot ≡ is_among s list
+  pub own : (tree : Content) → slot ≡ Some tree → tree.source ≡ s
 
--- so it is in the place of each stop of the timetable
+-- so it is in the slot of each stop of the timetable
 abbrev pub IsBoardOf : ℕ → List ℕ → List (Option Content) → Type 0
-IsBoardOf stops list board = (s : ℕ) → s < stops → IsPlaceOf list s (shown board s)
+IsBoardOf stops list board = (s : ℕ) → s < stops → IsSlotOf list s (shown board s)
 
--- a tree that is there stands in the place of its own source
+-- a tree that is there stands in the slot of its own source
 abbrev pub AreOwn : List (Option Content) → Type 0
 AreOwn board = (s : ℕ) (tree : Content) → shown board s ≡ Some tree → tree.source ≡ s
 

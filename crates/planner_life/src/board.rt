@@ -15,7 +15,7 @@ use timetable::StopId;
 /// For each stop the patterns of its tree, where they are there.
 #[derive(Drop)]
 pub struct Board {
-    places: Vec<Option<Patterns>>,
+    slots: Vec<Option<Patterns>>,
 }
 
 impl Model for Board {
@@ -24,20 +24,20 @@ impl Model for Board {
 
     ghost Value = { List (Option Content) };
 
-    ghost view = { λ b. b.places.items };
+    ghost view = { λ b. b.slots.items };
 }
 
 impl Board {
-    // A board with a place for each of so many stops.
+    // A board with a slot for each of so many stops.
     fn empty(alloc: Global, stops: usize) -> Result<Board, AllocError>
         ensures long { IfOk result (λ board. length board ≡ stops) }
         ensures bare { IfOk result (λ board. (s : ℕ) → slice_index_or board s None ≡ None) }
     {
-        let mut places = Vec::with_capacity(alloc, stops)?;
+        let mut slots = Vec::with_capacity(alloc, stops)?;
         for _ in 0..stops {
-            places.push_reserved(None);
+            slots.push_reserved(None);
         }
-        Ok(Board { places })
+        Ok(Board { slots })
     }
 
     /// The board of these trees, of a timetable of so many stops. It fails only where memory runs out.
@@ -55,12 +55,12 @@ impl Board {
         Ok(board)
     }
 
-    /// Puts patterns in the place of their source, where it has one.
+    /// Puts patterns in the slot of their source, where it has one.
     pub fn show(&mut self, patterns: Patterns)
         ensures { self.new ≡ slice_set self.old patterns.source (Some patterns) }
     {
-        if let Some(place) = self.places.get_mut(patterns.source().number()) {
-            *place = Some(patterns);
+        if let Some(slot) = self.slots.get_mut(patterns.source().number()) {
+            *slot = Some(patterns);
         }
     }
 
@@ -68,7 +68,7 @@ impl Board {
     pub fn patterns(&self, source: StopId) -> Option<&Patterns>
         ensures { option_copied result ≡ slice_index_or self.now source None }
     {
-        match self.places.get(source.number()) {
+        match self.slots.get(source.number()) {
             Some(Some(patterns)) => Some(patterns),
             _ => None,
         }

@@ -12,9 +12,9 @@ mod outcome;
 mod precomputing;
 mod progress;
 mod publishing;
-mod running;
 mod stop;
 mod taking;
+mod threads;
 mod worker;
 
 pub use gate::{Free, Gate};

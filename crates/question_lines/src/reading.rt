@@ -7,7 +7,8 @@ ghost use Rattle.question_lines.specs.Reading.{GoesOn};
 use std::io;
 use std::io::{BufRead, ErrorKind};
 
-/// How many bytes of a line are kept: all of the longest question, its carriage return, and one more, by which a line is seen to be too long.
+/// How many bytes of a line are kept: all of the longest question, its carriage return, and one more, by which a line is seen to be too
+/// long.
 pub(crate) const KEPT: usize = 65_538;
 
 /// How far an input has come.

@@ -14,7 +14,7 @@ with_moments [] labels = []
 with_moments (moment ∷ moments) [] = []
 with_moments (moment ∷ moments) (label ∷ labels) = kept moment label ∷ with_moments moments labels
 
--- there is a moment for each label's place, and it is the arrival of the label there
+-- there is a moment for each label's position, and it is the arrival of the label there
 pub record AreAgreed (moments : List (Option ℕ)) (labels : List (Option Mark)) : Type 0 where
   pub size : length labels ≡ length moments
   pub same : (p : ℕ) → when moments p ≡ arrival_of (at (with_moments moments labels) p)

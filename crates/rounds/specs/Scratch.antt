@@ -57,6 +57,6 @@ pub record GoesOn (table : Table) (d : ℕ) (old new : Scratch) : Type 0 where
   pub kept : (e : ℕ) → e ≤ d → MayGoOn table e new
   pub right : AreRounds table (source_of old) d (rides_of old) (kept_of new)
 
--- the view tells of each arrival as it was in these rounds
-abbrev pub TellsOf : List (List (Option Mark)) → RoundView → Type 0
-TellsOf rounds view = (rides t : ℕ) → moment_in (before_of view) rides t ≡ arrival_in rounds rides t
+-- the view remembers of each arrival what it was in these rounds
+abbrev pub Remembers : List (List (Option Mark)) → RoundView → Type 0
+Remembers rounds view = (rides t : ℕ) → moment_in (before_of view) rides t ≡ arrival_in rounds rides t

@@ -16,7 +16,7 @@ use crate::serving::ride_lines;
 use crate::walking::{Stay, walk_from, walk_on};
 use lines::Lines;
 use std::alloc::{AllocError, Global};
-use timetable::{StopId, Timetable};
+use timetable::{LATEST_MOMENT, StopId, Timetable};
 
 /// What is known of each stop after so many rides: when one alights there and when one may board there next.
 #[derive(Debug, Drop)]
@@ -49,7 +49,7 @@ impl Layer {
     /// Settles what is known, and lowers where one may board who is at the stop at the moment and walks.
     pub fn begin(&mut self, table: &Timetable, source: StopId, depart: u32)
         requires source { source < stops_of table.now }
-        requires early { depart ≤ 4_000_000_000 }
+        requires early { depart ≤ LATEST_MOMENT }
         requires sized { IsSized (stops_of table.now) self.old }
         ensures sized { IsSized (stops_of table.now) self.new }
         ensures valid { IsTable table.now }
@@ -81,8 +81,8 @@ pub fn ride_on(
     requires noted { length noted.old ≡ length lines.now.lines }
     requires round { length round.old.marks ≡ stops_of table.now }
     requires short { AllShort 7 before.now.ready.marks }
-    requires early { AllEarly 4_000_000_000 before.now.rode.marks }
-    requires rode { AllEarly 4_000_000_000 after.old.rode.marks }
+    requires early { AllEarly LATEST_MOMENT before.now.rode.marks }
+    requires rode { AllEarly LATEST_MOMENT after.old.rode.marks }
     requires served { Served table.now (arrivals_of known.now) before.now.rode.marks }
     requires next { IsBegunNext table.now before.now after.old }
     requires linked { Stepped (link table.now) (settled_of after.old.rode) after.old.ready.marks }

@@ -10,7 +10,7 @@ mod labels;
 pub mod laws;
 mod layer;
 mod noted;
-mod parts;
+mod path;
 mod plain;
 mod riding;
 mod row;
@@ -20,7 +20,7 @@ mod view;
 mod walking;
 
 pub use best::scan;
-pub use parts::Path;
+pub use path::Path;
 pub use plain::plain_rounds;
 pub use scratch::Scratch;
 pub use timetable::Rides;

@@ -2,16 +2,16 @@
 
 ghost use Rattle.std.specs.Prelude.{◌≡◌, ℕ, ◌<◌, ◌≤◌, ◌⊎◌, ◌++◌, ◌∷◌, [], IfOk, length, replicate, slice_index, vec_len, vec_capacity};
 ghost use Rattle.std.specs.List.{Contains};
-ghost use Rattle.rounds.specs.Noted.{no_place};
+ghost use Rattle.rounds.specs.Noted.{no_position};
 
-use lines::LinePlace;
+use lines::LinePosition;
 use std::alloc::{AllocError, Global};
 use std::marker::Model;
 
-/// More than any place of a line.
-const NO_PLACE: u16 = u16::MAX;
+/// More than any position of a line.
+const NO_POSITION: u16 = u16::MAX;
 
-/// The earliest place of each line from which on to scan it, and which lines have one. Once it is made it takes no memory.
+/// The earliest position of each line from which on to scan it, and which lines have one. Once it is made it takes no memory.
 #[derive(Debug, Drop)]
 pub struct Noted {
     earliest: Vec<u16>,
@@ -39,14 +39,14 @@ fn list(line: u32, listed: &mut Vec<u32>)
     pushed.unwrap();
 }
 
-// Takes the places of these lines away.
+// Takes the positions of these lines away.
 fn clear(listed: &[u32], earliest: &mut [u16])
     requires { (l : ℕ) → Contains listed.now l → l < length earliest.old }
-    ensures { (l : ℕ) → (slice_index earliest.new l ≡ no_place)
+    ensures { (l : ℕ) → (slice_index earliest.new l ≡ no_position)
         ⊎ (¬ Contains listed.now l × (slice_index earliest.new l ≡ slice_index earliest.old l)) }
 {
     for line in listed {
-        earliest[*line as usize] = NO_PLACE;
+        earliest[*line as usize] = NO_POSITION;
     }
 }
 
@@ -56,7 +56,7 @@ impl Noted {
         ensures { IfOk result (λ noted. length noted ≡ lines) }
     {
         Ok(Noted {
-            earliest: vec![in alloc; NO_PLACE; lines]?,
+            earliest: vec![in alloc; NO_POSITION; lines]?,
             lines: Vec::with_capacity(alloc, lines)?,
         })
     }
@@ -69,33 +69,33 @@ impl Noted {
         self.lines.clear();
     }
 
-    /// Lowers the earliest place of the line.
-    pub fn note(&mut self, at: LinePlace)
+    /// Lowers the earliest position of the line.
+    pub fn note(&mut self, at: LinePosition)
         requires { at.line < length self.old }
         ensures lower { (l : ℕ) → slice_index self.new l ≤ slice_index self.old l }
-        ensures noted { slice_index self.new at.line ≤ at.place }
+        ensures noted { slice_index self.new at.line ≤ at.position }
         ensures size { length self.new ≡ length self.old }
     {
         let line = at.line as usize;
         let before = self.earliest[line];
-        if at.place < before {
-            if before == NO_PLACE {
+        if at.position < before {
+            if before == NO_POSITION {
                 list(at.line, &mut self.lines);
             }
-            self.earliest[line] = at.place;
+            self.earliest[line] = at.position;
         }
     }
 
     /// The lines that are noted, each once.
     pub fn lines(&self) -> &[u32]
-        ensures all { (l : ℕ) → slice_index self.now l < no_place → l < length self.now → Contains result.now l }
+        ensures all { (l : ℕ) → slice_index self.now l < no_position → l < length self.now → Contains result.now l }
         ensures within { (l : ℕ) → Contains result.now l → l < length self.now }
     {
         &self.lines
     }
 
-    /// The earliest place of the line.
-    pub fn place(&self, line: usize) -> usize
+    /// The earliest position of the line.
+    pub fn position(&self, line: usize) -> usize
         requires { line < length self.now }
         ensures { result ≡ slice_index self.now line }
     {

@@ -14,7 +14,7 @@ ghost use Rattle.rounds.specs.Events.{AreEvents};
 ghost use Rattle.rounds.specs.Mark.{at, arrival_in, moment_in};
 ghost use Rattle.rounds.specs.Row.{RowData, arrivals_of, settled_of};
 ghost use Rattle.rounds.specs.Layers.{IsSized, IsSettled, Begins, AreKept, DoneTo, layer_at, round_at};
-ghost use Rattle.rounds.specs.Scratch.{IsMadeFor, IsAlike, MayGoOn, GoesOn, TellsOf, rides_of, rounds_of, source_of, kept_of, before_of};
+ghost use Rattle.rounds.specs.Scratch.{IsMadeFor, IsAlike, MayGoOn, GoesOn, Remembers, rides_of, rounds_of, source_of, kept_of, before_of};
 
 use crate::best::points;
 use crate::events::departures;
@@ -26,7 +26,7 @@ use arrayvec::ArrayVec;
 use lines::Lines;
 use std::alloc::{AllocError, Global};
 use std::sync::Arc;
-use timetable::{Numbers, Rides, StopId, Timetable};
+use timetable::{LATEST_MOMENT, Numbers, Rides, StopId, Timetable};
 
 /// Runs of the rounds over one timetable, one after the other. It keeps what the last run found, for the view of it.
 #[derive(Debug, Drop)]
@@ -99,7 +99,7 @@ fn settle_rounds(rounds: &mut [Row])
 // Begins a run in each layer.
 fn begin_layers(table: &Timetable, source: StopId, depart: u32, layers: &mut [Layer])
     requires source { source < stops_of table.now }
-    requires early { depart ≤ 4_000_000_000 }
+    requires early { depart ≤ LATEST_MOMENT }
     requires sized { All (IsSized (stops_of table.now)) layers.old }
     requires some { 0 < length layers.old }
     ensures valid { IsTable table.now }
@@ -192,7 +192,7 @@ fn run_layers(
 )
     requires lines { AreLines table.now lines.now }
     requires source { source < stops_of table.now }
-    requires early { depart ≤ 4_000_000_000 }
+    requires early { depart ≤ LATEST_MOMENT }
     requires noted { length noted.old ≡ length lines.now.lines }
     requires few { length rounds.old ≤ 8 }
     requires count { length layers.old ≡ suc (length rounds.old) }
@@ -280,7 +280,7 @@ impl Scratch {
     fn fill(&mut self, table: &Timetable, depart: u32)
         requires table { IsMadeFor self.old table.now }
         requires source { source_of self.old < stops_of table.now }
-        requires early { depart ≤ 4_000_000_000 }
+        requires early { depart ≤ LATEST_MOMENT }
         requires kept { MayGoOn table.now depart self.old }
         ensures on { GoesOn table.now depart self.old self.new }
         ensures before { (rides t : ℕ)
@@ -311,17 +311,17 @@ impl Scratch {
     pub fn run_kept(&mut self, table: &Timetable, depart: u32) -> Result<RoundView<'_>, AllocError>
         requires table { IsMadeFor self.old table.now }
         requires source { source_of self.old < stops_of table.now }
-        requires early { depart ≤ 4_000_000_000 }
+        requires early { depart ≤ LATEST_MOMENT }
         requires kept { MayGoOn table.now depart self.old }
         ensures* on { sem 𝓛 (follows_so the_row the_row self.entry.ghost_name none (λ _ _. ⊤) (GoesOn table.now depart self.old)) }
         ensures right { IfOk result (λ view. AreRounds table.now (source_of self.old) depart (rides_of self.old) (rounds_of view)) }
-        ensures before { IfOk result (TellsOf (kept_of self.old)) }
+        ensures before { IfOk result (Remembers (kept_of self.old)) }
     {
         self.fill(table, depart);
         Ok(self.view())
     }
 
-    /// The rounds from a stop at a moment of at most 4,000,000,000 seconds: for each number of rides up to that of the
+    /// The rounds from a stop at a moment of at most `LATEST_MOMENT`: for each number of rides up to that of the
     /// scratch and each stop the least arrival, and where one more ride is sooner the pattern of such a journey.
     ///
     /// It fails only where memory runs out. A scratch serves any stops and moments in turn, also after an error.
@@ -333,7 +333,7 @@ impl Scratch {
     ) -> Result<RoundView<'_>, AllocError>
         requires table { IsMadeFor self.old table.now }
         requires source { source < stops_of table.now }
-        requires early { depart ≤ 4_000_000_000 }
+        requires early { depart ≤ LATEST_MOMENT }
         ensures* same { sem 𝓛 (follows_so the_row the_row self.entry.ghost_name none (λ _ _. ⊤) (λ after. IsAlike self.old after)) }
         ensures right { IfOk result (λ view. AreRounds table.now source depart (rides_of self.old) (rounds_of view)) }
     {
@@ -341,7 +341,7 @@ impl Scratch {
         self.run_kept(table, depart)
     }
 
-    /// The best numbers from a stop to a stop at a moment of at most 4,000,000,000 seconds, as `scan` has them, among journeys
+    /// The best numbers from a stop to a stop at a moment of at most `LATEST_MOMENT`, as `scan` has them, among journeys
     /// of at most as many rides as the scratch has. It fails only where memory runs out, and serves further runs, also after
     /// an error.
     pub fn scan(
@@ -354,7 +354,7 @@ impl Scratch {
         requires table { IsMadeFor self.old table.now }
         requires from { from < stops_of table.now }
         requires to { to < stops_of table.now }
-        requires early { depart ≤ 4_000_000_000 }
+        requires early { depart ≤ LATEST_MOMENT }
         ensures same { IsAlike self.old self.new }
         ensures right { IfOk result (λ points. AreFront table.now (rides_of self.old) from to depart points.items) }
     {

@@ -8,7 +8,7 @@ ghost use Rattle.rounds.specs.Row.{RowData};
 ghost use Rattle.rounds.specs.Scratch.{rounds_of, before_of};
 
 use crate::label::Label;
-use crate::parts::Path;
+use crate::path::Path;
 use crate::row::Row;
 use std::alloc::{AllocFailed, Global};
 use std::marker::Model;

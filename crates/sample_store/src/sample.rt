@@ -112,5 +112,5 @@ pub fn bytes_of(alloc: Global, disk: &mut MemDisk) -> Result<Vec<u8>, Fail> {
 pub fn is_first(list: &[StopId]) -> bool {
     list.iter()
         .enumerate()
-        .all(|(place, stop)| stop.number() == place)
+        .all(|(index, stop)| stop.number() == index)
 }

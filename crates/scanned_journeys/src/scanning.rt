@@ -12,9 +12,9 @@ use direct_connections::Network;
 use pattern_query::{Answer, ask};
 use rounds::plain_rounds;
 use std::alloc::{AllocError, Global};
-use timetable::{Rides, StopId};
+use timetable::{LATEST_MOMENT, Rides, StopId};
 
-/// The best journeys from a stop to a stop at a moment of at most 4,000,000,000 seconds, by rising rides: one for each of the best
+/// The best journeys from a stop to a stop at a moment of at most `LATEST_MOMENT`, by rising rides: one for each of the best
 /// numbers over all journeys of at most `rides` rides, the way on foot among them, with its rides.
 ///
 /// The rounds find the numbers (RAPTOR), and the pattern of a journey that has them; along each such pattern the earliest rides are
@@ -29,7 +29,7 @@ pub fn scan_journeys(
 ) -> Result<Answer, AllocError>
     requires from { from < stops_of network.now }
     requires to { to < stops_of network.now }
-    requires early { depart ≤ 4_000_000_000 }
+    requires early { depart ≤ LATEST_MOMENT }
     ensures journeys { IfOk result (λ answer. All (IsJourney network.now from to depart) answer) }
     ensures best { IfOk result (λ answer. AreFront network.now rides from to depart (map numbers answer)) }
 {

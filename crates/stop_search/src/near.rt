@@ -49,9 +49,9 @@ fn lesser(one: Option<usize>, other: Option<usize>) -> Option<usize> {
     }
 }
 
-/// At most three stops and stations whose id or name is nearest to the text, the nearest first: so near that no more characters have to be put
-/// in, taken out, changed or swapped with the next than a third of the text's, without regard to case and accents. One whose id is the text is
-/// passed over. None for a text of more than 64 characters. It fails only where memory runs out.
+/// At most three stops and stations whose id or name is nearest to the text, the nearest first: so near that no more characters have to be
+/// put in, taken out, changed or swapped with the next than a third of the text's, without regard to case and accents. One whose id is the
+/// text is passed over. None for a text of more than 64 characters. It fails only where memory runs out.
 pub fn near_stops<'a>(
     alloc: Global,
     sheet: &'a Sheet,

@@ -6,6 +6,7 @@ use Rattle.section_store.specs.Sections.{Form, form_of}
 use Rattle.recovery.specs.Recovery.{StandsForNoList, IsOutside, CauseOf}
 use Rattle.recovery.specs.declared.fault.RecoverFault.{RecoverFault}
 use Rattle.recovery.specs.declared.fault.RecoverFault.TheVariants.{Device, Memory}
+use Rattle.shared_planner.specs.PlannerView.{PlannerView}
 use Rattle.shared_planner.specs.declared.fault.OpenFault.{OpenFault}
 use Rattle.shared_planner.specs.declared.fault.OpenFault.TheVariants as opens
 use Rattle.planner_life.specs.Desk.{IsOpening}
@@ -17,6 +18,10 @@ use Rattle.program_inputs.specs.declared.fault.Fault.TheVariants as faults
 -- what a store of trees over the timetable is for, with journeys of at most k rides
 abbrev pub form_over : BasisData → ℕ → Form
 form_over basis k = form_of basis.timetable k
+
+-- the planner over the basis's timetable and its ids
+abbrev pub planner_over : BasisData → ℕ → PlannerView
+planner_over basis k = record { form = form_over basis k; names = basis.names }
 
 -- why a planner isn't opened, as a recovery tells it
 abbrev pub cause_of : OpenFault → RecoverFault

@@ -7,7 +7,7 @@ ghost use Rattle.store_answers.specs.Builds.{CountsLeft, CountsStored, IsBuilt, 
 ghost use Rattle.store_answers.specs.Stores.{OnlyFailing};
 
 use crate::ids::ids;
-use crate::opening::open;
+use crate::opening::{OpenStore, open};
 use answer_lines::Report;
 use command_line::Workers;
 use disk_model::Disk;
@@ -16,7 +16,6 @@ use precomputing::{Free, Outcome, Progress, Stop, precompute_telling};
 use program_inputs::Fault;
 use section_store::going_laws::goes_on;
 use section_store::laws::loses_nothing_in_turn;
-use shared_planner::Opened;
 use std::alloc::{AllocError, Global};
 use std::sync::Wait;
 use std::thread::Threads;
@@ -39,8 +38,8 @@ fn report<'a>(
     })
 }
 
-// What came of a build, as the program tells it.
-fn told<'a>(
+/// What came of a build, as the program tells it.
+pub fn told<'a>(
     alloc: Global,
     basis: &'a Basis,
     stored: &[StopId],
@@ -86,10 +85,10 @@ pub fn build<'a, D: Disk + Drop, T: Threads + Wait + Sync, P: Progress>(
 {
     goes_on();
     loses_nothing_in_turn();
-    let Opened {
+    let OpenStore {
         planner,
         desk,
-        readers: _readers,
+        reader: _reader,
     } = match open(alloc, rt, basis, rides, disk) {
         Ok(opened) => opened,
         Err((fault, disk)) => return (Err(Fault::from(fault)), disk),

@@ -5,14 +5,16 @@ ghost use Rattle.disk_model.specs.Disk.{Grew};
 ghost use Rattle.planner_life.specs.Desk.{IsOpening, StandsForSources};
 ghost use Rattle.recovery.specs.Recovery.{CauseOf, IsOutside, StandsForNoList};
 ghost use Rattle.shared_planner.specs.Desk.{IsSound};
-ghost use Rattle.store_answers.specs.Stores.{cause_of, form_over};
+ghost use Rattle.store_answers.specs.Replies.{IsOpenedReader};
+ghost use Rattle.store_answers.specs.Stores.{cause_of, form_over, planner_over};
 
+use board::Reader;
 use disk_model::Disk;
 use feed_basis::Basis;
 use recovery::RecoverFault;
 use section_store::Step;
 use section_store::going_laws::goes_on;
-use shared_planner::{OpenFault, Opened, Planner};
+use shared_planner::{Desk, OpenFault, Opened, Planner};
 use std::alloc::Global;
 use std::sync::{Arc, Wait};
 use timetable::Rides;
@@ -27,16 +29,25 @@ fn cause(fault: OpenFault) -> RecoverFault
     }
 }
 
-/// Opens the store that the file of the disk holds, for the basis's timetable and journeys of at most so many rides, with one reader. The
-/// file is recovered, and a fresh one begun. The disk comes back with each fault, and nothing was done to it where memory ran out before.
+/// An open store, a planner over it, and one reader of its board.
+pub struct OpenStore<D: Disk> {
+    pub planner: Planner,
+    pub desk: Desk<D>,
+    pub reader: Reader,
+}
+
+/// Opens the store that the file of the disk holds, for the basis's timetable and journeys of at most so many rides. The file is recovered,
+/// and a fresh one begun. The disk comes back with each fault, and nothing was done to it where memory ran out before.
 pub fn open<D: Disk, T: Wait>(
     alloc: Global,
     rt: &T,
     basis: &Basis,
     rides: Rides,
     disk: D,
-) -> Result<Opened<D>, (RecoverFault, D)>
-    ensures own { IfOk result (λ o. o.planner.form ≡ form_over basis.now rides) }
+) -> Result<OpenStore<D>, (RecoverFault, D)>
+    ensures planner { IfOk result (λ o. o.planner ≡ planner_over basis.now rides) }
+    ensures board { IfOk result (λ o. o.reader.origin.form ≡ form_over basis.now rides) }
+    ensures reader { D.honest disk → IfOk result (λ o. IsOpenedReader (form_over basis.now rides) (D.state disk) o.reader) }
     ensures form { IfOk result (λ o. o.desk.form ≡ form_over basis.now rides) }
     ensures ready { IfOk result (λ o. o.desk.next ≡ Step.WriteBody) }
     ensures stood { D.honest disk
@@ -59,8 +70,20 @@ pub fn open<D: Disk, T: Wait>(
     let Ok(names) = Arc::try_clone(basis.shared_names()) else {
         return Err((RecoverFault::Memory, disk));
     };
-    match Planner::open(alloc, rt, disk, network, names, rides, 1) {
-        Ok(opened) => Ok(opened),
-        Err((fault, disk)) => Err((cause(fault), disk)),
+    let Opened {
+        planner,
+        desk,
+        mut readers,
+    } = match Planner::open(alloc, rt, disk, network, names, rides, 1) {
+        Ok(opened) => opened,
+        Err((fault, disk)) => return Err((cause(fault), disk)),
+    };
+    match readers.pop() {
+        Some(reader) => Ok(OpenStore {
+            planner,
+            desk,
+            reader,
+        }),
+        None => Err((RecoverFault::Memory, desk.into_disk(rt))),
     }
 }

@@ -35,13 +35,13 @@ pub enum BenchFault {
 // The feed's tables.
 fn read(rt: &HostRuntime, folder: &str) -> Result<Tables, Fault<'static>> {
     let alloc = rt.alloc();
-    let Ok(keys) = RandomState::new(rt) else {
+    let Ok(hash_keys) = RandomState::new(rt) else {
         return Err(Fault::NoRandomness);
     };
     let Ok(files) = open_feed(rt, alloc, folder) else {
         return Err(Fault::Memory);
     };
-    Ok(read_tables(alloc, keys, files)?)
+    Ok(read_tables(alloc, hash_keys, files)?)
 }
 
 /// The timetable of a feed on one day.

@@ -102,15 +102,15 @@ module _ (t : Table) where
   -- how many instances there are
   pub count_part : (part count : ℕ) → part ≡ length t.walks + 1 → count ≡ length t.instances → four_bytes count ≡ part_bytes t part
   count_part part count is count_is =
-      let place : part ≡ suc (length t.walks + 0) = omega (arith, is) in
-      ap four_bytes count_is ∙ sym (ap (part_bytes t) place ∙ past_rows 0)
+      let index : part ≡ suc (length t.walks + 0) = omega (arith, is) in
+      ap four_bytes count_is ∙ sym (ap (part_bytes t) index ∙ past_rows 0)
 
   -- an instance
   pub instance_part : (part number : ℕ) (run : Run) → part ≡ length t.walks + number + 2 → number < length t.instances
       → slice_get t.instances number ≡ Some run → run_bytes run ≡ part_bytes t part
   instance_part part number run is lt there =
-      let place : part ≡ suc (length t.walks + suc number) = omega (arith, is) in
-      sym (ap (part_bytes t) place ∙ past_rows (suc number)
+      let index : part ≡ suc (length t.walks + suc number) = omega (arith, is) in
+      sym (ap (part_bytes t) index ∙ past_rows (suc number)
       ∙ get_or-map run_bytes t.instances number run [] lt
       ∙ ap run_bytes (get_or_from_slice_get t.instances number run run there))
 

@@ -88,39 +88,39 @@ rows_are t trip rows valid in' same =
 pub whole : (start : ℕ) (rows : List StopTime) (n : ℕ) → length rows ≤ n → take n (calls_from start rows) ≡ calls_from start rows
 whole start rows n le = take_all n (calls_from start rows) (let h : length (calls_from start rows) ≤ n = omega (arith, length-calls_from start rows) in h)
 
--- what `fill_times` gives of a trip's calls, at one place
+-- what `fill_times` gives of a trip's calls, at one position
 pub time_read : (t : TableValues) (trip start : ℕ) (rows : List StopTime) (times : List CallTimes) → AreTables t → trip < length t.trips → rows ≡ calls_of t trip
     → 2 ≤ length (calls_of t trip) → times ≡ filled rows
     → ((stops trip : ℕ) → AreCalls stops trip rows → 2 ≤ length rows → NeverFall times)
     → ((stops trip : ℕ) → AreCalls stops trip rows → All (λ t. t.departure ≤ 604_799) times)
-    → start ≤ 2_246_400 → (place : ℕ) (time : CallTimes) → place < length rows → time ≡ get_or times place time
+    → start ≤ 2_246_400 → (position : ℕ) (time : CallTimes) → position < length rows → time ≡ get_or times position time
     → (start + time.arrival < 2 ^ 32) × (start + time.departure < 2 ^ 32)
-time_read t trip start rows times valid in' same several filled rising early begun place time within is =
+time_read t trip start rows times valid in' same several filled rising early begun position time within is =
     let calls = rows_are t trip rows valid in' same in
     let many : 2 ≤ length rows = omega (arith, several, ap (length {A = StopTime}) same) in
-    let h = time_is (length t.stops) trip start rows times calls filled (rising (length t.stops) trip calls many) (early (length t.stops) trip calls) begun place time within in
+    let h = time_is (length t.stops) trip start rows times calls filled (rising (length t.stops) trip calls many) (early (length t.stops) trip calls) begun position time within in
     subst (λ (u : CallTimes). (start + u.arrival < 2 ^ 32) × (start + u.departure < 2 ^ 32)) (sym is)
-    ((let a : start + (get_or times place time).arrival < 2 ^ 32 = omega (arith, h.0, h.1) in a), (let b : start + (get_or times place time).departure < 2 ^ 32 = omega (arith, h.1) in b))
+    ((let a : start + (get_or times position time).arrival < 2 ^ 32 = omega (arith, h.0, h.1) in a), (let b : start + (get_or times position time).departure < 2 ^ 32 = omega (arith, h.1) in b))
 
 -- one more call
-pub call_more : (start : ℕ) (rows : List StopTime) (place : ℕ) (time : CallTimes) (stop : StopId) (row : StopTime) → place < length rows
-    → time ≡ get_or (filled rows) place time → stop ≡ (get_or rows place row).stop
-    → take place (calls_from start rows) ++ record {
+pub call_more : (start : ℕ) (rows : List StopTime) (position : ℕ) (time : CallTimes) (stop : StopId) (row : StopTime) → position < length rows
+    → time ≡ get_or (filled rows) position time → stop ≡ (get_or rows position row).stop
+    → take position (calls_from start rows) ++ record {
       arrival = start + time.arrival;
       departure = start + time.departure;
       stop = stop;
-      board = (get_or rows place row).board;
-      alight = (get_or rows place row).alight;
-    } ∷ [] ≡ take (place + 1) (calls_from start rows)
-call_more start rows place time stop row in' is same =
+      board = (get_or rows position row).board;
+      alight = (get_or rows position row).alight;
+    } ∷ [] ≡ take (position + 1) (calls_from start rows)
+call_more start rows position time stop row in' is same =
     let d : Call = record { arrival = 0; departure = 0; stop = 0; board = false; alight = false } in
-    let here : Call = record { arrival = start + time.arrival; departure = start + time.departure; stop = stop; board = (get_or rows place row).board; alight = (get_or rows place row).alight } in
-    let read : get_or (calls_from start rows) place d ≡ here =
-    get_or-calls_from start rows place d row time in'
-    ∙ (ap (λ t. call_from start (get_or rows place row) t) (sym is)
-    ∙ ap (λ (s : StopId). record { arrival = start + time.arrival; departure = start + time.departure; stop = s; board = (get_or rows place row).board; alight = (get_or rows place row).alight }) (sym same)) in
-    sym (take_more (calls_from start rows) place d (let lt : place < length (calls_from start rows) = omega (arith, length-calls_from start rows) in lt)
-    ∙ ap (λ x. take place (calls_from start rows) ++ x ∷ []) read)
+    let here : Call = record { arrival = start + time.arrival; departure = start + time.departure; stop = stop; board = (get_or rows position row).board; alight = (get_or rows position row).alight } in
+    let read : get_or (calls_from start rows) position d ≡ here =
+    get_or-calls_from start rows position d row time in'
+    ∙ (ap (λ t. call_from start (get_or rows position row) t) (sym is)
+    ∙ ap (λ (s : StopId). record { arrival = start + time.arrival; departure = start + time.departure; stop = s; board = (get_or rows position row).board; alight = (get_or rows position row).alight }) (sym same)) in
+    sym (take_more (calls_from start rows) position d (let lt : position < length (calls_from start rows) = omega (arith, length-calls_from start rows) in lt)
+    ∙ ap (λ x. take position (calls_from start rows) ++ x ∷ []) read)
 
 -- it is the calls that make a run, of a trip and a day with small numbers
 pub same_run : (stops : ℕ) (a b : Run) → IsRun stops a → b.calls ≡ a.calls → b.trip < 4_294_967_296 → b.day < 256 → IsRun stops b

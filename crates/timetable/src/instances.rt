@@ -59,8 +59,8 @@ fn calls_on(
     let rows = tables.calls(trip);
     fill_times(rows, times)?;
     let mut calls = Vec::with_capacity(alloc, rows.len())?;
-    for (place, row) in rows.iter().enumerate() {
-        let time = times[place];
+    for (position, row) in rows.iter().enumerate() {
+        let time = times[position];
         calls.push(Call {
             arrival: start + time.arrival,
             departure: start + time.departure,

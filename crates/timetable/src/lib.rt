@@ -21,6 +21,6 @@ mod walks;
 pub use assembly::{MOST_CALLS, MOST_INSTANCES, MOST_WALKS, assemble};
 pub use direct::plain_direct;
 pub use names::{Names, Place};
-pub use parts::{Call, Leg, MOST_STOPS, Numbers, StopId, Walk};
+pub use parts::{Call, LATEST_MOMENT, Leg, MOST_STOPS, Numbers, StopId, Walk};
 pub use rides::Rides;
 pub use table::{Instance, Timetable};

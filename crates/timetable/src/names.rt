@@ -23,10 +23,10 @@ pub enum Place<'a> {
     Station(&'a [StopId]),
 }
 
-// The place of each id among others: the first where there are several.
+// The index of each id among others: the first where there are several.
 type Numbers = IndexMap<String, usize, RandomState>;
 
-// Ids in their order, and the place of each.
+// Ids in their order, and the index of each.
 struct Ids {
     ids: Vec<Id>,
     numbers: Numbers,
@@ -65,10 +65,10 @@ impl Model for Names {
     ghost invariant = { λ a. length a.stops ≤ 65_534 };
 }
 
-fn numbers_of(alloc: Global, keys: RandomState, ids: &[Id]) -> Result<Numbers, AllocError>
+fn numbers_of(alloc: Global, hash_keys: RandomState, ids: &[Id]) -> Result<Numbers, AllocError>
     ensures { IfOk result (λ numbers. (id : List ℕ) → get_by_text numbers id ≡ position_from (bytes_eq id) 0 ids.now) }
 {
-    let mut numbers = IndexMap::with_hasher(alloc, keys);
+    let mut numbers = IndexMap::with_hasher(alloc, hash_keys);
     for (number, id) in ids.iter().enumerate() {
         let text = id.as_str();
         if !numbers.contains_key(text) {
@@ -85,21 +85,21 @@ impl Drop for Ids {
 }
 
 impl Ids {
-    fn new(alloc: Global, keys: RandomState, ids: Vec<Id>) -> Result<Ids, AllocError>
+    fn new(alloc: Global, hash_keys: RandomState, ids: Vec<Id>) -> Result<Ids, AllocError>
         ensures { IfOk result (λ made. made ≡ ids.items) }
     {
-        let numbers = numbers_of(alloc, keys, &ids)?;
+        let numbers = numbers_of(alloc, hash_keys, &ids)?;
         Ok(Ids { ids, numbers })
     }
 
-    // The place of an id.
+    // The index of an id.
     fn number(&self, id: &str) -> Option<usize>
         ensures { result ≡ position_from (bytes_eq id.now) 0 self.now }
     {
         self.numbers.get(id).copied()
     }
 
-    // The id at a place.
+    // The id at an index.
     fn id(&self, number: usize) -> &str
         requires { number < length self.now }
         ensures { result.now ≡ slice_index_or self.now number [] }
@@ -108,7 +108,7 @@ impl Ids {
     }
 }
 
-fn stop_ids(alloc: Global, keys: RandomState, tables: &Tables) -> Result<Ids, AllocError>
+fn stop_ids(alloc: Global, hash_keys: RandomState, tables: &Tables) -> Result<Ids, AllocError>
     ensures ids { IfOk result (λ ids. ids ≡ map (λ stop. stop.id) tables.now.stops) }
     ensures few { IfOk result (λ ids. length ids ≤ 65_534) }
 {
@@ -116,17 +116,17 @@ fn stop_ids(alloc: Global, keys: RandomState, tables: &Tables) -> Result<Ids, Al
     for stop in tables.stops() {
         ids.push(Id::new(alloc, stop.id.as_str())?)?;
     }
-    Ids::new(alloc, keys, ids)
+    Ids::new(alloc, hash_keys, ids)
 }
 
-fn station_ids(alloc: Global, keys: RandomState, tables: &Tables) -> Result<Ids, AllocError>
+fn station_ids(alloc: Global, hash_keys: RandomState, tables: &Tables) -> Result<Ids, AllocError>
     ensures { IfOk result (λ ids. ids ≡ map (λ station. station.id) tables.now.stations) }
 {
     let mut ids = Vec::with_capacity(alloc, tables.stations().len())?;
     for station in tables.stations() {
         ids.push(Id::new(alloc, station.id.as_str())?)?;
     }
-    Ids::new(alloc, keys, ids)
+    Ids::new(alloc, hash_keys, ids)
 }
 
 fn trip_ids(alloc: Global, tables: &Tables) -> Result<Vec<Id>, AllocError>
@@ -140,12 +140,12 @@ fn trip_ids(alloc: Global, tables: &Tables) -> Result<Vec<Id>, AllocError>
 }
 
 impl Names {
-    /// The names of these tables. Ids are looked up under `keys`, which nobody who writes a feed can know.
-    pub fn of(alloc: Global, keys: RandomState, tables: &Tables) -> Result<Names, AllocError>
+    /// The names of these tables. Ids are looked up under `hash_keys`, which nobody who writes a feed can know.
+    pub fn of(alloc: Global, hash_keys: RandomState, tables: &Tables) -> Result<Names, AllocError>
         ensures { IfOk result (AreNamesOf tables.now) }
     {
-        let stops = stop_ids(alloc, keys, tables)?;
-        let stations = station_ids(alloc, keys, tables)?;
+        let stops = stop_ids(alloc, hash_keys, tables)?;
+        let stations = station_ids(alloc, hash_keys, tables)?;
         let trips = trip_ids(alloc, tables)?;
         let children = stops_by_station(alloc, tables)?;
         Ok(Names {

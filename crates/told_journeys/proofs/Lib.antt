@@ -1,2 +1,2 @@
 pub mod LoopFacts
-pub mod PartFacts
+pub mod StageFacts

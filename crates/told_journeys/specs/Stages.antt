@@ -7,21 +7,21 @@ use Rattle.timetable.specs.Table.{Table, walk}
 use Rattle.timetable.specs.Journeys.{from, to, departs, arrives}
 use Rattle.timetable.specs.NameLists.{NameLists}
 use Rattle.feed_basis.specs.Basis.{BasisData}
-use Rattle.answer_lines.specs.Moments.{Says}
-use Rattle.told_journeys.specs.declared.parts.Part.{Part}
-use Rattle.told_journeys.specs.declared.parts.Part.TheVariants as parts
+use Rattle.answer_lines.specs.Moments.{TellsMoment}
+use Rattle.told_journeys.specs.declared.numbered.NumberedStage.{NumberedStage}
+use Rattle.told_journeys.specs.declared.numbered.NumberedStage.TheVariants as numbered
 use Rattle.answer_lines.specs.declared.stage.Stage.{Stage}
 use Rattle.answer_lines.specs.declared.stage.Stage.TheVariants as stages
 
 -- the walk from p, begun at the moment a, to q: none where the two are one stop
-abbrev pub walk_part : Table → ℕ → ℕ → ℕ → List Part
-walk_part table p a q = if p == q then [] else (parts.Walk p q (a + unwrap_or (walk table p q) 0) ∷ [])
+abbrev pub walk_stage : Table → ℕ → ℕ → ℕ → List NumberedStage
+walk_stage table p a q = if p == q then [] else (numbered.Walk p q (a + unwrap_or (walk table p q) 0) ∷ [])
 
 -- one who is at p at the moment a takes the legs, with the walks before, between and after them, to t
-abbrev pub parts_of : Table → ℕ → ℕ → List Leg → ℕ → List Part
-parts_of table p a [] t = walk_part table p a t
-parts_of table p a (leg ∷ legs) t =
-    walk_part table p a (from table leg) ++ (parts.Ride leg ∷ parts_of table (to table leg) (arrives table leg) legs t)
+abbrev pub stages_of : Table → ℕ → ℕ → List Leg → ℕ → List NumberedStage
+stages_of table p a [] t = walk_stage table p a t
+stages_of table p a (leg ∷ legs) t =
+    walk_stage table p a (from table leg) ++ (numbered.Ride leg ∷ stages_of table (to table leg) (arrives table leg) legs t)
 
 -- the id of a stop, and that of an instance's trip
 abbrev pub stop_id : NameLists → ℕ → List ℕ
@@ -34,12 +34,12 @@ abbrev pub trip_id : Table → NameLists → ℕ → List ℕ
 trip_id table names instance = slice_index_or names.trips (trip_of table instance) []
 
 -- a ride is told by its trip, and the stop and the time at which it boards and alights; a walk by its stops, and when it arrives
-abbrev pub ShowsPart : BasisData → Part → Stage → Type 0
-ShowsPart basis (parts.Ride leg) (stages.Ride trip board leaves alight comes) =
+abbrev pub TellsStage : BasisData → NumberedStage → Stage → Type 0
+TellsStage basis (numbered.Ride leg) (stages.Ride trip board leaves alight comes) =
     (trip ≡ trip_id basis.timetable basis.names leg.instance)
-    × (board ≡ stop_id basis.names (from basis.timetable leg)) × Says basis.cover (departs basis.timetable leg) leaves
-    × (alight ≡ stop_id basis.names (to basis.timetable leg)) × Says basis.cover (arrives basis.timetable leg) comes
-ShowsPart basis (parts.Walk p q z) (stages.Walk leaves reaches comes) =
-    (leaves ≡ stop_id basis.names p) × (reaches ≡ stop_id basis.names q) × Says basis.cover z comes
-ShowsPart basis (parts.Ride leg) (stages.Walk leaves reaches comes) = ⊥
-ShowsPart basis (parts.Walk p q z) (stages.Ride trip board leaves alight comes) = ⊥
+    × (board ≡ stop_id basis.names (from basis.timetable leg)) × TellsMoment basis.cover (departs basis.timetable leg) leaves
+    × (alight ≡ stop_id basis.names (to basis.timetable leg)) × TellsMoment basis.cover (arrives basis.timetable leg) comes
+TellsStage basis (numbered.Walk p q z) (stages.Walk leaves reaches comes) =
+    (leaves ≡ stop_id basis.names p) × (reaches ≡ stop_id basis.names q) × TellsMoment basis.cover z comes
+TellsStage basis (numbered.Ride leg) (stages.Walk leaves reaches comes) = ⊥
+TellsStage basis (numbered.Walk p q z) (stages.Ride trip board leaves alight comes) = ⊥

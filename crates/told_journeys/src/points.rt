@@ -2,18 +2,18 @@
 
 ghost use Rattle.std.specs.Prelude.{◌≤◌, IfOk};
 ghost use Rattle.std.specs.List.{All, AllZip};
-ghost use Rattle.told_journeys.specs.Points.{IsKnownJourney, ShowsNumbers, Tells};
+ghost use Rattle.told_journeys.specs.Points.{IsKnownJourney, TellsNumbers, Tells};
 
-use crate::parts::parts;
+use crate::numbered::numbered_stages;
 use crate::stages::stages_of;
 use answer_lines::Point;
 use feed_basis::Basis;
 use std::alloc::{AllocError, Global};
-use timetable::Numbers;
+use timetable::{LATEST_MOMENT, Numbers};
 
 /// Each of these numbers as a point, without rides and walks. It fails only where memory runs out.
 pub fn points_of(alloc: Global, basis: &Basis, front: &[Numbers]) -> Result<Vec<Point>, AllocError>
-    ensures { IfOk result (λ points. AllZip (ShowsNumbers basis.now) front.now points.items) }
+    ensures { IfOk result (λ points. AllZip (TellsNumbers basis.now) front.now points.items) }
 {
     let mut points = Vec::with_capacity(alloc, front.len())?;
     for numbers in front {
@@ -34,12 +34,12 @@ fn tell(
     wanted: bool,
     journey: &pattern_query::Point,
 ) -> Result<Point, AllocError>
-    requires early { depart ≤ 4_000_000_000 }
+    requires early { depart ≤ LATEST_MOMENT }
     requires known { IsKnownJourney basis.now depart journey.now }
     ensures { IfOk result (Tells basis.now depart wanted journey.now) }
 {
     let stages = if wanted {
-        let parts = parts(
+        let numbered = numbered_stages(
             alloc,
             basis.timetable(),
             journey.from(),
@@ -47,7 +47,7 @@ fn tell(
             journey.legs(),
             journey.to(),
         )?;
-        stages_of(alloc, basis, &parts)?
+        stages_of(alloc, basis, &numbered)?
     } else {
         Vec::new(alloc)
     };
@@ -67,7 +67,7 @@ pub fn told(
     wanted: bool,
     journeys: &[pattern_query::Point],
 ) -> Result<Vec<Point>, AllocError>
-    requires early { depart ≤ 4_000_000_000 }
+    requires early { depart ≤ LATEST_MOMENT }
     requires known { All (IsKnownJourney basis.now depart) journeys.now }
     ensures { IfOk result (λ points. AllZip (Tells basis.now depart wanted) journeys.now points.items) }
 {

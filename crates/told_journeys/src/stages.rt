@@ -2,24 +2,24 @@
 
 ghost use Rattle.std.specs.Prelude.{IfOk};
 ghost use Rattle.std.specs.List.{All, AllZip};
-ghost use Rattle.told_journeys.specs.Points.{IsKnownPart};
-ghost use Rattle.told_journeys.specs.Stages.{ShowsPart};
+ghost use Rattle.told_journeys.specs.Points.{IsKnownStage};
+ghost use Rattle.told_journeys.specs.Stages.{TellsStage};
 
-use crate::parts::Part;
+use crate::numbered::NumberedStage;
 use answer_lines::Stage;
 use feed_basis::Basis;
 use gtfs_tables::Id;
 use std::alloc::{AllocError, Global};
 
 // A ride or a walk, as it is told. It fails only where memory runs out.
-fn stage_of(alloc: Global, basis: &Basis, part: Part) -> Result<Stage, AllocError>
-    requires { IsKnownPart basis.now part }
-    ensures { IfOk result (ShowsPart basis.now part) }
+fn stage_of(alloc: Global, basis: &Basis, stage: NumberedStage) -> Result<Stage, AllocError>
+    requires { IsKnownStage basis.now stage }
+    ensures { IfOk result (TellsStage basis.now stage) }
 {
     let timetable = basis.timetable();
     let names = basis.names();
-    let stage = match part {
-        Part::Ride(leg) => {
+    let told = match stage {
+        NumberedStage::Ride(leg) => {
             let trip = timetable.instance(leg.instance as usize).trip();
             Stage::Ride {
                 trip: Id::new(alloc, names.trip(trip))?,
@@ -29,23 +29,27 @@ fn stage_of(alloc: Global, basis: &Basis, part: Part) -> Result<Stage, AllocErro
                 arrives: basis.day_time(timetable.arrival_of(leg)),
             }
         }
-        Part::Walk { from, to, arrival } => Stage::Walk {
+        NumberedStage::Walk { from, to, arrival } => Stage::Walk {
             from: Id::new(alloc, names.stop(from))?,
             to: Id::new(alloc, names.stop(to))?,
             arrives: basis.day_time(arrival),
         },
     };
-    Ok(stage)
+    Ok(told)
 }
 
 /// Rides and walks, as they are told. It fails only where memory runs out.
-pub fn stages_of(alloc: Global, basis: &Basis, parts: &[Part]) -> Result<Vec<Stage>, AllocError>
-    requires { All (IsKnownPart basis.now) parts.now }
-    ensures { IfOk result (λ stages. AllZip (ShowsPart basis.now) parts.now stages.items) }
+pub fn stages_of(
+    alloc: Global,
+    basis: &Basis,
+    numbered: &[NumberedStage],
+) -> Result<Vec<Stage>, AllocError>
+    requires { All (IsKnownStage basis.now) numbered.now }
+    ensures { IfOk result (λ stages. AllZip (TellsStage basis.now) numbered.now stages.items) }
 {
-    let mut stages = Vec::with_capacity(alloc, parts.len())?;
-    for part in parts {
-        stages.push(stage_of(alloc, basis, *part)?)?;
+    let mut stages = Vec::with_capacity(alloc, numbered.len())?;
+    for stage in numbered {
+        stages.push(stage_of(alloc, basis, *stage)?)?;
     }
     Ok(stages)
 }

@@ -12,6 +12,7 @@ use program_inputs::{given_words, list_folder, open_feed, out_of_memory, texts, 
 use std::fs::File;
 use std::hash::RandomState;
 use std::io;
+use std::io::BufReader;
 use std::process::ExitCode;
 use std::sync::Wait;
 use std::thread::Threads;
@@ -40,6 +41,9 @@ fn status<T: Threads + Wait + Sync>(rt: &HostRuntime, threads: &T) -> u8 {
     let Ok(texts) = texts(alloc, words.as_slice()) else {
         return out_of_memory("tp", &mut err);
     };
+    let Ok(mut input) = BufReader::new(alloc, rt.stdin()) else {
+        return out_of_memory("tp", &mut err);
+    };
     let keys = RandomState::new(rt).ok();
     let (status, _disk) = run_words(
         alloc,
@@ -51,6 +55,7 @@ fn status<T: Threads + Wait + Sync>(rt: &HostRuntime, threads: &T) -> u8 {
         |folder| list_folder(rt, folder),
         |path| FileDisk::open(rt, path),
         |asked| Meter::new(rt, asked),
+        &mut input,
         &mut out,
         &mut err,
     );

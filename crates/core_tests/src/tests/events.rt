@@ -14,7 +14,7 @@ use std::test::Fail;
 use timetable::{Rides, StopId, Timetable};
 use work_ledger::Outcome;
 
-/// An event. A tree is handed in by its place in the sample.
+/// An event. A tree is handed in by its index in the sample.
 #[derive(Clone, Copy)]
 pub enum Event {
     Claim(u8),
@@ -62,7 +62,7 @@ fn stop(number: u16) -> StopId {
 pub fn step_of(alloc: Global, sample: &Sample, event: Event) -> Result<Step, Fail> {
     Ok(match event {
         Event::Claim(seat) => Step::Claim(seat),
-        Event::HandIn(seat, place) => match sample.trees.get(place) {
+        Event::HandIn(seat, index) => match sample.trees.get(index) {
             Some(tree) => Step::HandIn(seat, tree.try_copy(alloc)?),
             None => return Err(Fail::new("no such tree")),
         },

@@ -56,7 +56,7 @@ pub fn receipts_of(life: &Life<MemDisk>) -> usize {
 pub fn is_first(list: &[StopId]) -> bool {
     list.iter()
         .enumerate()
-        .all(|(place, stop)| stop.number() == place)
+        .all(|(index, stop)| stop.number() == index)
 }
 
 /// Whether the sources that were recovered are the first so many stops, in their order.

@@ -10,7 +10,7 @@ use sample_feed::{Span, town, town_on};
 use std::alloc::Global;
 use std::sync::Arc;
 use std::test::Fail;
-use timetable::{StopId, Timetable, plain_direct};
+use timetable::{LATEST_MOMENT, StopId, Timetable, plain_direct};
 
 // Whether two runs found the same arrivals at a stop, by the same numbers of rides.
 fn are_alike(plain: &RoundView<'_>, lines: &RoundView<'_>, stop: StopId) -> bool
@@ -34,7 +34,7 @@ fn are_alike_from(
     depart: u32,
 ) -> Result<bool, Fail>
     requires source { source < stops_of table.now }
-    requires early { depart ≤ 4_000_000_000 }
+    requires early { depart ≤ LATEST_MOMENT }
 {
     let plain = plain_rounds(alloc, table, source, depart, Rides::new(3))?;
     let mut scratch = Scratch::new(alloc, table, Rides::new(3))?;
@@ -71,7 +71,7 @@ fn is_kept_alike(
     requires rides { rides_of scratch.old ≡ 3 }
     requires from { source_of scratch.old ≡ source }
     requires source { source < stops_of table.now }
-    requires early { depart ≤ 4_000_000_000 }
+    requires early { depart ≤ LATEST_MOMENT }
     requires kept { MayGoOn table.now depart scratch.old }
     ensures { OnOk result (GoesOn table.now depart scratch.old scratch.new) }
 {

@@ -4,7 +4,7 @@ use Rattle.std.proofs.lemmas.List.Elements.{All-weaker}
 use Rattle.pattern_query.specs.Answer.{numbers}
 use Rattle.answering.specs.Found.{IsJourneyBetween}
 use Rattle.told_journeys.specs.Points.{IsKnownJourney, Tells}
-use Rattle.told_journeys.proofs.PartFacts.{journey_known}
+use Rattle.told_journeys.proofs.StageFacts.{journey_known}
 use Rattle.answering.proofs.AnswerFacts.{are_reached, one_of_all, shown_journeys}
 use Rattle.feed_basis.proofs.NameFacts.{stops_known}
 use Rattle.answering.proofs.asking.ask.Goals as goal

@@ -7,7 +7,7 @@ use Rattle.pattern_query.specs.Answer.{PointData, numbers}
 use Rattle.scanned_journeys.specs.Journeys.{IsJourney}
 use Rattle.answering.specs.Found.{IsJourneyBetween}
 use Rattle.told_journeys.specs.Points.{IsKnownJourney, Tells}
-use Rattle.told_journeys.proofs.PartFacts.{journey_known}
+use Rattle.told_journeys.proofs.StageFacts.{journey_known}
 use Rattle.answering.proofs.AnswerFacts.{best_between, shown_journeys, single_journey}
 use Rattle.answering.proofs.asking.scan_with_legs.Goals as goal
 

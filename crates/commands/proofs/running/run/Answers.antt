@@ -1,10 +1,10 @@
 use Rattle.std.proofs.Common.{ℕ, inr, subst}
 use Rattle.std.specs.Fn.{FnOnceReturnsAt}
 use Rattle.commands.specs.Errands.{IsErrand}
-use Rattle.commands.specs.Runs.{IsBuildRun, IsListRun, IsOverStore, IsTaskRun, opening_of, run_of}
+use Rattle.commands.specs.Runs.{IsBuildRun, IsListRun, IsOverStore, IsServeRun, IsTaskRun, opening_of, run_of}
 use Rattle.commands.specs.Tellings.{telling_of}
 use Rattle.commands.specs.declared.errand.Errand.{Errand}
-use Rattle.commands.proofs.RunFacts.{question_run, build_run, list_run}
+use Rattle.commands.proofs.RunFacts.{question_run, build_run, list_run, serve_run}
 use Rattle.commands.proofs.running.run.Goals as goal
 
 pub returns-in-Answer-clause-run : goal.returns-in-Answer-clause-run
@@ -19,7 +19,7 @@ returns-in-Answer-clause-run g c = λ feed h.
     inr (
       basis,
       c.in-Ok.ensures.ground feed h,
-      question_run o t plan.style plan.settings basis run c.run_task.result.1 plan.command c.in-Answer.task c.in-Answer.leaving c.moment-moment.result errand c.moment-moment.ensures done,
+      question_run o t (g.I.BufRead.remaining c.args.input.now) plan.style plan.settings basis run c.run_task.result.1 plan.command c.in-Answer.task c.in-Answer.leaving c.moment-moment.result errand c.moment-moment.ensures done,
     )
 
 pub returns-in-Build-clause-run : goal.returns-in-Build-clause-run
@@ -31,10 +31,10 @@ returns-in-Build-clause-run g c = λ feed h.
     let run = run_of (g.W.Write.contents c.args.out.now) (g.W.Write.contents c.run_build.new.out) c.run_build.result.0 in
     let errand = subst (λ (e : Errand). IsErrand plan.settings.date.now plan.command e) c.in-Build.is c.in-Ok.ensures.errand in
     let done = subst (λ (k : ℕ). IsOverStore o c.in-Build.path.now (IsBuildRun basis k) run c.run_build.result.1) c.new-rides.ensures c.run_build.ensures.run in
-    inr (basis, c.in-Ok.ensures.ground feed h, build_run o t plan.style plan.settings basis run c.run_build.result.1 plan.command c.in-Build.path c.in-Build.workers errand done)
+    inr (basis, c.in-Ok.ensures.ground feed h, build_run o t (g.I.BufRead.remaining c.args.input.now) plan.style plan.settings basis run c.run_build.result.1 plan.command c.in-Build.path c.in-Build.workers errand done)
 
-pub returns-clause-run : goal.returns-clause-run
-returns-clause-run g c = λ feed h.
+pub returns-in-List-clause-run : goal.returns-in-List-clause-run
+returns-in-List-clause-run g c = λ feed h.
     let plan = c.args.plan.now in
     let basis = c.in-Ok.ground.0 in
     let o = opening_of (FnOnceReturnsAt g.S.FnOnce c.args.open_store) g.D.Disk.honest g.D.Disk.state g.D.Disk.failures in
@@ -42,4 +42,16 @@ returns-clause-run g c = λ feed h.
     let run = run_of (g.W.Write.contents c.args.out.now) (g.W.Write.contents c.run_list.new.out) c.run_list.result.0 in
     let errand = subst (λ (e : Errand). IsErrand plan.settings.date.now plan.command e) c.in-List.is c.in-Ok.ensures.errand in
     let done = subst (λ (k : ℕ). IsOverStore o c.in-List.path.now (IsListRun t plan.style basis k) run c.run_list.result.1) c.new-rides.ensures c.run_list.ensures.run in
-    inr (basis, c.in-Ok.ensures.ground feed h, list_run o t plan.style plan.settings basis run c.run_list.result.1 plan.command c.in-List.path errand done)
+    inr (basis, c.in-Ok.ensures.ground feed h, list_run o t (g.I.BufRead.remaining c.args.input.now) plan.style plan.settings basis run c.run_list.result.1 plan.command c.in-List.path errand done)
+
+pub returns-clause-run : goal.returns-clause-run
+returns-clause-run g c = λ feed h.
+    let plan = c.args.plan.now in
+    let basis = c.in-Ok.ground.0 in
+    let input = g.I.BufRead.remaining c.args.input.now in
+    let o = opening_of (FnOnceReturnsAt g.S.FnOnce c.args.open_store) g.D.Disk.honest g.D.Disk.state g.D.Disk.failures in
+    let t = telling_of g.T.Teller.tells g.T.Teller.reports g.T.Teller.finds in
+    let run = run_of (g.W.Write.contents c.args.out.now) (g.W.Write.contents c.run_serve.new.out) c.run_serve.result.0 in
+    let errand = subst (λ (e : Errand). IsErrand plan.settings.date.now plan.command e) c.in-Serve.is c.in-Ok.ensures.errand in
+    let done = subst (λ (k : ℕ). IsOverStore o c.in-Serve.path.now (IsServeRun basis k input) run c.run_serve.result.1) c.new-rides.ensures c.run_serve.ensures.run in
+    inr (basis, c.in-Ok.ensures.ground feed h, serve_run o t input plan.style plan.settings basis run c.run_serve.result.1 plan.command c.in-Serve.path c.in-Serve.workers errand done)

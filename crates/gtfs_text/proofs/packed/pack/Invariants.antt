@@ -1,9 +1,8 @@
 use Rattle.std.proofs.Common.{◌≡◌, true, map, take}
 use Rattle.std.specs.List.{list_all}
 use Rattle.csv.specs.Records.{fields_of}
-use Rattle.gtfs_text.specs.Packed.{packed_fields}
 use Rattle.gtfs_text.specs.Sheets.{is_text, without_spaces}
-use Rattle.gtfs_text.proofs.PackedFacts.{fits}
+use Rattle.gtfs_text.proofs.PackedFacts.{fits, packed_fields}
 use Rattle.gtfs_text.proofs.packed.pack.Given as goal
 
 abbrev pub invariant-loop-column : goal.invariant-loop-column

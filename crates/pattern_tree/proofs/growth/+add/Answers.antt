@@ -9,8 +9,8 @@ use Rattle.pattern_tree.proofs.NodeFacts.{branch_at, ends_out, next_out}
 use Rattle.pattern_tree.proofs.GrowthFacts.{empty_list, chained_level, grown_level, same_level, with_ends, with_next, on_err_always}
 use Rattle.pattern_tree.proofs.growth.+add.Goals as goal
 
-pub place-requires : goal.place-requires
-place-requires g t c = rw c.deref.ensures.value (steps_rise (branches c.args.level.now.items) c.requires)
+pub index_of-requires : goal.index_of-requires
+index_of-requires g t c = rw c.deref.ensures.value (steps_rise (branches c.args.level.now.items) c.requires)
 
 pub add_end-requires : goal.add_end-requires
 add_end-requires g t c =

@@ -9,8 +9,8 @@ use Rattle.pattern_tree.proofs.GrowthFacts.{empty_list}
 use Rattle.pattern_tree.proofs.KeptFacts.{missing_gap, missing_end_at, missing_at}
 use Rattle.pattern_tree.proofs.search.+missing.Goals as goal
 
-pub place-requires : goal.place-requires
-place-requires g t c = steps_rise (branches c.args.level.now) c.requires.ordered
+pub index_of-requires : goal.index_of-requires
+index_of-requires g t c = steps_rise (branches c.args.level.now) c.requires.ordered
 
 pub returns-in_default-clause-count : goal.returns-in_default-clause-count
 returns-in_default-clause-count g t c = omega (arith, missing_gap (branches c.args.level.now) c.args.step.now c.args.later.now c.in_default.field-0 c.in_default.ensures)

@@ -10,6 +10,7 @@ use Rattle.rounds.proofs.KeptSteps.{rides_early, ready_short}
 use Rattle.rounds.proofs.DoneSteps.{done_next, known_served}
 use Rattle.rounds.proofs.LayerLists.{read_at, second_read, round_read, part_set}
 use Rattle.rounds.proofs.scratch.ride_from.Goals as goal
+use Rattle.timetable.specs.declared.TheConstants.{LATEST_MOMENT}
 
 pub known-requires : goal.known-requires
 known-requires c = (let z = c.split_at_mut-front.ensures.front_len in omega (arith, z))
@@ -31,7 +32,7 @@ ride_on-requires-clause-early c =
     let is = c.requires.done in
     let low : n < length layers = (let z = is.sizes in let i = c.requires.index in omega (arith, z, i)) in
     let under = c.index-front-index.is ∙ (c.split_at_mut-front.ensures.by_index.0 n c.index-front-index.result (omega arith) ∙ read_at layers n c.index-front-index.result low) in
-    subst (λ (y : Layer). AllEarly 4000000000 y.rode.marks) (sym under)
+    subst (λ (y : Layer). AllEarly LATEST_MOMENT y.rode.marks) (sym under)
     (rode_early c.args.table.now c.args.source c.args.depart n (layer_at layers n).rode.marks c.requires.valid (is.done n (let k : n ≤ n = omega arith in k)).rides)
 
 pub ride_on-requires-clause-rode : goal.ride_on-requires-clause-rode
@@ -41,7 +42,7 @@ ride_on-requires-clause-rode c =
     let is = c.requires.done in
     let in' : suc n < length layers = (let z = is.sizes in let i = c.requires.index in omega (arith, z, i)) in
     let here = second_read layers c.split_at_mut-front.result.1.now n c.index-back-0.result (c.split_at_mut-front.ensures.by_index.1 0 c.index-back-0.result) in' in
-    subst (λ (y : Layer). AllEarly 4000000000 y.rode.marks) (sym here)
+    subst (λ (y : Layer). AllEarly LATEST_MOMENT y.rode.marks) (sym here)
     (rides_early c.args.table.now c.args.source c.args.depart (suc n) (layer_at layers (suc n)).rode.marks c.requires.valid (is.begun (suc n) (let k : n < suc n = omega arith in k) in').rides)
 
 pub ride_on-requires-clause-next : goal.ride_on-requires-clause-next

@@ -5,8 +5,8 @@ use Rattle.rounds.proofs.LayerSteps.{SeenIn, seen_next}
 use Rattle.rounds.proofs.ServeSteps.{noted_none, noted_more, noted_all}
 use Rattle.rounds.proofs.serving.note_all.Goals as goal
 
-pub note-requires-clause-places : goal.note-requires-clause-places
-note-requires-clause-places c = c.requires.places c.stop-item.result
+pub note-requires-clause-positions : goal.note-requires-clause-positions
+note-requires-clause-positions c = c.requires.positions c.stop-item.result
 
 pub note-requires-clause-known : goal.note-requires-clause-known
 note-requires-clause-known c =

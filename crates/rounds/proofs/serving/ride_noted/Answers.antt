@@ -15,8 +15,8 @@ line-requires c =
     let within = inside c.lines-number-items.result.now (length c.args.noted.now) c.loop-number.number-index c.lines-number-items.ensures.within c.loop-number-test.true in
     omega (arith, within, c.requires.size)
 
-pub place-requires : goal.place-requires
-place-requires c = inside c.lines-number-items.result.now (length c.args.noted.now) c.loop-number.number-index c.lines-number-items.ensures.within c.loop-number-test.true
+pub position-requires : goal.position-requires
+position-requires c = inside c.lines-number-items.result.now (length c.args.noted.now) c.loop-number.number-index c.lines-number-items.ensures.within c.loop-number-test.true
 
 pub ride_line-requires-clause-line : goal.ride_line-requires-clause-line
 ride_line-requires-clause-line c =
@@ -38,8 +38,8 @@ loop-number-preserved c =
     let number = get_or listed n 0 in
     record {
       scanned = lines_more c.args.table.now c.args.lines.now c.args.noted.now listed c.args.ready.now.marks c.args.rode.now.marks c.loop-number.rode.marks c.ride_line.new.rode.marks
-          n number c.place.result c.line.result.now c.loop-number-test.true (get_or_default listed n 0 number c.loop-number-test.true)
-          c.line.ensures c.place.ensures inv.scanned c.ride_line.ensures.scanned;
+          n number c.position.result c.line.result.now c.loop-number-test.true (get_or_default listed n 0 number c.loop-number-test.true)
+          c.line.ensures c.position.ensures inv.scanned c.ride_line.ensures.scanned;
       same = same_then c.args.rode.now c.loop-number.rode c.ride_line.new.rode inv.same c.ride_line.ensures.same;
     }
 

@@ -1,11 +1,8 @@
-use Rattle.std.proofs.Common.{◌≡◌, ◌↔◌, ◌++◌, List, ℕ, sym, ◌∙◌, ap, subst, inl, inr, IfOk, IfErr, MatchResult}
-use Rattle.disk_model.specs.Disk.{State}
+use Rattle.std.proofs.Common.{◌↔◌, List, ℕ, sym, subst, inl, inr, IfOk, IfErr, MatchResult}
 use Rattle.timetable.specs.Table.{stops_of}
-use Rattle.section_store.specs.Sections.{Form}
-use Rattle.planner_life.specs.Desk.{StandsForSources}
-use Rattle.store_answers.specs.Builds.{CountsLeft, CountsStored, IsBuilding, IsBuilt, IsEndOf, IsUnbuilt, IsWhole}
+use Rattle.store_answers.specs.Builds.{CountsLeft, CountsStored, IsBuilt, IsEndOf, IsStopped, IsUnbuilt}
 use Rattle.store_answers.specs.Stores.{OnlyFailing, form_over}
-use Rattle.store_answers.proofs.BuildFacts.{Laws, Opens, end_fails, left_of, matched, stays_honest, stopped, whole, why_ended}
+use Rattle.store_answers.proofs.BuildFacts.{Laws, Opens, came, end_fails, left_of, stays_honest, weaker}
 use Rattle.store_answers.proofs.OpeningFacts.{of_refusal, unopened_over, unopened_fails}
 use Rattle.store_answers.proofs.built.build.Goals as goal
 
@@ -23,7 +20,6 @@ pub returns-clause-built : goal.returns-clause-built
 returns-clause-built g c = λ honest.
     let basis = c.args.basis.now in
     let k = c.args.rides in
-    let form = form_over basis k in
     let state = g.D.Disk.state in
     let old = state c.args.disk in
     let first = c.in-Ok.opened.desk in
@@ -38,23 +34,14 @@ returns-clause-built g c = λ honest.
       trust = c.goes_on.ensures.trust;
       loses = c.loses_nothing_in_turn.ensures;
     } in
-    let opens : Opens g.D.Disk.honest state form old first =
+    let opens : Opens g.D.Disk.honest state (form_over basis k) old first =
     record { same = e.form; opening = e.moments honest; stood = e.stood honest; sound = e.sound honest } in
-    let went = stopped g.D.Disk.honest state g.D.Disk.failures laws form old first last outcome opens p in
     let counts = subst (λ (l : List ℕ). IfOk c.told-report.result (CountsStored basis l)) c.stored.ensures.stored c.told-report.ensures.counts in
     subst (λ d. MatchResult c.told-report.result (IsBuilt basis k old (state d)) (IsUnbuilt basis k old (state d))) (sym c.into_disk.ensures)
-    (matched c.told-report.result (IsWhole outcome) (CountsStored basis last.stored) (IsBuilt basis k old (state last.disk)) (IsEndOf outcome)
-    (IsUnbuilt basis k old (state last.disk)) c.told-report.ensures.whole counts c.told-report.ensures.ended
-    (λ is report told.
-    let w = whole g.D.Disk.honest state g.D.Disk.failures laws form old first last outcome is opens p in
-    record { before = first.stored; list = last.stored; building = w.0; stands = w.1; told = told })
-    (λ fault ended. inr (record {
-      before = first.stored;
-      acknowledged = last.stored;
-      storing = last.stored ++ went.0;
-      building = went.1;
-      why = why_ended outcome fault ended;
-    })))
+    (weaker c.told-report.result (IsBuilt basis k old (state last.disk)) (IsStopped basis k old (state last.disk)) (IsUnbuilt basis k old (state last.disk))
+    (λ fault h. inr h)
+    (came g.D.Disk.honest state g.D.Disk.failures laws basis k old first last outcome c.told-report.result opens p
+    c.told-report.ensures.whole counts c.told-report.ensures.ended))
 
 pub told-report-requires : goal.told-report-requires
 told-report-requires g c =

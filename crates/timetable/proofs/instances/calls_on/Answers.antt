@@ -7,32 +7,32 @@ use Rattle.timetable.proofs.Shifting.{length-filled, run_from, rows_are, whole, 
 use Rattle.timetable.proofs.instances.calls_on.Goals as goal
 
 pub index-time-requires : goal.index-time-requires
-index-time-requires c = omega (arith, c.loop-place-test.true, ap (length {A = CallTimes}) c.in_ok-fill_times.ensures.filled, length-filled c.calls-rows.result.now)
+index-time-requires c = omega (arith, c.loop-position-test.true, ap (length {A = CallTimes}) c.in_ok-fill_times.ensures.filled, length-filled c.calls-rows.result.now)
 
 pub overflow_add-start : goal.overflow_add-start
 overflow_add-start c =
     let h = time_read c.args.tables.now c.args.trip c.args.start c.calls-rows.result.now c.fill_times.new.times.items c.calls-rows.ensures.valid c.requires.trip c.calls-rows.ensures.value
-    c.requires.several c.in_ok-fill_times.ensures.filled c.in_ok-fill_times.ensures.rising c.in_ok-fill_times.ensures.early c.requires.start c.loop-place.place c.index-time.result.now
-    c.loop-place-test.true c.index-time.ensures in omega (arith, h.0)
+    c.requires.several c.in_ok-fill_times.ensures.filled c.in_ok-fill_times.ensures.rising c.in_ok-fill_times.ensures.early c.requires.start c.loop-position.position c.index-time.result.now
+    c.loop-position-test.true c.index-time.ensures in omega (arith, h.0)
 
-pub overflow_add-start-in-loop-place : goal.overflow_add-start-in-loop-place
-overflow_add-start-in-loop-place c =
+pub overflow_add-start-in-loop-position : goal.overflow_add-start-in-loop-position
+overflow_add-start-in-loop-position c =
     let h = time_read c.args.tables.now c.args.trip c.args.start c.calls-rows.result.now c.fill_times.new.times.items c.calls-rows.ensures.valid c.requires.trip c.calls-rows.ensures.value
-    c.requires.several c.in_ok-fill_times.ensures.filled c.in_ok-fill_times.ensures.rising c.in_ok-fill_times.ensures.early c.requires.start c.loop-place.place c.index-time.result.now
-    c.loop-place-test.true c.index-time.ensures in omega (arith, h.1)
+    c.requires.several c.in_ok-fill_times.ensures.filled c.in_ok-fill_times.ensures.rising c.in_ok-fill_times.ensures.early c.requires.start c.loop-position.position c.index-time.result.now
+    c.loop-position-test.true c.index-time.ensures in omega (arith, h.1)
 
-pub loop-place-preserved : goal.loop-place-preserved
-loop-place-preserved c =
+pub loop-position-preserved : goal.loop-position-preserved
+loop-position-preserved c =
     let time = c.index-time.result.now in
-    let is : time ≡ get_or (filled c.calls-rows.result.now) c.loop-place.place time =
-    c.index-time.ensures ∙ ap (λ ts. get_or ts c.loop-place.place time) c.in_ok-fill_times.ensures.filled in
-    rw (c.in_ok-push.ensures.items, c.loop-place.invariant)
-    (call_more c.args.start c.calls-rows.result.now c.loop-place.place time c.new.result _ c.loop-place-test.true is c.new.ensures)
+    let is : time ≡ get_or (filled c.calls-rows.result.now) c.loop-position.position time =
+    c.index-time.ensures ∙ ap (λ ts. get_or ts c.loop-position.position time) c.in_ok-fill_times.ensures.filled in
+    rw (c.in_ok-push.ensures.items, c.loop-position.invariant)
+    (call_more c.args.start c.calls-rows.result.now c.loop-position.position time c.new.result _ c.loop-position-test.true is c.new.ensures)
 
 pub returns-clause-calls : goal.returns-clause-calls
 returns-clause-calls c =
     let rows = c.calls-rows.result.now in
-    c.loop-place.invariant ∙ (whole c.args.start rows c.loop-place.place c.loop-place-test.false
+    c.loop-position.invariant ∙ (whole c.args.start rows c.loop-position.position c.loop-position-test.false
     ∙ ap (λ rows. calls_from c.args.start rows) c.calls-rows.ensures.value)
 
 pub returns-clause-run : goal.returns-clause-run
@@ -42,6 +42,6 @@ returns-clause-run c =
     let several : 2 ≤ length rows = omega (arith, c.requires.several, ap (length {A = StopTime}) c.calls-rows.ensures.value) in
     let rising = c.in_ok-fill_times.ensures.rising (length c.args.tables.now.stops) c.args.trip valid several in
     let early = c.in_ok-fill_times.ensures.early (length c.args.tables.now.stops) c.args.trip valid in
-    rw (c.loop-place.invariant, whole c.args.start rows c.loop-place.place c.loop-place-test.false)
+    rw (c.loop-position.invariant, whole c.args.start rows c.loop-position.position c.loop-position-test.false)
     (run_from (length c.args.tables.now.stops) c.args.trip c.args.start rows c.fill_times.new.times.items valid c.in_ok-fill_times.ensures.filled rising early
     c.requires.start several)

@@ -1,8 +1,8 @@
 use Rattle.std.proofs.Common.{take}
 use Rattle.std.specs.List.{AllZip}
-use Rattle.told_journeys.specs.Points.{ShowsNumbers}
+use Rattle.told_journeys.specs.Points.{TellsNumbers}
 use Rattle.told_journeys.proofs.points.points_of.Given as goal
 
 -- each of the numbers so far is shown
 abbrev pub invariant-loop-numbers : goal.invariant-loop-numbers
-invariant-loop-numbers l = AllZip (ShowsNumbers l.basis) (take l.numbers-index l.front) l.points.items
+invariant-loop-numbers l = AllZip (TellsNumbers l.basis) (take l.numbers-index l.front) l.points.items

@@ -4,7 +4,7 @@ use Rattle.rounds.specs.Labels.{AreAgreed, with_moments}
 use Rattle.rounds.proofs.LabelSteps.{with_length, with_put, agreed_put}
 use Rattle.rounds.proofs.labels.Labels.put.Goals as goal
 
--- the stop has a moment's place
+-- the stop has a moment's position
 within : (moments : List (Option ℕ)) (labels marks : List (Option Mark)) (stop : ℕ) → AreAgreed moments labels → with_moments moments labels ≡ marks → stop < length marks
     → stop < length moments
 within moments labels marks stop is same lt =

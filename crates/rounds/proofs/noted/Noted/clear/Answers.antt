@@ -1,6 +1,6 @@
 use Rattle.std.proofs.Common.{ℕ, ◌≡◌, ◌⊎◌, ◌<◌, List, length, get_or, arith, sym, ap, subst, ◌∙◌}
 use Rattle.std.specs.List.{Contains}
-use Rattle.rounds.specs.Noted.{no_place}
+use Rattle.rounds.specs.Noted.{no_position}
 use Rattle.rounds.proofs.KeptSteps.{whole_of}
 use Rattle.rounds.proofs.NotedSteps.{noted_nothing, cleared_all}
 use Rattle.rounds.proofs.noted.Noted.clear.Goals as goal
@@ -19,8 +19,8 @@ invariant_of-self c =
     let long : length now ≡ length i.earliest.items = c.clear.auto.earliest ∙ ap (length {A = ℕ}) c.deref_mut.ensures.value in
     let fits = is.room in
     let same = c.clear-2.ensures.capacity in
-    let each : (l : ℕ) → (get_or now l 0 ≡ no_place) ⊎ (¬ Contains i.lines.items l × (get_or now l 0 ≡ get_or i.earliest.items l 0)) =
-    subst (λ (xs : List ℕ). (l : ℕ) → (get_or now l 0 ≡ no_place) ⊎ (¬ Contains xs l × (get_or now l 0 ≡ get_or i.earliest.items l 0))) c.deref.ensures.value
-    (subst (λ (xs : List ℕ). (l : ℕ) → (get_or now l 0 ≡ no_place) ⊎ (¬ Contains c.deref.result.now l × (get_or now l 0 ≡ get_or xs l 0))) c.deref_mut.ensures.value c.clear.ensures) in
+    let each : (l : ℕ) → (get_or now l 0 ≡ no_position) ⊎ (¬ Contains i.lines.items l × (get_or now l 0 ≡ get_or i.earliest.items l 0)) =
+    subst (λ (xs : List ℕ). (l : ℕ) → (get_or now l 0 ≡ no_position) ⊎ (¬ Contains xs l × (get_or now l 0 ≡ get_or i.earliest.items l 0))) c.deref.ensures.value
+    (subst (λ (xs : List ℕ). (l : ℕ) → (get_or now l 0 ≡ no_position) ⊎ (¬ Contains c.deref.result.now l × (get_or now l 0 ≡ get_or xs l 0))) c.deref_mut.ensures.value c.clear.ensures) in
     rw w (noted_nothing now _ _ c.clear-2.ensures.items (omega (arith, fits, same, long))
     (λ l h. cleared_all i.earliest.items i.lines.items now _ is each l (omega (arith, h, long))))

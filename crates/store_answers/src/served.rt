@@ -1,0 +1,122 @@
+//! Replies to questions line by line, while the missing trees are built.
+
+ghost use Rattle.std.specs.Prelude.{◌≡◌, ◌↔◌, MatchResult, IfErr, IfOk};
+ghost use Rattle.std.specs.Io.KnownBytes.{Keeps};
+ghost use Rattle.store_answers.specs.Replies.{IsServing};
+ghost use Rattle.store_answers.specs.Stores.{IsUnopened, OnlyFailing, form_over};
+
+use crate::built::told;
+use crate::opening::{OpenStore, open};
+use answer_lines::Report;
+use board::Reader;
+use command_line::Workers;
+use disk_model::Disk;
+use feed_basis::Basis;
+use precomputing::{Free, Meanwhile, precompute_while};
+use program_inputs::Fault;
+use section_store::going_laws::goes_on;
+use section_store::laws::loses_nothing_in_turn;
+use service_days::Cover;
+use serving::{End, serve_lines};
+use shared_planner::Planner;
+use std::alloc::Global;
+use std::io::{BufRead, Write};
+use std::sync::Wait;
+use std::thread::Threads;
+use timetable::Rides;
+
+/// What came of the questions of an input, and of the build beside them.
+#[derive(Debug, Drop)]
+pub struct Served<'a> {
+    /// How the replies came to their end.
+    pub end: End,
+    /// What the file has then, or why the build came to an early end.
+    pub built: Result<Report<'a>, Fault<'a>>,
+}
+
+// The questions of an input, which are replied to on an output.
+#[derive(Drop)]
+struct Serving<'s, R: BufRead, W: Write> {
+    alloc: Global,
+    planner: &'s Planner,
+    cover: &'s Cover,
+    reader: Reader,
+    input: &'s mut R,
+    out: &'s mut W,
+}
+
+// What comes of it is the output and how it ended.
+impl<'s, R: BufRead, W: Write> Meanwhile for Serving<'s, R, W> {
+    ghost use Rattle.std.specs.Prelude.{◌≡◌, IfSome};
+    ghost use Rattle.serving.specs.Answers.{IsReply};
+    ghost use Rattle.serving.specs.Runs.{IsServed};
+
+    type Output = (&'s mut W, End);
+
+    ghost can_run = { λ s. s.reader.origin.form ≡ s.planner.now.form };
+
+    ghost gives = { λ s given. IfSome (R.remaining s.input.now) (λ bytes.
+        IsServed (IsReply s.planner.now s.cover.now) s.reader bytes (W.contents s.out.now) (W.contents given.0.now) given.1) };
+
+    fn run(self) -> (&'s mut W, End) {
+        let Self {
+            alloc,
+            planner,
+            cover,
+            reader,
+            input,
+            out,
+        } = self;
+        let end = serve_lines(alloc, planner, cover, reader, input, out);
+        (out, end)
+    }
+}
+
+/// Replies to the questions of the input, a line each, on `out`, while workers build the trees that the file of the disk lacks, and each
+/// is stored and shown to who asks: `serve_lines` says what the lines and the replies are, and `build` what a build is. Once there are no
+/// more lines, or the output refuses a write, no tree is begun any more, and what is in hand ends. The disk comes back.
+///
+/// Each reply stands for one look at the trees that are stored by then. Of a trusted disk an answer is exactly the best of all journeys.
+pub fn serve<'a, D: Disk + Drop + Send, T: Threads + Wait + Sync, R: BufRead, W: Write>(
+    alloc: Global,
+    rt: &T,
+    basis: &'a Basis,
+    rides: Rides,
+    disk: D,
+    workers: Workers,
+    input: &mut R,
+    out: &mut W,
+) -> (Result<Served<'a>, Fault<'a>>, D)
+    ensures served { D.honest disk → MatchResult result.0
+        (IsServing basis.now rides (D.state disk) (D.state result.1) (R.remaining input.old) (W.contents out.old) (W.contents out.new))
+        (IsUnopened (form_over basis.now rides) (D.state disk) (D.state result.1)) }
+    ensures kept { IfErr result.0 (λ _. Keeps (W.contents out.old) (W.contents out.new)) }
+    ensures device { MatchResult result.0 (λ served. IfErr served.built (OnlyFailing (D.failures disk) (D.failures result.1)))
+        (OnlyFailing (D.failures disk) (D.failures result.1)) }
+    ensures honest { D.honest disk ↔ D.honest result.1 }
+{
+    goes_on();
+    loses_nothing_in_turn();
+    let OpenStore {
+        planner,
+        desk,
+        reader,
+    } = match open(alloc, rt, basis, rides, disk) {
+        Ok(opened) => opened,
+        Err((fault, disk)) => return (Err(Fault::from(fault)), disk),
+    };
+    let serving = Serving {
+        alloc,
+        planner: &planner,
+        cover: basis.cover(),
+        reader,
+        input,
+        out,
+    };
+    let workers = usize::from(workers.number);
+    let (desk, outcome, (_out, end)) = precompute_while(
+        alloc, rt, desk, &planner, workers, &Free, serving,
+    );
+    let built = told(alloc, basis, desk.stored(), &outcome);
+    (Ok(Served { end, built }), desk.into_disk(rt))
+}
