@@ -6,7 +6,7 @@ use Rattle.std.proofs.lemmas.Bool.{cases_eq}
 use Rattle.std.proofs.lemmas.List.{length-map}
 use Rattle.std.proofs.lemmas.List.Kept.{AllPairs-cons}
 use Rattle.std.proofs.lemmas.List.Elements.{All-from_get_or}
-use Rattle.timetable.specs.declared.TheConstants.{LATEST_MOMENT}
+use Rattle.timetable.specs.declared.parts.TheConstants.{LATEST_MOMENT}
 use Rattle.timetable.specs.declared.parts.Call.{Call}
 use Rattle.timetable.specs.declared.parts.Leg.{Leg}
 use Rattle.timetable.specs.declared.parts.Numbers.{Numbers}

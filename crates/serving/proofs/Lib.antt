@@ -1,4 +1,3 @@
-pub mod PointFacts
-pub mod PrintFacts
+pub mod KnownFacts
 pub mod ReplyFacts
 pub mod RunFacts

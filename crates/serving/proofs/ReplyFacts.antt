@@ -1,6 +1,6 @@
 -- Replies to questions, as they are asked on one look.
-use Rattle.std.proofs.Common.{◌≡◌, ℕ, List, [], All, refl, sym, subst, append-nil}
-use Rattle.service_days.specs.Cover.{CoverDays}
+use Rattle.std.proofs.Common.{◌≡◌, ℕ, Bool, List, [], All, refl, sym, subst, append-nil}
+use Rattle.feed_basis.specs.Basis.{BasisData}
 use Rattle.pattern_query.specs.Answer.{PointData}
 use Rattle.board.specs.Ties.{BoardPart}
 use Rattle.board.specs.Trees.{IsRight}
@@ -16,12 +16,12 @@ use Rattle.serving.specs.declared.reply.Refusal.TheVariants as refusals
 use Rattle.serving.specs.declared.reply.Reply.{Reply}
 use Rattle.serving.specs.declared.reply.Reply.TheVariants as replies
 
-module _ (p : PlannerView) (cover : CoverDays) (line : List ℕ) (old new : BoardPart) where
+module _ (p : PlannerView) (basis : BasisData) (wanted : Bool) (line : List ℕ) (old new : BoardPart) where
   -- what is told of an answer
-  pub told_reply : (question : Question) (depart : ℕ) (journeys : List PointData) → IsAsked cover line question depart
+  pub told_reply : (question : Question) (depart : ℕ) (journeys : List PointData) → IsAsked basis.cover line question depart
       → IsAnswered p old new question.from.now question.to.now depart journeys
       → (All (IsRight p.form) old.origin.opened.list → AreBestBetween p question.from.now question.to.now depart journeys)
-      → (reply : Reply) → IsTold cover journeys reply → IsReply p cover line old new reply
+      → (reply : Reply) → IsTold basis depart wanted journeys reply → IsReply p basis wanted line old new reply
   told_reply question depart journeys is answered exact (replies.Answer answer) told = record {
     question = question;
     depart = depart;
@@ -32,11 +32,11 @@ module _ (p : PlannerView) (cover : CoverDays) (line : List ℕ) (old new : Boar
     told = told;
   }
   told_reply question depart journeys is answered exact (replies.Refused refusal) none =
-      subst (IsRefused p cover line old new) (sym none) answered.0
+      subst (IsRefused p basis.cover line old new) (sym none) answered.0
 
   -- the refusal of a question
-  pub refused_reply : (question : Question) (depart : ℕ) → IsAsked cover line question depart → (fault : AskFault)
-      → IsUnanswered p old new question.from.now question.to.now depart fault → IsReply p cover line old new (replies.Refused (of_ask fault))
+  pub refused_reply : (question : Question) (depart : ℕ) → IsAsked basis.cover line question depart → (fault : AskFault)
+      → IsUnanswered p old new question.from.now question.to.now depart fault → IsReply p basis wanted line old new (replies.Refused (of_ask fault))
   refused_reply question depart is faults.BoardRefused un = record { question = question; depart = depart; asked = is; fault = faults.BoardRefused; unanswered = un; told = refl }
   refused_reply question depart is (faults.Question (asked.UnknownStop id)) un =
       record { question = question; depart = depart; asked = is; fault = faults.Question (asked.UnknownStop id); unanswered = un; told = refl }
@@ -53,7 +53,7 @@ module _ (p : PlannerView) (cover : CoverDays) (line : List ℕ) (old new : Boar
   looks_unanswered from to depart (faults.Question fault) un = un.0
 
   -- whatever was replied, the reader knows what it knew
-  pub looks : (reply : Reply) → IsReply p cover line old new reply → IsLook old new
+  pub looks : (reply : Reply) → IsReply p basis wanted line old new reply → IsLook old new
   looks (replies.Answer answer) is = is.answered.0
   looks (replies.Refused refusals.BadLine) is = looks_still is.1
   looks (replies.Refused refusals.Memory) is = is

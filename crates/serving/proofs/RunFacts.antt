@@ -2,19 +2,21 @@
 use Rattle.std.proofs.Common.{◌≡◌, ℕ, List, [], ◌∷◌, ◌++◌, Option, None, Some, IfSome, Result, Ok, Err, OnOk, OnErr, MatchResult, is_err, true, false, inl, inr, refl, sym, ap, ◌∙◌, subst, append_assoc, append-nil}
 use Rattle.std.proofs.KnownBytes.{Appends-trans}
 use Rattle.std.specs.Io.KnownBytes.{Appends}
-use Rattle.std.specs.List.{flat_map}
+use Rattle.std.specs.List.{concat}
 use Rattle.std.specs.Str.Lines.{lines}
-use Rattle.std.proofs.lemmas.Grind.{flat_map-append}
+use Rattle.std.proofs.lemmas.List.Folds.{concat-append}
 use Rattle.board.specs.Ties.{BoardPart}
 use Rattle.answer_lines.specs.Printing.{AppendsBeginning}
 use Rattle.question_lines.specs.Lines.{HasNoLine, IsKept, LosesLine}
-use Rattle.serving.specs.Printed.{IsBegun, IsPrinted, no_memory, reply_text}
+use Rattle.question_lines.specs.declared.question.Question.{Question}
+use Rattle.serving.specs.Printed.{no_memory}
+use Rattle.serving.specs.Tellings.{IsAsking, IsBegun, IsPrinted, IsReplyText, Telling}
 use Rattle.serving.specs.Runs.{AreAnswered, AreReplies, IsCutOff, IsReplied, IsRight, IsServed, IsServedSoFar}
 use Rattle.serving.specs.declared.reply.Reply.{Reply}
 use Rattle.serving.specs.declared.serving.End.TheVariants as ends
 
 -- one reply more
-replied_more : (Right : IsRight) (lines : List (List ℕ)) (old mid new : BoardPart) (replies : List Reply) (line : List ℕ) (reply : Reply)
+replied_more : (Right : IsRight) (lines : List (List ℕ)) (old mid new : BoardPart) (replies : List (List ℕ)) (line reply : List ℕ)
     → AreReplies Right lines old mid replies → Right line mid new reply → AreReplies Right (lines ++ line ∷ []) old new (replies ++ reply ∷ [])
 replied_more Right [] old mid new [] line reply are is = (new, subst (λ now. Right line now new reply) are is, refl)
 replied_more Right [] old mid new (other ∷ replies) line reply are is = absurd are
@@ -22,9 +24,8 @@ replied_more Right (first ∷ lines) old mid new [] line reply are is = absurd a
 replied_more Right (first ∷ lines) old mid new (other ∷ replies) line reply are is =
     (are.0, are.1, replied_more Right lines are.0 mid new replies line reply are.2 is)
 
-texts_more : (replies : List Reply) (reply : Reply) → flat_map reply_text (replies ++ reply ∷ []) ≡ flat_map reply_text replies ++ reply_text reply
-texts_more replies reply =
-    flat_map-append reply_text replies (reply ∷ []) ∙ ap (λ text. flat_map reply_text replies ++ text) (append-nil (reply_text reply))
+texts_more : (replies : List (List ℕ)) (reply : List ℕ) → concat (replies ++ reply ∷ []) ≡ concat replies ++ reply
+texts_more replies reply = concat-append replies (reply ∷ []) ∙ ap (λ text. concat replies ++ text) (append-nil reply)
 
 begun_more : (a b c : Option (List ℕ)) (front text : List ℕ) → Appends a b front → AppendsBeginning b c text → AppendsBeginning a c (front ++ text)
 begun_more a b c front text whole begun = (
@@ -37,13 +38,21 @@ begun_more a b c front text whole begun = (
 )
 
 -- what came of printing the reply to a line, or that memory was refused
-pub line_printed : {T E : Type 0} (Right : IsRight) (line : List ℕ) (start last : BoardPart) (old new : Option (List ℕ)) (reply : Reply) (r : Result T E)
-    → Right line start last reply → Right line start last no_memory → OnOk r (IsPrinted old new reply) → OnErr r (IsBegun old new reply)
-    → MatchResult r (λ _. IsReplied Right line start last old new) (λ _. IsCutOff Right line start last old new)
-line_printed Right line start last old new reply (Ok x) is none ok err =
-    elim ok [ inl printed ↦ (reply, is, printed) | inr printed ↦ (no_memory, none, printed) ]
-line_printed Right line start last old new reply (Err e) is none ok err =
-    elim err [ inl begun ↦ (reply, is, begun) | inr begun ↦ (no_memory, none, begun) ]
+pub line_printed : {T E : Type 0} (tells : Telling) (Right : List ℕ → BoardPart → BoardPart → Reply → Type 0) (line : List ℕ) (start last : BoardPart)
+    (old new : Option (List ℕ)) (question : Option Question) (reply : Reply) (r : Result T E)
+    → IsAsking line question → Right line start last reply → Right line start last no_memory
+    → OnOk r (IsPrinted (tells question) reply old new) → OnErr r (IsBegun (tells question) reply old new)
+    → MatchResult r (λ _. IsReplied (IsReplyText tells Right) line start last old new) (λ _. IsCutOff (IsReplyText tells Right) line start last old new)
+line_printed tells Right line start last old new question reply (Ok x) asks is none ok err =
+    elim ok.1 [
+      | inl told ↦ (ok.0, (question, reply, asks, is, told), ok.2)
+      | inr told ↦ (ok.0, (question, no_memory, asks, none, told), ok.2)
+    ]
+line_printed tells Right line start last old new question reply (Err e) asks is none ok err =
+    elim err.1 [
+      | inl told ↦ (err.0, (question, reply, asks, is, told), err.2)
+      | inr told ↦ (err.0, (question, no_memory, asks, none, told), err.2)
+    ]
 
 pub of_ok : {T E : Type 0} (r : Result T E) (A B : Type 0) → is_err r ≡ false → MatchResult r (λ _. A) (λ _. B) → A
 of_ok (Ok x) A B is m = m
@@ -97,11 +106,11 @@ module _ (Right : IsRight) (start : BoardPart) (old : Option (List ℕ)) where
         replies = so_far.replies ++ one.0 ∷ [];
         are = replied_more Right so_far.front start now next so_far.replies lost.line one.0 so_far.are one.1;
         written = subst (Appends old new) (sym (texts_more so_far.replies one.0))
-            (Appends-trans old mid new (flat_map reply_text so_far.replies) (reply_text one.0) so_far.written one.2);
+            (Appends-trans old mid new (concat so_far.replies) one.0 so_far.written one.2);
       }
 
   answered : (bytes : List ℕ) (left : Option (List ℕ)) (now : BoardPart) (new : Option (List ℕ)) → (so_far : IsServedSoFar Right start bytes old left now new)
-      → AreAnswered Right so_far.front start (flat_map reply_text so_far.replies)
+      → AreAnswered Right so_far.front start (concat so_far.replies)
   answered bytes left now new so_far = record { last = now; replies = so_far.replies; are = so_far.are; text_is = refl }
 
   -- the input has no line more
@@ -111,8 +120,8 @@ module _ (Right : IsRight) (start : BoardPart) (old : Option (List ℕ)) where
   all_served (Some bytes) left rest_left now new so_far none =
       let ended : HasNoLine so_far.rest rest_left = subst (λ (o : Option (List ℕ)). IfSome o (λ input. HasNoLine input rest_left)) so_far.left_is none in
       let all : lines bytes ≡ so_far.front = so_far.all ∙ ap (λ l. so_far.front ++ l) ended.none ∙ append-nil so_far.front in (
-        flat_map reply_text so_far.replies,
-        subst (λ l. AreAnswered Right l start (flat_map reply_text so_far.replies)) (sym all) (answered bytes left now new so_far),
+        concat so_far.replies,
+        subst (λ l. AreAnswered Right l start (concat so_far.replies)) (sym all) (answered bytes left now new so_far),
         so_far.written,
       )
 
@@ -121,7 +130,7 @@ module _ (Right : IsRight) (start : BoardPart) (old : Option (List ℕ)) where
       → SoFar input left now new → IfSome input (λ bytes. IsServed Right start bytes old new ends.Unread)
   unread_served None left now new so_far = tt
   unread_served (Some bytes) left now new so_far =
-      (so_far.front, flat_map reply_text so_far.replies, (lines so_far.rest, so_far.all), answered bytes left now new so_far, so_far.written)
+      (so_far.front, concat so_far.replies, (lines so_far.rest, so_far.all), answered bytes left now new so_far, so_far.written)
 
   -- the output refused the reply to one line more
   pub refused_served : (input left rest_left : Option (List ℕ)) (now next : BoardPart) (mid new : Option (List ℕ)) (kept : List ℕ)
@@ -133,7 +142,7 @@ module _ (Right : IsRight) (start : BoardPart) (old : Option (List ℕ)) where
       let lost = line_of bytes left rest_left now mid kept so_far loses in
       let one = cut lost.line lost.is in (
         so_far.front ++ lost.line ∷ [],
-        flat_map reply_text (so_far.replies ++ one.0 ∷ []),
+        concat (so_far.replies ++ one.0 ∷ []),
         (lines lost.rest, front_more bytes left rest_left now mid kept so_far lost),
         record {
           last = next;
@@ -142,5 +151,5 @@ module _ (Right : IsRight) (start : BoardPart) (old : Option (List ℕ)) where
           text_is = refl;
         },
         subst (AppendsBeginning old new) (sym (texts_more so_far.replies one.0))
-            (begun_more old mid new (flat_map reply_text so_far.replies) (reply_text one.0) so_far.written one.2),
+            (begun_more old mid new (concat so_far.replies) one.0 so_far.written one.2),
       )

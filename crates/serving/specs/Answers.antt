@@ -1,5 +1,5 @@
 -- What is replied to a line.
-use Rattle.std.specs.Prelude.{◌≡◌, ℕ, List, [], Option}
+use Rattle.std.specs.Prelude.{◌≡◌, ℕ, Bool, List, Option}
 use Rattle.std.specs.List.{All, AllZip}
 use Rattle.std.specs.Option.{unwrap_or}
 use Rattle.service_days.specs.Answers.{IsMoment}
@@ -10,10 +10,10 @@ use Rattle.board.specs.Trees.{IsRight}
 use Rattle.shared_planner.specs.Asking.{AreBestBetween, IsAnswered, IsLook, IsUnanswered}
 use Rattle.shared_planner.specs.PlannerView.{PlannerView}
 use Rattle.shared_planner.specs.declared.fault.AskFault.{AskFault}
-use Rattle.answer_lines.specs.Moments.{Says}
 use Rattle.answer_lines.specs.declared.answer.Answer.{Answer}
 use Rattle.answer_lines.specs.declared.answer.Answer.TheVariants as answers
-use Rattle.answer_lines.specs.declared.answer.Point.{Point}
+use Rattle.feed_basis.specs.Basis.{BasisData}
+use Rattle.told_journeys.specs.Points.{Tells}
 use Rattle.question_lines.specs.Questions.{IsQuestion, NotQuestion}
 use Rattle.question_lines.specs.declared.question.Question.{Question}
 use Rattle.serving.specs.Refusals.{of_ask}
@@ -22,17 +22,16 @@ use Rattle.serving.specs.declared.reply.Refusal.TheVariants as refusals
 use Rattle.serving.specs.declared.reply.Reply.{Reply}
 use Rattle.serving.specs.declared.reply.Reply.TheVariants as replies
 
--- a point tells the rides and the arrival of a journey, and nothing else of it
-pub record TellsPoint (cover : CoverDays) (journey : PointData) (point : Point) : Type 0 where
-  pub rides : point.rides ≡ journey.rides
-  pub at : Says cover journey.arrival point.at
-  pub untold : point.stages.items ≡ []
+-- the planner is for the basis's timetable, with its names
+pub record IsOver (basis : BasisData) (p : PlannerView) : Type 0 where
+  pub table : p.form.table ≡ basis.timetable
+  pub names : p.names ≡ basis.names
 
--- the answer tells these journeys
-abbrev pub TellsPoints : CoverDays → List PointData → Answer → Type 0
-TellsPoints cover journeys answers.NoRide = ⊥
-TellsPoints cover journeys (answers.Arrive time) = ⊥
-TellsPoints cover journeys (answers.Points points) = AllZip (TellsPoint cover) journeys points.items
+-- the answer tells these journeys, which begin at d, with their rides and walks where they are wanted
+abbrev pub TellsJourneys : BasisData → ℕ → Bool → List PointData → Answer → Type 0
+TellsJourneys basis d wanted journeys answers.NoRide = ⊥
+TellsJourneys basis d wanted journeys (answers.Arrive time) = ⊥
+TellsJourneys basis d wanted journeys (answers.Points points) = AllZip (Tells basis d wanted) journeys points.items
 
 -- The moment to leave at. A time of a day that isn't covered stands for one that no timetable covers.
 abbrev pub depart_of : Option ℕ → ℕ
@@ -47,14 +46,14 @@ pub record IsAsked (cover : CoverDays) (line : List ℕ) (question : Question) (
 
 -- The line is a question, and the answer tells what one look of the reader gives to it. Where each tree with which the board was opened
 -- is complete, these are exactly the best of all journeys.
-pub record IsRightAnswer (p : PlannerView) (cover : CoverDays) (line : List ℕ) (old new : BoardPart) (answer : Answer) : Type 0 where
+pub record IsRightAnswer (p : PlannerView) (basis : BasisData) (wanted : Bool) (line : List ℕ) (old new : BoardPart) (answer : Answer) : Type 0 where
   pub question : Question
   pub depart : ℕ
-  pub asked : IsAsked cover line question depart
+  pub asked : IsAsked basis.cover line question depart
   pub journeys : List PointData
   pub answered : IsAnswered p old new question.from.now question.to.now depart journeys
   pub exact : All (IsRight p.form) old.origin.opened.list → AreBestBetween p question.from.now question.to.now depart journeys
-  pub told : TellsPoints cover journeys answer
+  pub told : TellsJourneys basis depart wanted journeys answer
 
 -- the line is a question, which has no answer from one look of the reader, for this cause
 pub record IsRightRefusal (p : PlannerView) (cover : CoverDays) (line : List ℕ) (old new : BoardPart) (refusal : Refusal) : Type 0 where
@@ -74,12 +73,13 @@ IsRefused p cover line old new (refusals.UnknownStop id) = IsRightRefusal p cove
 IsRefused p cover line old new refusals.NotCovered = IsRightRefusal p cover line old new refusals.NotCovered
 IsRefused p cover line old new (refusals.NotStored id) = IsRightRefusal p cover line old new (refusals.NotStored id)
 
--- what is replied to a line by one whose reader knew `old` before it and knows `new` now
-abbrev pub IsReply : PlannerView → CoverDays → List ℕ → BoardPart → BoardPart → Reply → Type 0
-IsReply p cover line old new (replies.Answer answer) = IsRightAnswer p cover line old new answer
-IsReply p cover line old new (replies.Refused refusal) = IsRefused p cover line old new refusal
+-- What is replied to a line by one whose reader knew `old` before it and knows `new` now, where the rides and walks of journeys are wanted or
+-- aren't.
+abbrev pub IsReply : PlannerView → BasisData → Bool → List ℕ → BoardPart → BoardPart → Reply → Type 0
+IsReply p basis wanted line old new (replies.Answer answer) = IsRightAnswer p basis wanted line old new answer
+IsReply p basis wanted line old new (replies.Refused refusal) = IsRefused p basis.cover line old new refusal
 
 -- the reply tells these journeys, or that memory was refused
-abbrev pub IsTold : CoverDays → List PointData → Reply → Type 0
-IsTold cover journeys (replies.Answer answer) = TellsPoints cover journeys answer
-IsTold cover journeys (replies.Refused refusal) = refusal ≡ refusals.Memory
+abbrev pub IsTold : BasisData → ℕ → Bool → List PointData → Reply → Type 0
+IsTold basis d wanted journeys (replies.Answer answer) = TellsJourneys basis d wanted journeys answer
+IsTold basis d wanted journeys (replies.Refused refusal) = refusal ≡ refusals.Memory

@@ -1,9 +1,7 @@
--- How replies are shown.
-use Rattle.std.specs.Prelude.{ℕ, List, [], ◌∷◌, ◌++◌, ◌⊎◌, Option, codes}
-use Rattle.std.specs.Io.KnownBytes.{Appends}
+-- How replies are shown as lines.
+use Rattle.std.specs.Prelude.{ℕ, List, [], ◌∷◌, ◌++◌, codes}
 use Rattle.shown_ids.specs.Shown.{shown}
 use Rattle.answer_lines.specs.Printed.{answer_text}
-use Rattle.answer_lines.specs.Printing.{AppendsBeginning}
 use Rattle.serving.specs.declared.reply.Refusal.{Refusal}
 use Rattle.serving.specs.declared.reply.Refusal.TheVariants as refusals
 use Rattle.serving.specs.declared.reply.Reply.{Reply}
@@ -30,11 +28,3 @@ reply_text (replies.Refused refusal) = codes "refused " ++ (refusal_text refusal
 -- the reply for want of memory
 abbrev pub no_memory : Reply
 no_memory = replies.Refused refusals.Memory
-
--- the reply is printed, or that memory was refused
-abbrev pub IsPrinted : Option (List ℕ) → Option (List ℕ) → Reply → Type 0
-IsPrinted old new reply = Appends old new (reply_text reply) ⊎ Appends old new (reply_text no_memory)
-
--- a beginning of the same
-abbrev pub IsBegun : Option (List ℕ) → Option (List ℕ) → Reply → Type 0
-IsBegun old new reply = AppendsBeginning old new (reply_text reply) ⊎ AppendsBeginning old new (reply_text no_memory)

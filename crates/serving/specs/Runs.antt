@@ -1,33 +1,31 @@
 -- What stands on the output once the lines of an input are replied to.
 use Rattle.std.specs.Prelude.{◌≡◌, ℕ, List, [], ◌∷◌, ◌++◌, Option, Some}
 use Rattle.std.specs.Io.KnownBytes.{Appends, Keeps}
-use Rattle.std.specs.List.{flat_map}
+use Rattle.std.specs.List.{concat}
 use Rattle.std.specs.Str.Lines.{lines}
 use Rattle.board.specs.Ties.{BoardPart}
 use Rattle.answer_lines.specs.Printing.{AppendsBeginning}
-use Rattle.serving.specs.Printed.{reply_text}
-use Rattle.serving.specs.declared.reply.Reply.{Reply}
 use Rattle.serving.specs.declared.serving.End.{End}
 use Rattle.serving.specs.declared.serving.End.TheVariants as ends
 
--- which replies to a line are right, by what a reader knew before it and knows after it
+-- which texts are right as the reply to a line, by what a reader knew before it and knows after it
 abbrev pub IsRight : Type 1
-IsRight = List ℕ → BoardPart → BoardPart → Reply → Type 0
+IsRight = List ℕ → BoardPart → BoardPart → List ℕ → Type 0
 
 -- the replies to lines, one after the other, as what the reader knows goes on
-abbrev pub AreReplies : IsRight → List (List ℕ) → BoardPart → BoardPart → List Reply → Type 0
+abbrev pub AreReplies : IsRight → List (List ℕ) → BoardPart → BoardPart → List (List ℕ) → Type 0
 AreReplies Right [] old new [] = new ≡ old
 AreReplies Right [] old new (reply ∷ replies) = ⊥
 AreReplies Right (line ∷ lines) old new [] = ⊥
 AreReplies Right (line ∷ lines) old new (reply ∷ replies) =
     (seen : BoardPart) × Right line old seen reply × AreReplies Right lines seen new replies
 
--- a text is that of right replies to these lines
+-- the text is right replies to these lines, one behind the other
 pub record AreAnswered (Right : IsRight) (lines : List (List ℕ)) (start : BoardPart) (text : List ℕ) : Type 0 where
   pub last : BoardPart
-  pub replies : List Reply
+  pub replies : List (List ℕ)
   pub are : AreReplies Right lines start last replies
-  pub text_is : text ≡ flat_map reply_text replies
+  pub text_is : text ≡ concat replies
 
 -- these lines are the first of the input's
 abbrev pub AreFirst : List (List ℕ) → List ℕ → Type 0
@@ -45,11 +43,11 @@ IsServed Right start input old new ends.NoMemory = Keeps old new
 
 -- one line is replied to
 abbrev pub IsReplied : IsRight → List ℕ → BoardPart → BoardPart → Option (List ℕ) → Option (List ℕ) → Type 0
-IsReplied Right line start last old new = (reply : Reply) × Right line start last reply × Appends old new (reply_text reply)
+IsReplied Right line start last old new = (reply : List ℕ) × Right line start last reply × Appends old new reply
 
 -- a beginning of the reply to one line stands on the output
 abbrev pub IsCutOff : IsRight → List ℕ → BoardPart → BoardPart → Option (List ℕ) → Option (List ℕ) → Type 0
-IsCutOff Right line start last old new = (reply : Reply) × Right line start last reply × AppendsBeginning old new (reply_text reply)
+IsCutOff Right line start last old new = (reply : List ℕ) × Right line start last reply × AppendsBeginning old new reply
 
 -- so far lines of the input are replied to, and these bytes of it are left
 pub record IsServedSoFar (Right : IsRight) (start : BoardPart) (input : List ℕ) (old : Option (List ℕ)) (left : Option (List ℕ)) (now : BoardPart)
@@ -58,6 +56,6 @@ pub record IsServedSoFar (Right : IsRight) (start : BoardPart) (input : List ℕ
   pub rest : List ℕ
   pub left_is : left ≡ Some rest
   pub all : lines input ≡ front ++ lines rest
-  pub replies : List Reply
+  pub replies : List (List ℕ)
   pub are : AreReplies Right front start now replies
-  pub written : Appends old new (flat_map reply_text replies)
+  pub written : Appends old new (concat replies)

@@ -1,11 +1,12 @@
 //! Questions that are asked line by line, and the replies to them, while trees are built.
 #![tactic(auto)]
 
-mod points;
 mod printing;
 mod reply;
 mod replying;
 mod serving;
+mod telling;
 
 pub use reply::{Refusal, Reply};
 pub use serving::{End, serve_lines};
+pub use telling::{Lines, ReplyTeller};

@@ -3,43 +3,44 @@
 ghost use Rattle.std.specs.Prelude.{OnErr, OnOk};
 ghost use Rattle.std.specs.Io.KnownBytes.{Appends};
 ghost use Rattle.answer_lines.specs.Printing.{AppendsBeginning};
-ghost use Rattle.serving.specs.Printed.{IsBegun, IsPrinted, no_memory, reply_text};
+ghost use Rattle.serving.specs.Tellings.{IsBegun, IsPrinted};
 
 use crate::reply::Reply;
-use answer_lines::{PrintFault, print, print_bytes};
+use crate::telling::ReplyTeller;
+use answer_lines::print_bytes;
+use question_lines::Question;
 use std::alloc::Global;
 use std::io::Write;
-
-// The reply for which no memory is needed.
-const NO_MEMORY: &[u8] = b"refused Memory\n.\n";
 
 /// The output refused a write: a beginning of the reply may stand there.
 #[derive(Clone, Copy, Debug, PartialEq, Eq)]
 pub(crate) struct OutputRefused;
 
-// Prints that memory was refused. It takes no memory.
-fn print_no_memory<W: Write>(out: &mut W) -> Result<(), OutputRefused>
-    ensures ok { OnOk result (Appends (W.contents out.old) (W.contents out.new) (reply_text no_memory)) }
-    ensures err { OnErr result (AppendsBeginning (W.contents out.old) (W.contents out.new) (reply_text no_memory)) }
+// Prints a text on `out`, and flushes. It takes no memory.
+fn print_text<W: Write>(text: &str, out: &mut W) -> Result<(), OutputRefused>
+    ensures ok { OnOk result (Appends (W.contents out.old) (W.contents out.new) text.now) }
+    ensures err { OnErr result (AppendsBeginning (W.contents out.old) (W.contents out.new) text.now) }
 {
-    match print_bytes(NO_MEMORY, out) {
+    match print_bytes(text.as_bytes(), out) {
         Ok(()) => Ok(()),
         Err(_) => Err(OutputRefused),
     }
 }
 
-/// Prints the reply on `out`, and flushes; or that memory was refused, where the reply can't be printed for want of it.
-pub(crate) fn print_reply<W: Write>(
+/// Prints the reply to a question, or to a line that is none, on `out`, and flushes; or that memory was refused, where there is none for
+/// the reply's text.
+pub(crate) fn print_reply<T: ReplyTeller, W: Write>(
     alloc: Global,
-    reply: Reply<'_>,
+    teller: &T,
+    question: Option<Question<'_>>,
+    reply: &Reply<'_>,
     out: &mut W,
 ) -> Result<(), OutputRefused>
-    ensures ok { OnOk result (IsPrinted (W.contents out.old) (W.contents out.new) reply.entry) }
-    ensures err { OnErr result (IsBegun (W.contents out.old) (W.contents out.new) reply.entry) }
+    ensures ok { OnOk result (IsPrinted (T.tells teller.now question.entry) reply.now (W.contents out.old) (W.contents out.new)) }
+    ensures err { OnErr result (IsBegun (T.tells teller.now question.entry) reply.now (W.contents out.old) (W.contents out.new)) }
 {
-    match print(alloc, reply, out) {
-        Ok(()) => Ok(()),
-        Err(PrintFault::Refused) => Err(OutputRefused),
-        Err(PrintFault::Memory) => print_no_memory(out),
+    match teller.told(alloc, question, reply) {
+        Ok(text) => print_text(&text, out),
+        Err(_) => print_text(teller.memory_refused(), out),
     }
 }

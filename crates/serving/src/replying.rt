@@ -1,19 +1,22 @@
 //! The reply to a line.
 
-ghost use Rattle.std.specs.Prelude.{◌≡◌, List, ℕ};
-ghost use Rattle.question_lines.specs.Lines.{IsKept};
+ghost use Rattle.std.specs.Prelude.{◌≡◌, ◌≤◌, List, ℕ};
+ghost use Rattle.std.specs.List.{All};
 ghost use Rattle.question_lines.specs.Questions.{IsQuestion};
-ghost use Rattle.serving.specs.Answers.{IsReply, IsTold};
+ghost use Rattle.serving.specs.Answers.{IsOver, IsReply, IsTold};
 ghost use Rattle.serving.specs.Refusals.{of_ask};
+ghost use Rattle.serving.specs.Tellings.{IsAsking};
+ghost use Rattle.told_journeys.specs.Points.{IsKnownJourney};
 
-use crate::points::points_of;
 use crate::reply::{Refusal, Reply};
 use answer_lines::Answer;
 use board::Reader;
-use question_lines::{Line, Question};
-use service_days::Cover;
+use feed_basis::Basis;
+use question_lines::Question;
 use shared_planner::{AskFault, Planner};
 use std::alloc::Global;
+use timetable::LATEST_MOMENT;
+use told_journeys::told;
 
 // The refusal of a question, as it is replied.
 fn refusal_of<'a>(fault: AskFault<'a>) -> Refusal<'a>
@@ -27,11 +30,19 @@ fn refusal_of<'a>(fault: AskFault<'a>) -> Refusal<'a>
     }
 }
 
-// The journeys, as they are told; where memory is refused, that is replied.
-fn told(alloc: Global, cover: &Cover, journeys: &[pattern_query::Point]) -> Reply<'static>
-    ensures { IsTold cover.now journeys.now result }
+// The journeys, which begin at the moment, as they are told; where memory is refused, that is replied.
+fn answer_of(
+    alloc: Global,
+    basis: &Basis,
+    depart: u32,
+    legs: bool,
+    journeys: &[pattern_query::Point],
+) -> Reply<'static>
+    requires early { depart ≤ LATEST_MOMENT }
+    requires known { All (IsKnownJourney basis.now depart) journeys.now }
+    ensures { IsTold basis.now depart legs journeys.now result }
 {
-    match points_of(alloc, cover, journeys) {
+    match told(alloc, basis, depart, legs, journeys) {
         Ok(points) => Reply::Answer(Answer::Points(points)),
         Err(_) => Reply::Refused(Refusal::Memory),
     }
@@ -41,37 +52,43 @@ fn told(alloc: Global, cover: &Cover, journeys: &[pattern_query::Point]) -> Repl
 fn reply_to<'a>(
     alloc: Global,
     planner: &'a Planner,
-    cover: &Cover,
+    basis: &Basis,
+    legs: bool,
     reader: Reader,
     question: &Question<'a>,
 ) -> (Reader, Reply<'a>)
+    requires over { IsOver basis.now planner.now }
     requires own { reader.origin.form ≡ planner.now.form }
-    ensures { (line : List ℕ) → IsQuestion line question.now → IsReply planner.now cover.now line reader result.0 result.1 }
+    ensures { (line : List ℕ) → IsQuestion line question.now → IsReply planner.now basis.now legs line reader result.0 result.1 }
 {
-    let depart = cover
+    // It says that the names know the timetable's stops and trips.
+    let _names = basis.names();
+    let depart = basis
         .moment(question.day, question.seconds)
         .unwrap_or(u32::MAX);
     let (reader, answer) = planner.ask(reader, question.from, question.to, depart);
     let reply = match answer {
-        Ok(answer) => told(alloc, cover, answer.points()),
+        Ok(answer) => answer_of(alloc, basis, depart, legs, answer.points()),
         Err(fault) => Reply::Refused(refusal_of(fault)),
     };
     (reader, reply)
 }
 
-/// The reply to a line; the reader comes back.
+/// The reply to a line that is this question, or none; the reader comes back.
 pub(crate) fn reply_of<'a>(
     alloc: Global,
     planner: &'a Planner,
-    cover: &Cover,
+    basis: &Basis,
+    legs: bool,
     reader: Reader,
-    line: &'a Line,
+    question: Option<Question<'a>>,
 ) -> (Reader, Reply<'a>)
+    requires over { IsOver basis.now planner.now }
     requires own { reader.origin.form ≡ planner.now.form }
-    ensures { (text : List ℕ) → IsKept text line.now → IsReply planner.now cover.now text reader result.0 result.1 }
+    ensures { (line : List ℕ) → IsAsking line question.entry → IsReply planner.now basis.now legs line reader result.0 result.1 }
 {
-    match line.question() {
+    match question {
         None => (reader, Reply::Refused(Refusal::BadLine)),
-        Some(question) => reply_to(alloc, planner, cover, reader, &question),
+        Some(question) => reply_to(alloc, planner, basis, legs, reader, &question),
     }
 }

@@ -2,14 +2,16 @@
 
 ghost use Rattle.std.specs.Prelude.{◌≡◌, IfSome, List, MatchResult, ℕ};
 ghost use Rattle.question_lines.specs.Lines.{IsKept};
-ghost use Rattle.serving.specs.Answers.{IsReply};
+ghost use Rattle.serving.specs.Answers.{IsOver, IsReply};
 ghost use Rattle.serving.specs.Runs.{IsCutOff, IsReplied, IsServed};
+ghost use Rattle.serving.specs.Tellings.{IsReplyText};
 
 use crate::printing::{OutputRefused, print_reply};
 use crate::replying::reply_of;
+use crate::telling::ReplyTeller;
 use board::Reader;
+use feed_basis::Basis;
 use question_lines::Line;
-use service_days::Cover;
 use shared_planner::Planner;
 use std::alloc::Global;
 use std::io::{BufRead, Write};
@@ -28,42 +30,51 @@ pub enum End {
 }
 
 // Replies to one line; the reader comes back.
-fn serve_line<W: Write>(
+fn serve_line<T: ReplyTeller, W: Write>(
     alloc: Global,
     planner: &Planner,
-    cover: &Cover,
+    basis: &Basis,
+    teller: &T,
     reader: Reader,
     line: &Line,
     out: &mut W,
 ) -> (Reader, Result<(), OutputRefused>)
+    requires over { IsOver basis.now planner.now }
     requires own { reader.origin.form ≡ planner.now.form }
     ensures own { result.0.origin.form ≡ planner.now.form }
     ensures replied { (text : List ℕ) → IsKept text line.now → MatchResult result.1
-        (λ _. IsReplied (IsReply planner.now cover.now) text reader result.0 (W.contents out.old) (W.contents out.new))
-        (λ _. IsCutOff (IsReply planner.now cover.now) text reader result.0 (W.contents out.old) (W.contents out.new)) }
+        (λ _. IsReplied (IsReplyText (T.tells teller.now) (IsReply planner.now basis.now (T.tells_legs teller.now)))
+        text reader result.0 (W.contents out.old) (W.contents out.new))
+        (λ _. IsCutOff (IsReplyText (T.tells teller.now) (IsReply planner.now basis.now (T.tells_legs teller.now)))
+        text reader result.0 (W.contents out.old) (W.contents out.new)) }
 {
-    let (reader, reply) = reply_of(alloc, planner, cover, reader, line);
-    let printed = print_reply(alloc, reply, out);
+    let question = line.question();
+    let legs = teller.legs();
+    let (reader, reply) = reply_of(alloc, planner, basis, legs, reader, question);
+    let printed = print_reply(alloc, teller, question, &reply, out);
     (reader, printed)
 }
 
 /// Reads questions from the input, a line each, and replies to each on `out` before the next one is read: the best journeys between the
-/// question's places, as `Planner::ask` gives them on one look of the reader, or why there are none. It waits for nobody but the input
-/// and the output.
+/// question's places, as `Planner::ask` gives them on one look of the reader, or why there are none, as the teller tells it. It waits for
+/// nobody but the input and the output. The basis is that of the planner's timetable.
 ///
 /// A line is the ids of two places, a date (`YYYYMMDD`) and a time (`HH:MM:SS`), with a tab between each and the next; any other line is
 /// refused, and so is one of more than 65,536 bytes, whose rest is skipped. Where memory is refused for a line, that is replied.
-pub fn serve_lines<R: BufRead, W: Write>(
+pub fn serve_lines<T: ReplyTeller, R: BufRead, W: Write>(
     alloc: Global,
     planner: &Planner,
-    cover: &Cover,
+    basis: &Basis,
+    teller: &T,
     reader: Reader,
     input: &mut R,
     out: &mut W,
 ) -> End
+    requires over { IsOver basis.now planner.now }
     requires own { reader.origin.form ≡ planner.now.form }
     ensures { IfSome (R.remaining input.old) (λ bytes.
-        IsServed (IsReply planner.now cover.now) reader bytes (W.contents out.old) (W.contents out.new) result) }
+        IsServed (IsReplyText (T.tells teller.now) (IsReply planner.now basis.now (T.tells_legs teller.now)))
+        reader bytes (W.contents out.old) (W.contents out.new) result) }
 {
     let Ok(mut line) = Line::new(alloc) else {
         return End::NoMemory;
@@ -75,7 +86,7 @@ pub fn serve_lines<R: BufRead, W: Write>(
             Ok(false) => return End::AllRead,
             Err(_) => return End::Unread,
         }
-        let (next, printed) = serve_line(alloc, planner, cover, reader, &line, out);
+        let (next, printed) = serve_line(alloc, planner, basis, teller, reader, &line, out);
         reader = next;
         if printed.is_err() {
             return End::OutputRefused;

@@ -16,8 +16,7 @@ use precomputing::{Free, Meanwhile, precompute_while};
 use program_inputs::Fault;
 use section_store::going_laws::goes_on;
 use section_store::laws::loses_nothing_in_turn;
-use service_days::Cover;
-use serving::{End, serve_lines};
+use serving::{End, ReplyTeller, serve_lines};
 use shared_planner::Planner;
 use std::alloc::Global;
 use std::io::{BufRead, Write};
@@ -36,59 +35,73 @@ pub struct Served<'a> {
 
 // The questions of an input, which are replied to on an output.
 #[derive(Drop)]
-struct Serving<'s, R: BufRead, W: Write> {
+struct Serving<'s, T: ReplyTeller, R: BufRead, W: Write> {
     alloc: Global,
     planner: &'s Planner,
-    cover: &'s Cover,
+    basis: &'s Basis,
+    teller: &'s T,
     reader: Reader,
     input: &'s mut R,
     out: &'s mut W,
 }
 
 // What comes of it is the output and how it ended.
-impl<'s, R: BufRead, W: Write> Meanwhile for Serving<'s, R, W> {
+impl<'s, T: ReplyTeller, R: BufRead, W: Write> Meanwhile for Serving<'s, T, R, W> {
     ghost use Rattle.std.specs.Prelude.{◌≡◌, IfSome};
-    ghost use Rattle.serving.specs.Answers.{IsReply};
+    ghost use Rattle.serving.specs.Answers.{IsOver, IsReply};
     ghost use Rattle.serving.specs.Runs.{IsServed};
+    ghost use Rattle.serving.specs.Tellings.{IsReplyText};
 
     type Output = (&'s mut W, End);
 
-    ghost can_run = { λ s. s.reader.origin.form ≡ s.planner.now.form };
+    ghost can_run = { λ s. IsOver s.basis.now s.planner.now × (s.reader.origin.form ≡ s.planner.now.form) };
 
     ghost gives = { λ s given. IfSome (R.remaining s.input.now) (λ bytes.
-        IsServed (IsReply s.planner.now s.cover.now) s.reader bytes (W.contents s.out.now) (W.contents given.0.now) given.1) };
+        IsServed (IsReplyText (T.tells s.teller.now) (IsReply s.planner.now s.basis.now (T.tells_legs s.teller.now)))
+        s.reader bytes (W.contents s.out.now) (W.contents given.0.now) given.1) };
 
     fn run(self) -> (&'s mut W, End) {
         let Self {
             alloc,
             planner,
-            cover,
+            basis,
+            teller,
             reader,
             input,
             out,
         } = self;
-        let end = serve_lines(alloc, planner, cover, reader, input, out);
+        let end = serve_lines(alloc, planner, basis, teller, reader, input, out);
         (out, end)
     }
 }
 
-/// Replies to the questions of the input, a line each, on `out`, while workers build the trees that the file of the disk lacks, and each
-/// is stored and shown to who asks: `serve_lines` says what the lines and the replies are, and `build` what a build is. Once there are no
-/// more lines, or the output refuses a write, no tree is begun any more, and what is in hand ends. The disk comes back.
+/// Replies to the questions of the input, a line each, on `out`, as the teller has it, while workers build the trees that the file of the
+/// disk lacks, and each is stored and shown to who asks: `serve_lines` says what the lines and the replies are, and `build` what a build
+/// is. Once there are no more lines, or the output refuses a write, no tree is begun any more, and what is in hand ends. The disk comes
+/// back.
 ///
 /// Each reply stands for one look at the trees that are stored by then. Of a trusted disk an answer is exactly the best of all journeys.
-pub fn serve<'a, D: Disk + Drop + Send, T: Threads + Wait + Sync, R: BufRead, W: Write>(
+pub fn serve<
+    'a,
+    D: Disk + Drop + Send,
+    H: Threads + Wait + Sync,
+    T: ReplyTeller,
+    R: BufRead,
+    W: Write,
+>(
     alloc: Global,
-    rt: &T,
+    rt: &H,
     basis: &'a Basis,
     rides: Rides,
     disk: D,
     workers: Workers,
+    teller: &T,
     input: &mut R,
     out: &mut W,
 ) -> (Result<Served<'a>, Fault<'a>>, D)
     ensures served { D.honest disk → MatchResult result.0
-        (IsServing basis.now rides (D.state disk) (D.state result.1) (R.remaining input.old) (W.contents out.old) (W.contents out.new))
+        (IsServing basis.now rides (T.tells teller.now) (T.tells_legs teller.now) (D.state disk) (D.state result.1)
+        (R.remaining input.old) (W.contents out.old) (W.contents out.new))
         (IsUnopened (form_over basis.now rides) (D.state disk) (D.state result.1)) }
     ensures kept { IfErr result.0 (λ _. Keeps (W.contents out.old) (W.contents out.new)) }
     ensures device { MatchResult result.0 (λ served. IfErr served.built (OnlyFailing (D.failures disk) (D.failures result.1)))
@@ -108,7 +121,8 @@ pub fn serve<'a, D: Disk + Drop + Send, T: Threads + Wait + Sync, R: BufRead, W:
     let serving = Serving {
         alloc,
         planner: &planner,
-        cover: basis.cover(),
+        basis,
+        teller,
         reader,
         input,
         out,

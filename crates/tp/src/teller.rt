@@ -1,20 +1,26 @@
 //! Answers, reports and faults in formats beside lines, with the names that the feed's folder has.
 
 use answer_lines::{Answer, DayTime, Report};
-use command_line::{Format, Task};
+use command_line::{Format, Plan, Task};
 use commands::{Asked, Teller};
 use feed_basis::Basis;
 use feed_names::open_names;
 use gtfs_tables::{FaultKind, FeedFault, FeedFile};
 use gtfs_text::Sheet;
 use itineraries::{
-    Asked as Question, Clock, NameSheets, geojson, itinerary_of, json, people_text, stop_list_of,
+    Asked as Question, Clock, NameSheets, bare_fault_json, fault_json, geojson, itinerary_of, json,
+    people_text, stop_list_of,
 };
-use program_inputs::Fault;
-use serde::Serialize;
+use program_inputs::{Fault, Settings};
+use question_lines::Question as LineQuestion;
+use serving::{Refusal, Reply};
 use std::alloc::{AllocError, Global};
 use std::format;
 use stop_search::{list_stops, near_stops};
+
+// The reply that memory was refused, for machines. It needs none.
+const MEMORY_REFUSED: &str = "\
+{\"fault\":{\"code\":null,\"name\":\"Memory\",\"file\":null,\"row\":null,\"id\":null,\"status\":7}}\n";
 
 /// Tells answers with names from the files of a feed's folder, which are read for each answer.
 #[derive(Clone, Copy)]
@@ -82,13 +88,49 @@ fn line(text: String) -> Result<String, AllocError> {
     Ok(text)
 }
 
+// The text of the answer to a question, with the names of the sheets.
+fn answer_text(
+    alloc: Global,
+    format: Format,
+    settings: &Settings<'_>,
+    sheets: &NameSheets,
+    basis: &Basis,
+    asked: &Question<'_>,
+    answer: &Answer,
+) -> Result<String, AllocError> {
+    let clock = Clock::of(settings.zone);
+    let itinerary = itinerary_of(alloc, basis, clock, sheets, asked, answer)?;
+    match format {
+        Format::Names => people_text(alloc, &itinerary),
+        Format::Json => line(json(alloc, &itinerary)?),
+        Format::GeoJson => line(geojson(alloc, &itinerary)?),
+    }
+}
+
+// The text of a refusal.
+fn refusal_text(alloc: Global, refusal: &Refusal<'_>) -> Result<String, AllocError> {
+    let json = match refusal {
+        Refusal::BadLine => bare_fault_json(alloc, None, "BadLine", 2),
+        Refusal::BoardRefused => bare_fault_json(alloc, Some("Q4"), "BoardRefused", 6),
+        Refusal::UnknownStop(id) => fault_json(alloc, &Fault::UnknownStop(id)),
+        Refusal::NotCovered => fault_json(alloc, &Fault::NotCovered),
+        Refusal::NotStored(id) => fault_json(alloc, &Fault::NotStored(id)),
+        Refusal::Memory => fault_json(alloc, &Fault::Memory),
+    };
+    line(json?)
+}
+
 // Nothing is claimed of the texts: tests say what they are.
 impl Teller for FolderTeller<'_> {
+    type Names = NameSheets;
+
     ghost tells = { λ _ _ _ _. Unit {0} };
 
     ghost reports = { λ _ _ _. Unit {0} };
 
     ghost finds = { λ _ _ _ _. Unit {0} };
+
+    ghost replies = { λ _ _ _ _ _. Unit {0} };
 
     fn answer(
         &self,
@@ -110,13 +152,7 @@ impl Teller for FolderTeller<'_> {
             },
         };
         let sheets = self.sheets(alloc, settings.feed)?;
-        let clock = Clock::of(settings.zone);
-        let itinerary = itinerary_of(alloc, basis, clock, &sheets, &asked, answer)?;
-        match format {
-            Format::Names => people_text(alloc, &itinerary),
-            Format::Json => line(json(alloc, &itinerary)?),
-            Format::GeoJson => line(geojson(alloc, &itinerary)?),
-        }
+        answer_text(alloc, format, &settings, &sheets, basis, &asked, answer)
     }
 
     fn report(
@@ -153,101 +189,50 @@ impl Teller for FolderTeller<'_> {
         }
     }
 
+    fn names(&self, alloc: Global, folder: &str) -> Result<NameSheets, AllocError> {
+        self.sheets(alloc, folder)
+    }
+
+    fn reply(
+        &self,
+        alloc: Global,
+        format: Format,
+        plan: &Plan<'_>,
+        names: &NameSheets,
+        basis: &Basis,
+        question: Option<LineQuestion<'_>>,
+        reply: &Reply<'_>,
+    ) -> Result<String, AllocError> {
+        match (question, reply) {
+            (_, Reply::Refused(refusal)) => refusal_text(alloc, refusal),
+            (None, Reply::Answer(_)) => refusal_text(alloc, &Refusal::BadLine),
+            (Some(question), Reply::Answer(answer)) => {
+                let asked = Question {
+                    command: "serve",
+                    from: question.from,
+                    to: question.to,
+                    departs: DayTime {
+                        date: question.day,
+                        seconds: question.seconds,
+                    },
+                };
+                answer_text(alloc, format, &plan.settings, names, basis, &asked, answer)
+            }
+        }
+    }
+
+    fn memory_refused(&self, _format: Format) -> &'static str {
+        MEMORY_REFUSED
+    }
+
     fn fault(&self, alloc: Global, format: Format, fault: &Fault<'_>) -> Option<String> {
         if let Format::Names = format {
             return None;
         }
-        told_fault(alloc, fault).ok()
+        line(fault_json(alloc, fault).ok()?).ok()
     }
 
     fn near(&self, alloc: Global, folder: &str, id: &str) -> Option<String> {
         self.near_lines(alloc, folder, id).ok()
     }
-}
-
-// A text up to its first space.
-fn first_word(text: &str) -> &str {
-    match text.split_once(' ') {
-        Some((word, _)) => word,
-        None => text,
-    }
-}
-
-// The code of a fault's text, which stands before its name where there is one.
-fn code_of(shown: &str) -> Option<&str> {
-    let (code, _) = shown.split_once(' ')?;
-    Some(code)
-}
-
-// The name in a fault's text.
-fn name_of(shown: &str) -> &str {
-    match shown.split_once(' ') {
-        Some((_, rest)) => first_word(rest),
-        None => shown,
-    }
-}
-
-// The row of the feed's file that is at fault.
-fn row_of(fault: &Fault<'_>) -> Option<usize> {
-    match fault {
-        Fault::Feed(fault) => Some(fault.row),
-        _ => None,
-    }
-}
-
-// The id that a fault is about.
-fn id_of<'a>(fault: &Fault<'a>) -> Option<&'a str> {
-    match fault {
-        Fault::UnknownStop(id) | Fault::NotStored(id) => Some(id),
-        _ => None,
-    }
-}
-
-// A fault, as it is told to machines.
-#[derive(Drop, Serialize)]
-struct FaultText {
-    // As `F3`; none where the fault has no code.
-    code: Option<String>,
-    name: String,
-    // The feed's file that is at fault, and its row.
-    file: Option<String>,
-    row: Option<usize>,
-    id: Option<String>,
-    status: u8,
-}
-
-// A fault under its name.
-#[derive(Drop, Serialize)]
-struct ToldFault {
-    fault: FaultText,
-}
-
-// A copy of a text, where there is one.
-fn copy_of(alloc: Global, text: Option<&str>) -> Result<Option<String>, AllocError> {
-    match text {
-        Some(text) => Ok(Some(String::from_str(alloc, text)?)),
-        None => Ok(None),
-    }
-}
-
-// The name of the feed's file that is at fault.
-fn file_of(alloc: Global, fault: &Fault<'_>) -> Result<Option<String>, AllocError> {
-    match fault {
-        Fault::Feed(fault) => Ok(Some(format!(in alloc; "{}", fault.file)?)),
-        _ => Ok(None),
-    }
-}
-
-// A fault as an object of JSON, on a line.
-fn told_fault(alloc: Global, fault: &Fault<'_>) -> Result<String, AllocError> {
-    let shown = format!(in alloc; "{fault}")?;
-    let text = FaultText {
-        code: copy_of(alloc, code_of(shown.as_str()))?,
-        name: String::from_str(alloc, name_of(shown.as_str()))?,
-        file: file_of(alloc, fault)?,
-        row: row_of(fault),
-        id: copy_of(alloc, id_of(fault))?,
-        status: fault.status(),
-    };
-    line(json(alloc, &ToldFault { fault: text })?)
 }

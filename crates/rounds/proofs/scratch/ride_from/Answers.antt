@@ -10,7 +10,7 @@ use Rattle.rounds.proofs.KeptSteps.{rides_early, ready_short}
 use Rattle.rounds.proofs.DoneSteps.{done_next, known_served}
 use Rattle.rounds.proofs.LayerLists.{read_at, second_read, round_read, part_set}
 use Rattle.rounds.proofs.scratch.ride_from.Goals as goal
-use Rattle.timetable.specs.declared.TheConstants.{LATEST_MOMENT}
+use Rattle.timetable.specs.declared.parts.TheConstants.{LATEST_MOMENT}
 
 pub known-requires : goal.known-requires
 known-requires c = (let z = c.split_at_mut-front.ensures.front_len in omega (arith, z))

@@ -10,24 +10,25 @@ use Rattle.serving.proofs.replying.reply_to.Goals as goal
 pub returns : goal.returns
 returns c = λ line is.
     let p = c.args.planner.now in
-    let cover = c.args.cover.now in
+    let basis = c.args.basis.now in
+    let legs = c.args.legs in
     let old = c.args.reader in
     let new = c.ask-reader.result.0 in
     let question = c.args.question.now in
     let depart = c.unwrap_or-depart.result in
-    let asked : IsAsked cover line question depart =
+    let asked : IsAsked basis.cover line question depart =
     record { is = is; moment = c.moment.result; of_day = c.moment.ensures; leaves = c.unwrap_or-depart.ensures } in
     let Gives = λ (r : Result (List PointData) AskFault). MatchResult r (IsAnswered p old new question.from.now question.to.now depart)
     (IsUnanswered p old new question.from.now question.to.now depart) in
     let Exact = λ (r : Result (List PointData) AskFault). IfOk r (AreBestBetween p question.from.now question.to.now depart) in
     elim c.match-answer.branch [
       | in-Ok w ↦
-          subst (IsReply p cover line old new) (sym w.reply-is)
-          (told_reply p cover line old new question depart w.in-Ok.answer asked (subst Gives w.in-Ok.is c.ask-reader.ensures.answer)
-          (λ right. subst Exact w.in-Ok.is (c.ask-reader.ensures.exact right)) w.told-reply.result
-          (subst (λ (journeys : List PointData). IsTold cover journeys w.told-reply.result) w.points.ensures w.told-reply.ensures))
+          subst (IsReply p basis legs line old new) (sym w.reply-is)
+          (told_reply p basis legs line old new question depart w.in-Ok.answer asked (subst Gives w.in-Ok.is c.ask-reader.ensures.answer)
+          (λ right. subst Exact w.in-Ok.is (c.ask-reader.ensures.exact right)) w.answer_of-reply.result
+          (subst (λ (journeys : List PointData). IsTold basis depart legs journeys w.answer_of-reply.result) w.points.ensures w.answer_of-reply.ensures))
       | in-Err w ↦
-          subst (IsReply p cover line old new) (sym w.reply-is)
-          (subst (IsRefused p cover line old new) (sym w.refusal_of.ensures)
-          (refused_reply p cover line old new question depart asked w.in-Err.fault (subst Gives w.in-Err.is c.ask-reader.ensures.answer)))
+          subst (IsReply p basis legs line old new) (sym w.reply-is)
+          (subst (IsRefused p basis.cover line old new) (sym w.refusal_of.ensures)
+          (refused_reply p basis legs line old new question depart asked w.in-Err.fault (subst Gives w.in-Err.is c.ask-reader.ensures.answer)))
     ]

@@ -4,12 +4,14 @@ use Rattle.board.specs.Ties.{BoardPart}
 use Rattle.question_lines.specs.Lines.{ReadsLine}
 use Rattle.serving.specs.Answers.{IsReply}
 use Rattle.serving.specs.Runs.{IsCutOff, IsReplied}
+use Rattle.serving.specs.Tellings.{IsReplyText}
 use Rattle.serving.proofs.RunFacts.{SoFar, of_err, of_ok, refused_served, served_more, served_none}
 use Rattle.serving.proofs.serving.serve_lines.Goals as goal
 
 pub lines-init : goal.lines-init
 lines-init g c =
-    let Right = IsReply c.args.planner.now c.args.cover.now in
+    let Right = IsReplyText (g.T.ReplyTeller.tells c.args.teller.now)
+    (IsReply c.args.planner.now c.args.basis.now (g.T.ReplyTeller.tells_legs c.args.teller.now)) in
     let out = g.W.Write.contents c.args.out.now in
     let input = g.R.Read.remaining c.args.input.now in
     record {
@@ -20,7 +22,8 @@ lines-init g c =
 
 pub lines-preserved : goal.lines-preserved
 lines-preserved g c =
-    let Right = IsReply c.args.planner.now c.args.cover.now in
+    let Right = IsReplyText (g.T.ReplyTeller.tells c.args.teller.now)
+    (IsReply c.args.planner.now c.args.basis.now (g.T.ReplyTeller.tells_legs c.args.teller.now)) in
     let out = g.W.Write.contents c.args.out.now in
     let input = g.R.Read.remaining c.args.input.now in
     let left = g.R.Read.remaining c.lines.input in
@@ -39,7 +42,8 @@ lines-preserved g c =
 
 pub returns-then-is_err : goal.returns-then-is_err
 returns-then-is_err g c =
-    let Right = IsReply c.args.planner.now c.args.cover.now in
+    let Right = IsReplyText (g.T.ReplyTeller.tells c.args.teller.now)
+    (IsReply c.args.planner.now c.args.basis.now (g.T.ReplyTeller.tells_legs c.args.teller.now)) in
     let out = g.W.Write.contents c.args.out.now in
     let input = g.R.Read.remaining c.args.input.now in
     let left = g.R.Read.remaining c.lines.input in

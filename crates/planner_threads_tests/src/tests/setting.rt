@@ -1,0 +1,122 @@
+//! A planner of the sample feed, on a disk in memory.
+
+ghost use Rattle.std.specs.Prelude.{◌≡◌, ◌<◌, ◌≤◌, IfOk, IfSome};
+ghost use Rattle.std.specs.Arc.{arc_value};
+ghost use Rattle.planner.specs.Places.{AreNames};
+
+use board::Reader;
+use direct_connections::Network;
+use disk_model::MemDisk;
+use precomputing::{Gate, Outcome, precompute};
+use sample_feed::{Feed, Span, table_of, tables_of};
+use section_store::Step;
+use shared_planner::{AskFault, Desk, Opened, Planner};
+use std::alloc::Global;
+use std::hash::RandomState;
+use std::sync::{Arc, Wait};
+use std::test::Fail;
+use std::thread::Threads;
+use timetable::{Names, Rides};
+
+// 08:00:00.
+const EIGHT: u32 = 28_800;
+
+/// The ids of the sample feed.
+pub fn names_of(rt: &HostRuntime) -> Result<Arc<Names>, Fail>
+    ensures { IfOk result (λ names. AreNames (arc_value names)) }
+{
+    let tables = tables_of(rt, Feed::SAMPLE)?;
+    let names = Names::of(rt.alloc(), RandomState::new(rt)?, &tables)?;
+    Ok(Arc::new(rt.alloc(), names)?)
+}
+
+/// The network of the sample feed.
+pub fn network_of(rt: &HostRuntime) -> Result<Network, Fail> {
+    let table = table_of(rt, Feed::SAMPLE, Span::TUESDAY)?;
+    Ok(Network::of(rt.alloc(), Arc::new(rt.alloc(), table)?)?)
+}
+
+/// A planner with an empty store, and one reader.
+pub struct Setting {
+    pub planner: Planner,
+    pub desk: Desk<MemDisk>,
+    pub reader: Reader,
+}
+
+/// Opens a planner with an empty store.
+pub fn open<R: Wait>(rt: &R, alloc: Global, network: Network, names: Arc<Names>) -> Option<Setting>
+    requires { AreNames (arc_value names) }
+    ensures desk { IfSome result (λ s. s.desk.form ≡ s.planner.form) }
+    ensures ready { IfSome result (λ s. s.desk.next ≡ Step.WriteBody) }
+    ensures reader { IfSome result (λ s. s.reader.origin.form ≡ s.planner.form) }
+    ensures board { IfSome result (λ s. s.reader.told.book ≡ s.desk.board.told.book) }
+{
+    let disk = MemDisk::new(alloc);
+    let Ok(opened) = Planner::open(alloc, rt, disk, network, names, Rides::new(3), 1) else {
+        return None;
+    };
+    let Opened {
+        planner,
+        desk,
+        mut readers,
+    } = opened;
+    let Some(reader) = readers.pop() else {
+        let _disk = desk.into_disk(rt);
+        return None;
+    };
+    Some(Setting {
+        planner,
+        desk,
+        reader,
+    })
+}
+
+/// Builds all trees; the reader learns which are stored.
+pub fn build_all<R: Threads + Wait + Sync, G: Gate + Sync>(
+    rt: &R,
+    alloc: Global,
+    desk: Desk<MemDisk>,
+    planner: &Planner,
+    reader: Reader,
+    workers: usize,
+    gate: &G,
+) -> (Desk<MemDisk>, Outcome, Reader)
+    requires desk { desk.form ≡ planner.now.form }
+    requires ready { desk.next ≡ Step.WriteBody }
+    requires board { reader.told.book ≡ desk.board.told.book }
+    requires workers { (0 < workers) × (workers ≤ 64) }
+    ensures reader { result.2.origin ≡ reader.origin }
+{
+    let (desk, outcome) = precompute(alloc, rt, desk, planner, workers, gate);
+    let mut reader = reader;
+    reader.learn(&desk.tell());
+    (desk, outcome, reader)
+}
+
+/// What was replied to a question.
+#[derive(Clone, Copy, Debug, PartialEq, Eq)]
+pub enum Seen {
+    /// The tree of B isn't stored.
+    Lacking,
+    /// The best is there at 08:40:00 by one ride.
+    Found,
+    Other,
+}
+
+/// Asks from B to D at eight.
+pub fn ask(planner: &Planner, reader: Reader) -> (Reader, Seen)
+    requires { reader.origin.form ≡ planner.now.form }
+    ensures origin { result.0.origin ≡ reader.origin }
+    ensures book { result.0.told.book ≡ reader.told.book }
+{
+    match planner.ask(reader, "B", "D", EIGHT) {
+        (reader, Ok(answer)) => match answer.points() {
+            [point] if point.rides() == 1 && point.arrival() == 31_200 => (reader, Seen::Found),
+            _ => (reader, Seen::Other),
+        },
+        (reader, Err(AskFault::Question(planner::AskFault::NotStored("B")))) => {
+            (reader, Seen::Lacking)
+        }
+        (reader, Err(_)) => (reader, Seen::Other),
+    }
+}

@@ -1,0 +1,44 @@
+-- Journeys that answer a question over a basis: they begin early enough, and the basis knows their rides and walks.
+use Rattle.std.proofs.Common.{ℕ, ◌<◌, ◌≤◌, List, length, Contains, All, arith, subst, subst₂, sym}
+use Rattle.std.proofs.lemmas.List.Elements.{All-weaker, at_from_Contains}
+use Rattle.timetable.specs.Journeys.{Journey}
+use Rattle.timetable.specs.NameLists.{NameLists}
+use Rattle.timetable.specs.Table.{Table}
+use Rattle.pattern_query.specs.Answer.{PointData}
+use Rattle.planner.specs.Questions.{Held, IsAnswer, IsAskedPoint}
+use Rattle.feed_basis.specs.Basis.{BasisData, IsSound}
+use Rattle.feed_basis.proofs.NameFacts.{stops_known}
+use Rattle.told_journeys.specs.Points.{IsKnownJourney}
+use Rattle.told_journeys.proofs.StageFacts.{journey_known}
+use Rattle.shared_planner.specs.PlannerView.{PlannerView}
+use Rattle.serving.specs.Answers.{IsOver}
+
+-- what holds of all holds of one that is among them
+one_of_all : {X : Type 0} (P : X → Type 0) (xs : List X) (x : X) → All P xs → Contains xs x → P x
+one_of_all P xs x all c = let i = at_from_Contains xs x c in subst P (i.2 x) (all i.0 x i.1)
+
+module _ (basis : BasisData) (p : PlannerView) (held : Held) (from to : List ℕ) (d : ℕ) (points : List PointData)
+    (sound : IsSound basis) (over : IsOver basis p) (answer : IsAnswer p.form.table p.names held from to d points) where
+  over_basis : IsAnswer basis.timetable basis.names held from to d points
+  over_basis = subst₂ (λ (table : Table) (names : NameLists). IsAnswer table names held from to d points) over.table over.names answer
+
+  -- a covered moment is early
+  pub early : d ≤ 4_000_000_000
+  early =
+      let covered = over_basis.covered in
+      let bound = sound.valid.horizon in
+      omega (arith, covered, bound)
+
+  pub known : All (IsKnownJourney basis d) points
+  known =
+      let is = over_basis in
+      let Known = λ (s : ℕ). s < length basis.names.stops in
+      let froms_known = stops_known basis.names from is.froms sound.names is.leaves in
+      let tos_known = stops_known basis.names to is.tos sound.names is.arrives in
+      All-weaker (IsAskedPoint basis.timetable held is.froms is.tos d) (IsKnownJourney basis d)
+      (λ point h.
+      journey_known basis sound.valid sound point.from d point.legs point.to point.arrival
+      (subst Known (sym h.2.starts) (one_of_all Known is.froms h.0.source froms_known h.1.0))
+      (one_of_all Known is.tos point.to tos_known h.1.2)
+      (subst (λ s. Journey basis.timetable s d point.legs point.to point.arrival) (sym h.2.starts) h.2.journey.0))
+      points is.points_are

@@ -1,0 +1,68 @@
+//! Replies as texts: who tells them.
+
+ghost use Rattle.std.specs.Prelude.{◌≡◌, ℕ, List, Bool, Option, IfOk, string_bytes};
+ghost use Rattle.question_lines.specs.declared.question.Question.{Question};
+ghost use Rattle.serving.specs.Printed.{no_memory};
+ghost use Rattle.serving.specs.declared.reply.Reply.{Reply};
+
+use crate::reply::Reply;
+use question_lines::Question;
+use std::alloc::{AllocError, Global};
+use std::format;
+
+/// Tells replies to lines. A text ends with a line's end.
+pub trait ReplyTeller {
+    /// Which texts tell a reply to a line that is this question, or none.
+    ghost tells: { Self → Option Question → Reply → List ℕ → Type 0 };
+
+    /// Whether the rides and walks of journeys are told.
+    ghost tells_legs: { Self → Bool };
+
+    /// Whether the rides and walks of journeys are told.
+    fn legs(&self) -> bool
+        ensures { result ≡ tells_legs self.now };
+
+    /// The text of a reply to a line that is this question, or none. It fails only where memory runs out.
+    fn told(
+        &self,
+        alloc: Global,
+        question: Option<Question<'_>>,
+        reply: &Reply<'_>,
+    ) -> Result<String, AllocError>
+        ensures { IfOk result (λ text. tells self.now question.entry reply.now (string_bytes text)) };
+
+    /// The text of the reply that memory was refused. It takes none.
+    fn memory_refused(&self) -> &'static str
+        ensures { (question : Option Question) → tells self.now question no_memory result.now };
+}
+
+/// Tells replies as lines: those of an answer, or `refused` and why there is none, and then a line with a dot alone. Rides and walks aren't
+/// told.
+#[derive(Clone, Copy, Debug, PartialEq, Eq)]
+pub struct Lines;
+
+impl ReplyTeller for Lines {
+    ghost use Rattle.std.specs.Prelude.{◌≡◌, false};
+    ghost use Rattle.serving.specs.Printed.{reply_text};
+
+    ghost tells = { λ _ _ reply text. text ≡ reply_text reply };
+
+    ghost tells_legs = { λ _. false };
+
+    fn legs(&self) -> bool {
+        false
+    }
+
+    fn told(
+        &self,
+        alloc: Global,
+        _question: Option<Question<'_>>,
+        reply: &Reply<'_>,
+    ) -> Result<String, AllocError> {
+        format!(in alloc; "{reply}")
+    }
+
+    fn memory_refused(&self) -> &'static str {
+        "refused Memory\n.\n"
+    }
+}
