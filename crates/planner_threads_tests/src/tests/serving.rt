@@ -1,21 +1,15 @@
 //! Questions line by line, once all trees are stored. The replies are worked by hand from the sample feed's rows.
 
-ghost use Rattle.std.specs.Arc.{arc_value};
-ghost use Rattle.planner.specs.Places.{AreNames};
-
-use super::setting::{Setting, build_all, names_of, network_of, open};
-use super::streams::{Lines, Mark, Replies};
-use direct_connections::Network;
-use jiff::civil::Date;
+use super::setting::{Setting, basis, build_all, open};
+use super::streams::{Input, Mark, Output};
+use feed_basis::Basis;
 use precomputing::Free;
-use service_days::Cover;
-use serving::{End, serve_lines};
+use serving::{End, Lines, serve_lines};
 use std::alloc::Global;
 use std::cell::RefCell;
-use std::sync::{Arc, Wait};
+use std::sync::Wait;
 use std::test::Fail;
 use std::thread::Threads;
-use timetable::Names;
 
 const TWO: &str = "rides 1 arrive 20240102 09:00:00\nrides 2 arrive 20240102 08:40:00\n.\n";
 
@@ -28,21 +22,17 @@ const LONG: usize = 1_048_576;
 fn served<R: Threads + Wait + Sync>(
     rt: &R,
     alloc: Global,
-    network: Network,
-    names: Arc<Names>,
-    cover: &Cover,
-    input: &mut Lines<'_>,
-    out: &mut Replies<'_>,
-) -> Option<End>
-    requires { AreNames (arc_value names) }
-{
+    basis: &Basis,
+    input: &mut Input<'_>,
+    out: &mut Output<'_>,
+) -> Option<End> {
     let Setting {
         planner,
         desk,
         reader,
-    } = open(rt, alloc, network, names)?;
+    } = open(rt, alloc, basis)?;
     let (desk, _outcome, reader) = build_all(rt, alloc, desk, &planner, reader, 1, &Free);
-    let end = serve_lines(alloc, &planner, cover, reader, input, out);
+    let end = serve_lines(alloc, &planner, basis, &Lines, reader, input, out);
     let _disk = desk.into_disk(rt);
     Some(end)
 }
@@ -78,18 +68,9 @@ fn each_line_has_its_reply_before_the_next_is_read(rt: HostRuntime) -> Result<()
     for (line, _) in rows {
         lines.push(line)?;
     }
-    let mut input = Lines::new(&lines, &notes);
-    let mut out = Replies::new(Vec::new(rt.alloc()), &notes);
-    let cover = Cover::new(Date::new(2024, 1, 2)?, 1, "UTC0")?;
-    let end = served(
-        &rt,
-        rt.alloc(),
-        network_of(&rt)?,
-        names_of(&rt)?,
-        &cover,
-        &mut input,
-        &mut out,
-    );
+    let mut input = Input::new(&lines, &notes);
+    let mut out = Output::new(Vec::new(rt.alloc()), &notes);
+    let end = served(&rt, rt.alloc(), &basis(&rt)?, &mut input, &mut out);
     assert_eq!(rt; end, Some(End::AllRead));
     let mut text = String::new(rt.alloc());
     let mut marks = Vec::new(rt.alloc());

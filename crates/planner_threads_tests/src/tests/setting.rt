@@ -1,14 +1,16 @@
 //! A planner of the sample feed, on a disk in memory.
 
-ghost use Rattle.std.specs.Prelude.{◌≡◌, ◌<◌, ◌≤◌, IfOk, IfSome};
-ghost use Rattle.std.specs.Arc.{arc_value};
-ghost use Rattle.planner.specs.Places.{AreNames};
+ghost use Rattle.std.specs.Prelude.{◌≡◌, ◌<◌, ◌≤◌, IfSome};
+ghost use Rattle.serving.specs.Answers.{IsOver};
 
 use board::Reader;
-use direct_connections::Network;
 use disk_model::MemDisk;
+use feed_basis::{Basis, basis_of};
+use gtfs_tables::Files;
+use jiff::civil::Date;
 use precomputing::{Gate, Outcome, precompute};
-use sample_feed::{Feed, Span, table_of, tables_of};
+use program_inputs::Settings;
+use sample_feed::Feed;
 use section_store::Step;
 use shared_planner::{AskFault, Desk, Opened, Planner};
 use std::alloc::Global;
@@ -16,24 +18,40 @@ use std::hash::RandomState;
 use std::sync::{Arc, Wait};
 use std::test::Fail;
 use std::thread::Threads;
-use timetable::{Names, Rides};
+use timetable::Rides;
 
 // 08:00:00.
 const EIGHT: u32 = 28_800;
 
-/// The ids of the sample feed.
-pub fn names_of(rt: &HostRuntime) -> Result<Arc<Names>, Fail>
-    ensures { IfOk result (λ names. AreNames (arc_value names)) }
-{
-    let tables = tables_of(rt, Feed::SAMPLE)?;
-    let names = Names::of(rt.alloc(), RandomState::new(rt)?, &tables)?;
-    Ok(Arc::new(rt.alloc(), names)?)
-}
-
-/// The network of the sample feed.
-pub fn network_of(rt: &HostRuntime) -> Result<Network, Fail> {
-    let table = table_of(rt, Feed::SAMPLE, Span::TUESDAY)?;
-    Ok(Network::of(rt.alloc(), Arc::new(rt.alloc(), table)?)?)
+/// What is asked of: the sample feed on a Tuesday, for journeys of at most three rides.
+pub fn basis(rt: &HostRuntime) -> Result<Basis, Fail> {
+    let settings = Settings {
+        feed: "feed",
+        date: "20240102",
+        days: 1,
+        zone: "UTC0",
+        rides: 3,
+        default_walk: 120,
+    };
+    let files = Files {
+        stops: Some(Feed::SAMPLE.stops.as_bytes()),
+        trips: Some(Feed::SAMPLE.trips.as_bytes()),
+        calendar: Some(Feed::SAMPLE.calendar.as_bytes()),
+        calendar_dates: Some(Feed::SAMPLE.calendar_dates.as_bytes()),
+        stop_times: Some(Feed::SAMPLE.stop_times.as_bytes()),
+        transfers: Some(Feed::SAMPLE.transfers.as_bytes()),
+    };
+    let keys = RandomState::new(rt)?;
+    match basis_of(
+        rt.alloc(),
+        Some(keys),
+        &settings,
+        Date::new(2024, 1, 2)?,
+        files,
+    ) {
+        Ok(basis) => Ok(basis),
+        Err(_) => Err(Fail::new("a fault of the sample feed")),
+    }
 }
 
 /// A planner with an empty store, and one reader.
@@ -43,14 +61,16 @@ pub struct Setting {
     pub reader: Reader,
 }
 
-/// Opens a planner with an empty store.
-pub fn open<R: Wait>(rt: &R, alloc: Global, network: Network, names: Arc<Names>) -> Option<Setting>
-    requires { AreNames (arc_value names) }
+/// Opens a planner with an empty store. None where memory runs out.
+pub fn open<R: Wait>(rt: &R, alloc: Global, basis: &Basis) -> Option<Setting>
+    ensures over { IfSome result (λ s. IsOver basis.now s.planner) }
     ensures desk { IfSome result (λ s. s.desk.form ≡ s.planner.form) }
     ensures ready { IfSome result (λ s. s.desk.next ≡ Step.WriteBody) }
     ensures reader { IfSome result (λ s. s.reader.origin.form ≡ s.planner.form) }
     ensures board { IfSome result (λ s. s.reader.told.book ≡ s.desk.board.told.book) }
 {
+    let network = basis.network(alloc).ok()?;
+    let names = Arc::try_clone(basis.shared_names()).ok()?;
     let disk = MemDisk::new(alloc);
     let Ok(opened) = Planner::open(alloc, rt, disk, network, names, Rides::new(3), 1) else {
         return None;

@@ -26,7 +26,7 @@ fn note(notes: &RefCell<Vec<Mark>>, mark: Mark) -> io::Result<()> {
 
 /// An input of these lines, of which it gives no more than one at a time, and of that no more than 4,096 bytes.
 #[derive(Drop)]
-pub struct Lines<'a> {
+pub struct Input<'a> {
     left: &'a [&'a [u8]],
     // What is left of the line that was begun.
     line: &'a [u8],
@@ -34,9 +34,9 @@ pub struct Lines<'a> {
     notes: &'a RefCell<Vec<Mark>>,
 }
 
-impl<'a> Lines<'a> {
-    pub fn new(lines: &'a [&'a [u8]], notes: &'a RefCell<Vec<Mark>>) -> Lines<'a> {
-        Lines {
+impl<'a> Input<'a> {
+    pub fn new(lines: &'a [&'a [u8]], notes: &'a RefCell<Vec<Mark>>) -> Input<'a> {
+        Input {
             left: lines,
             line: &[],
             begun: 0,
@@ -45,13 +45,13 @@ impl<'a> Lines<'a> {
     }
 }
 
-impl Read for Lines<'_> {
+impl Read for Input<'_> {
     fn read(&mut self, buf: &mut [u8]) -> io::Result<usize> {
         self.line.read(buf)
     }
 }
 
-impl BufRead for Lines<'_> {
+impl BufRead for Input<'_> {
     fn fill_buf(&mut self) -> io::Result<&[u8]> {
         if self.line.is_empty() {
             note(self.notes, Mark::Asked(self.begun))?;
@@ -71,18 +71,18 @@ impl BufRead for Lines<'_> {
 
 /// An output that keeps what it is given.
 #[derive(Drop)]
-pub struct Replies<'a> {
+pub struct Output<'a> {
     pub bytes: Vec<u8>,
     notes: &'a RefCell<Vec<Mark>>,
 }
 
-impl<'a> Replies<'a> {
-    pub fn new(bytes: Vec<u8>, notes: &'a RefCell<Vec<Mark>>) -> Replies<'a> {
-        Replies { bytes, notes }
+impl<'a> Output<'a> {
+    pub fn new(bytes: Vec<u8>, notes: &'a RefCell<Vec<Mark>>) -> Output<'a> {
+        Output { bytes, notes }
     }
 }
 
-impl Write for Replies<'_> {
+impl Write for Output<'_> {
     fn write(&mut self, buf: &[u8]) -> io::Result<usize> {
         self.bytes.extend_from_slice(buf)?;
         Ok(buf.len())

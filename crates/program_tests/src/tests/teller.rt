@@ -78,7 +78,7 @@ impl Teller for Saying {
         _plan: &Plan<'_>,
         _names: &(),
         _basis: &Basis,
-        _question: Option<Question<'_>>,
+        _question: &Option<Question<'_>>,
         _reply: &Reply<'_>,
     ) -> Result<String, AllocError> {
         self.text(alloc)
