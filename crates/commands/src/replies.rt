@@ -30,7 +30,7 @@ impl<'b, T: Teller> ReplyTeller for FormatReplies<'b, T> {
     fn told(
         &self,
         alloc: Global,
-        question: Option<Question<'_>>,
+        question: &Option<Question<'_>>,
         reply: &Reply<'_>,
     ) -> Result<String, AllocError> {
         match &self.names {

@@ -91,10 +91,10 @@ pub trait Teller {
         plan: &Plan<'_>,
         names: &Self::Names,
         basis: &Basis,
-        question: Option<Question<'_>>,
+        question: &Option<Question<'_>>,
         reply: &Reply<'_>,
     ) -> Result<String, AllocError>
-        ensures { IfOk result (λ text. replies format basis.now question.entry reply.now (string_bytes text)) };
+        ensures { IfOk result (λ text. replies format basis.now question.now reply.now (string_bytes text)) };
 
     /// The text of the reply that memory was refused, in a format. It takes none.
     fn memory_refused(&self, format: Format) -> &'static str

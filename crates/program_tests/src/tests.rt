@@ -3,6 +3,7 @@
 mod feed;
 mod reading;
 mod runs;
+mod serving;
 mod stores;
 mod teller;
 mod words;

@@ -1,5 +1,5 @@
--- Journeys that answer a question over a basis: they begin early enough, and the basis knows their rides and walks.
-use Rattle.std.proofs.Common.{ℕ, ◌<◌, ◌≤◌, List, length, Contains, All, arith, subst, subst₂, sym}
+-- The basis knows the rides and walks of journeys that answer a question over it.
+use Rattle.std.proofs.Common.{ℕ, ◌<◌, List, length, Contains, All, subst, subst₂, sym}
 use Rattle.std.proofs.lemmas.List.Elements.{All-weaker, at_from_Contains}
 use Rattle.timetable.specs.Journeys.{Journey}
 use Rattle.timetable.specs.NameLists.{NameLists}
@@ -21,13 +21,6 @@ module _ (basis : BasisData) (p : PlannerView) (held : Held) (from to : List ℕ
     (sound : IsSound basis) (over : IsOver basis p) (answer : IsAnswer p.form.table p.names held from to d points) where
   over_basis : IsAnswer basis.timetable basis.names held from to d points
   over_basis = subst₂ (λ (table : Table) (names : NameLists). IsAnswer table names held from to d points) over.table over.names answer
-
-  -- a covered moment is early
-  pub early : d ≤ 4_000_000_000
-  early =
-      let covered = over_basis.covered in
-      let bound = sound.valid.horizon in
-      omega (arith, covered, bound)
 
   pub known : All (IsKnownJourney basis d) points
   known =

@@ -32,12 +32,12 @@ fn print_text<W: Write>(text: &str, out: &mut W) -> Result<(), OutputRefused>
 pub(crate) fn print_reply<T: ReplyTeller, W: Write>(
     alloc: Global,
     teller: &T,
-    question: Option<Question<'_>>,
+    question: &Option<Question<'_>>,
     reply: &Reply<'_>,
     out: &mut W,
 ) -> Result<(), OutputRefused>
-    ensures ok { OnOk result (IsPrinted (T.tells teller.now question.entry) reply.now (W.contents out.old) (W.contents out.new)) }
-    ensures err { OnErr result (IsBegun (T.tells teller.now question.entry) reply.now (W.contents out.old) (W.contents out.new)) }
+    ensures ok { OnOk result (IsPrinted (T.tells teller.now question.now) reply.now (W.contents out.old) (W.contents out.new)) }
+    ensures err { OnErr result (IsBegun (T.tells teller.now question.now) reply.now (W.contents out.old) (W.contents out.new)) }
 {
     match teller.told(alloc, question, reply) {
         Ok(text) => print_text(&text, out),

@@ -81,14 +81,14 @@ pub(crate) fn reply_of<'a>(
     basis: &Basis,
     legs: bool,
     reader: Reader,
-    question: Option<Question<'a>>,
+    question: &Option<Question<'a>>,
 ) -> (Reader, Reply<'a>)
     requires over { IsOver basis.now planner.now }
     requires own { reader.origin.form ≡ planner.now.form }
-    ensures { (line : List ℕ) → IsAsking line question.entry → IsReply planner.now basis.now legs line reader result.0 result.1 }
+    ensures { (line : List ℕ) → IsAsking line question.now → IsReply planner.now basis.now legs line reader result.0 result.1 }
 {
     match question {
         None => (reader, Reply::Refused(Refusal::BadLine)),
-        Some(question) => reply_to(alloc, planner, basis, legs, reader, &question),
+        Some(question) => reply_to(alloc, planner, basis, legs, reader, question),
     }
 }

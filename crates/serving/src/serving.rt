@@ -50,8 +50,8 @@ fn serve_line<T: ReplyTeller, W: Write>(
 {
     let question = line.question();
     let legs = teller.legs();
-    let (reader, reply) = reply_of(alloc, planner, basis, legs, reader, question);
-    let printed = print_reply(alloc, teller, question, &reply, out);
+    let (reader, reply) = reply_of(alloc, planner, basis, legs, reader, &question);
+    let printed = print_reply(alloc, teller, &question, &reply, out);
     (reader, printed)
 }
 

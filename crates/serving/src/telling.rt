@@ -1,9 +1,9 @@
 //! Replies as texts: who tells them.
 
-ghost use Rattle.std.specs.Prelude.{◌≡◌, ℕ, List, Bool, Option, IfOk, string_bytes};
+ghost use Rattle.std.specs.Prelude.{◌≡◌, Bool, Option, IfOk, string_bytes};
 ghost use Rattle.question_lines.specs.declared.question.Question.{Question};
 ghost use Rattle.serving.specs.Printed.{no_memory};
-ghost use Rattle.serving.specs.declared.reply.Reply.{Reply};
+ghost use Rattle.serving.specs.Tellings.{Telling};
 
 use crate::reply::Reply;
 use question_lines::Question;
@@ -13,7 +13,7 @@ use std::format;
 /// Tells replies to lines. A text ends with a line's end.
 pub trait ReplyTeller {
     /// Which texts tell a reply to a line that is this question, or none.
-    ghost tells: { Self → Option Question → Reply → List ℕ → Type 0 };
+    ghost tells: { Self → Telling };
 
     /// Whether the rides and walks of journeys are told.
     ghost tells_legs: { Self → Bool };
@@ -26,10 +26,10 @@ pub trait ReplyTeller {
     fn told(
         &self,
         alloc: Global,
-        question: Option<Question<'_>>,
+        question: &Option<Question<'_>>,
         reply: &Reply<'_>,
     ) -> Result<String, AllocError>
-        ensures { IfOk result (λ text. tells self.now question.entry reply.now (string_bytes text)) };
+        ensures { IfOk result (λ text. tells self.now question.now reply.now (string_bytes text)) };
 
     /// The text of the reply that memory was refused. It takes none.
     fn memory_refused(&self) -> &'static str
@@ -42,10 +42,10 @@ pub trait ReplyTeller {
 pub struct Lines;
 
 impl ReplyTeller for Lines {
-    ghost use Rattle.std.specs.Prelude.{◌≡◌, false};
-    ghost use Rattle.serving.specs.Printed.{reply_text};
+    ghost use Rattle.std.specs.Prelude.{false};
+    ghost use Rattle.serving.specs.Tellings.{line_telling};
 
-    ghost tells = { λ _ _ reply text. text ≡ reply_text reply };
+    ghost tells = { λ _. line_telling };
 
     ghost tells_legs = { λ _. false };
 
@@ -56,7 +56,7 @@ impl ReplyTeller for Lines {
     fn told(
         &self,
         alloc: Global,
-        _question: Option<Question<'_>>,
+        _question: &Option<Question<'_>>,
         reply: &Reply<'_>,
     ) -> Result<String, AllocError> {
         format!(in alloc; "{reply}")

@@ -200,7 +200,7 @@ impl Teller for FolderTeller<'_> {
         plan: &Plan<'_>,
         names: &NameSheets,
         basis: &Basis,
-        question: Option<LineQuestion<'_>>,
+        question: &Option<LineQuestion<'_>>,
         reply: &Reply<'_>,
     ) -> Result<String, AllocError> {
         match (question, reply) {

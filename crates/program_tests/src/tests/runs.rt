@@ -28,6 +28,7 @@ pub fn outcome_over<T: Threads + Wait + Sync>(
     words: &[&str],
     store: Result<MemDisk, FileFault>,
 ) -> Left {
+    let mut input: &[u8] = b"";
     let (mut out, mut err) = (Vec::new(rt.alloc()), Vec::new(rt.alloc()));
     let (status, disk) = run_words(
         rt.alloc(),
@@ -39,6 +40,7 @@ pub fn outcome_over<T: Threads + Wait + Sync>(
         |_folder| Ok(None),
         |_path| store,
         |_asked| Silent,
+        &mut input,
         &mut out,
         &mut err,
     );

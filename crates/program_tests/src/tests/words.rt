@@ -41,3 +41,21 @@ pub const BUILD: [&str; 12] = [
 pub const LIST: [&str; 10] = [
     "tp", "list", "--feed", "feed", "--date", "20240102", "--rides", "1", "--store", "file",
 ];
+
+/// Replies to questions, told to machines, while one worker builds.
+pub const SERVE: [&str; 14] = [
+    "tp",
+    "serve",
+    "--feed",
+    "feed",
+    "--date",
+    "20240102",
+    "--rides",
+    "1",
+    "--store",
+    "file",
+    "--workers",
+    "1",
+    "--format",
+    "json",
+];

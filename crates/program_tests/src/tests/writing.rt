@@ -42,6 +42,7 @@ impl Write for Narrow {
 #[test]
 fn an_answer_in_a_format(rt: HostRuntime) -> Result<(), Fail> {
     for (teller, status, lines) in [(Saying(Some("told\n")), 0, "told\n"), (Saying(None), 7, "")] {
+        let mut input: &[u8] = b"";
         let (mut out, mut err) = (Vec::new(rt.alloc()), Vec::new(rt.alloc()));
         let keys = RandomState::new(&rt)?;
         let (ended, _disk) = run_words(
@@ -54,6 +55,7 @@ fn an_answer_in_a_format(rt: HostRuntime) -> Result<(), Fail> {
             |_folder| Ok(None),
             no_store,
             |_asked| Silent,
+            &mut input,
             &mut out,
             &mut err,
         );
@@ -68,6 +70,7 @@ fn an_answer_in_a_format(rt: HostRuntime) -> Result<(), Fail> {
 fn a_writer_that_refuses_the_rest(rt: HostRuntime) -> Result<(), Fail> {
     for room in 0..=ANSWER.len() {
         let mut out = Narrow { room };
+        let mut input: &[u8] = b"";
         let mut err = Vec::new(rt.alloc());
         let keys = RandomState::new(&rt)?;
         let (status, _disk) = run_words(
@@ -80,6 +83,7 @@ fn a_writer_that_refuses_the_rest(rt: HostRuntime) -> Result<(), Fail> {
             |_folder| Ok(None),
             no_store,
             |_asked| Silent,
+            &mut input,
             &mut out,
             &mut err,
         );

@@ -1,8 +1,10 @@
-use Rattle.std.proofs.Common.{List, Result, IfOk, MatchResult, subst, sym}
+use Rattle.std.proofs.Common.{List, All, Result, IfOk, MatchResult, subst, sym}
 use Rattle.pattern_query.specs.Answer.{PointData}
-use Rattle.shared_planner.specs.Asking.{AreBestBetween, IsAnswered, IsUnanswered}
+use Rattle.shared_planner.specs.Asking.{AreBestBetween, IsAnswered, IsUnanswered, held_by}
 use Rattle.shared_planner.specs.declared.fault.AskFault.{AskFault}
+use Rattle.told_journeys.specs.Points.{IsKnownJourney}
 use Rattle.serving.specs.Answers.{IsAsked, IsRefused, IsReply, IsTold}
+use Rattle.serving.proofs.KnownFacts.{known}
 use Rattle.serving.proofs.ReplyFacts.{refused_reply, told_reply}
 use Rattle.serving.proofs.replying.reply_to.Goals.{in-Ok, in-Err}
 use Rattle.serving.proofs.replying.reply_to.Goals as goal
@@ -32,3 +34,17 @@ returns c = λ line is.
           (subst (IsRefused p basis.cover line old new) (sym w.refusal_of.ensures)
           (refused_reply p basis legs line old new question depart asked w.in-Err.fault (subst Gives w.in-Err.is c.ask-reader.ensures.answer)))
     ]
+
+pub answer_of-reply-requires-clause-known : goal.answer_of-reply-requires-clause-known
+answer_of-reply-requires-clause-known c =
+    let p = c.args.planner.now in
+    let basis = c.args.basis.now in
+    let new = c.ask-reader.result.0 in
+    let from = c.args.question.now.from.now in
+    let to = c.args.question.now.to.now in
+    let depart = c.unwrap_or-depart.result in
+    let Gives = λ (r : Result (List PointData) AskFault). MatchResult r (IsAnswered p c.args.reader new from to depart)
+    (IsUnanswered p c.args.reader new from to depart) in
+    let answered : IsAnswered p c.args.reader new from to depart c.in-Ok.answer = subst Gives c.in-Ok.is c.ask-reader.ensures.answer in
+    subst (λ (journeys : List PointData). All (IsKnownJourney basis depart) journeys) (sym c.points.ensures)
+    (known basis p (held_by p new) from to depart c.in-Ok.answer c.names-names.ensures.sound c.requires.over answered.1)
