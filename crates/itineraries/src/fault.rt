@@ -116,13 +116,12 @@ pub fn bare_fault_json<'a>(
     name: &'a str,
     status: u8,
 ) -> Result<String, AllocError> {
-    let (file, row, id) = (None, None, None);
     let text = FaultText {
         code,
         name,
-        file,
-        row,
-        id,
+        file: None,
+        row: None,
+        id: None,
         status,
     };
     json(alloc, &Told { fault: text })
