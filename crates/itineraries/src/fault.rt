@@ -75,26 +75,45 @@ fn id_of<'a>(fault: &Fault<'a>) -> Option<&'a str> {
     }
 }
 
+// The text of a fault that is shown so.
+fn text_of<'a>(
+    shown: &'a str,
+    file: Option<&'a str>,
+    row: Option<usize>,
+    id: Option<&'a str>,
+    status: u8,
+) -> FaultText<'a> {
+    let code = code_of(shown);
+    FaultText {
+        code,
+        name: name_of(shown),
+        file,
+        row,
+        id,
+        status,
+    }
+}
+
 /// A fault as an object of JSON, on one line, without a line's end. It fails only where memory runs out.
-pub fn fault_json(alloc: Global, fault: &Fault<'_>) -> Result<String, AllocError> {
+pub fn fault_json<'a>(alloc: Global, fault: &'a Fault<'a>) -> Result<String, AllocError> {
     let shown = format!(in alloc; "{fault}")?;
     let file = file_of(alloc, fault)?;
-    let text = FaultText {
-        code: code_of(shown.as_str()),
-        name: name_of(shown.as_str()),
-        file: file.as_ref().map(|name| name.as_str()),
-        row: row_of(fault),
-        id: id_of(fault),
-        status: fault.status(),
-    };
+    let name = file.as_ref().map(|name| name.as_str());
+    let text = text_of(
+        shown.as_str(),
+        name,
+        row_of(fault),
+        id_of(fault),
+        fault.status(),
+    );
     json(alloc, &Told { fault: text })
 }
 
 /// A fault of this code and name alone, for what no `Fault` says, as an object of JSON like the others.
-pub fn bare_fault_json(
+pub fn bare_fault_json<'a>(
     alloc: Global,
-    code: Option<&str>,
-    name: &str,
+    code: Option<&'a str>,
+    name: &'a str,
     status: u8,
 ) -> Result<String, AllocError> {
     let text = FaultText {
