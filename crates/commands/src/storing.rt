@@ -107,7 +107,14 @@ pub fn run_build<
 }
 
 // Replies to the questions of the input over the disk of a store, as the plan's style has it.
-fn serve_as<'a, H: Threads + Wait + Sync, D: Disk + Drop + Send, T: Teller, I: BufRead, W: Write>(
+fn serve_as<
+    'a,
+    H: Threads + Wait + Sync,
+    D: Disk + Drop + Send,
+    T: Teller,
+    I: BufRead,
+    W: Write + Drop,
+>(
     alloc: Global,
     rt: &H,
     teller: &T,
@@ -183,7 +190,8 @@ pub fn run_serve<
             let (served, disk, out) = serve_as(
                 alloc, rt, teller, plan, basis, disk, workers, input, out,
             );
-            (tell_serving(alloc, teller, plan, &served, err), Some(disk))
+            let status = tell_serving(alloc, teller, plan, &served, err);
+            (status, Some(disk), out)
         }
     }
 }
