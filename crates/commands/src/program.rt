@@ -45,7 +45,7 @@ pub fn run_words<
     L: FnOnce(&str) -> io::Result<Option<Vec<String>>>,
     S: FnOnce(&str) -> Result<D, FileFault>,
     M: FnOnce(bool) -> P,
-    T: Teller,
+    T: Teller + Copy,
     I: BufRead,
     W: Write + Drop,
     E: Write,

@@ -1,7 +1,7 @@
 //! Replies in formats beside their lines.
 
 use crate::telling::Teller;
-use command_line::{Format, Plan};
+use command_line::Format;
 use feed_basis::Basis;
 use question_lines::Question;
 use serving::{Reply, ReplyTeller};
@@ -9,15 +9,14 @@ use std::alloc::{AllocError, Global};
 
 /// Tells replies in a format, with names that are read once. Where memory was refused for the names, it is refused for each reply.
 #[derive(Drop)]
-pub struct FormatReplies<'b, T: Teller> {
-    pub teller: &'b T,
+pub struct FormatReplies<'b, T: Teller + Copy> {
+    pub teller: T,
     pub format: Format,
-    pub plan: &'b Plan<'b>,
     pub basis: &'b Basis,
     pub names: Option<T::Names>,
 }
 
-impl<'b, T: Teller> ReplyTeller for FormatReplies<'b, T> {
+impl<'b, T: Teller + Copy> ReplyTeller for FormatReplies<'b, T> {
     ghost use Rattle.std.specs.Prelude.{true};
 
     ghost tells = { λ s. T.replies s.format s.basis.now };
@@ -35,15 +34,9 @@ impl<'b, T: Teller> ReplyTeller for FormatReplies<'b, T> {
         reply: &Reply<'_>,
     ) -> Result<String, AllocError> {
         match &self.names {
-            Some(names) => self.teller.reply(
-                alloc,
-                self.format,
-                self.plan,
-                names,
-                self.basis,
-                question,
-                reply,
-            ),
+            Some(names) => self
+                .teller
+                .reply(alloc, self.format, names, self.basis, question, reply),
             None => Err(AllocError),
         }
     }

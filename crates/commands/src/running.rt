@@ -115,7 +115,7 @@ pub fn run<
     D: Disk + Drop + Send,
     S: FnOnce(&str) -> Result<D, FileFault>,
     P: Progress,
-    T: Teller,
+    T: Teller + Copy,
     I: BufRead,
     W: Write + Drop,
     E: Write,

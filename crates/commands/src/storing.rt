@@ -111,7 +111,7 @@ fn serve_as<
     'a,
     H: Threads + Wait + Sync,
     D: Disk + Drop + Send,
-    T: Teller,
+    T: Teller + Copy,
     I: BufRead,
     W: Write + Drop,
 >(
@@ -140,11 +140,10 @@ fn serve_as<
         Style::Lines => serve(alloc, rt, basis, rides, disk, workers, &Lines, input, out),
         Style::Told(format) => {
             let replies = FormatReplies {
-                teller,
+                teller: *teller,
                 format,
-                plan,
                 basis,
-                names: teller.names(alloc, plan.settings.feed).ok(),
+                names: teller.names(alloc, plan).ok(),
             };
             serve(alloc, rt, basis, rides, disk, workers, &replies, input, out)
         }
@@ -157,7 +156,7 @@ pub fn run_serve<
     H: Threads + Wait + Sync,
     D: Disk + Drop + Send,
     S: FnOnce(&str) -> Result<D, FileFault>,
-    T: Teller,
+    T: Teller + Copy,
     I: BufRead,
     W: Write + Drop,
     E: Write,

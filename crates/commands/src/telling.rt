@@ -80,15 +80,14 @@ pub trait Teller {
         ensures text { IfOk result (λ lines. finds folder.now text.now all (string_bytes lines)) }
         ensures fault { IfErr result IsStopsFault };
 
-    /// The names that replies over the feed in a folder are told with. It fails only where memory runs out.
-    fn names(&self, alloc: Global, folder: &str) -> Result<Self::Names, AllocError>;
+    /// The names that the replies of a plan are told with. It fails only where memory runs out.
+    fn names(&self, alloc: Global, plan: &Plan<'_>) -> Result<Self::Names, AllocError>;
 
     /// The text of the reply to a line that is this question, or none, in a format. It fails only where memory runs out.
     fn reply(
         &self,
         alloc: Global,
         format: Format,
-        plan: &Plan<'_>,
         names: &Self::Names,
         basis: &Basis,
         question: &Option<Question<'_>>,

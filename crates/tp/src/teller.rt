@@ -11,7 +11,7 @@ use itineraries::{
     Asked as Question, Clock, NameSheets, bare_fault_json, fault_json, geojson, itinerary_of, json,
     people_text, stop_list_of,
 };
-use program_inputs::{Fault, Settings};
+use program_inputs::Fault;
 use question_lines::Question as LineQuestion;
 use serving::{Refusal, Reply};
 use std::alloc::{AllocError, Global};
@@ -21,6 +21,13 @@ use stop_search::{list_stops, near_stops};
 // The reply that memory was refused, for machines. It needs none.
 const MEMORY_REFUSED: &str = "\
 {\"fault\":{\"code\":null,\"name\":\"Memory\",\"file\":null,\"row\":null,\"id\":null,\"status\":7}}\n";
+
+/// What replies are told with: the files that names are read from, and the clock of the zone.
+#[derive(Drop)]
+pub struct ReplyNames {
+    sheets: NameSheets,
+    clock: Clock,
+}
 
 /// Tells answers with names from the files of a feed's folder, which are read for each answer.
 #[derive(Clone, Copy)]
@@ -92,13 +99,12 @@ fn line(text: String) -> Result<String, AllocError> {
 fn answer_text(
     alloc: Global,
     format: Format,
-    settings: &Settings<'_>,
+    clock: Clock,
     sheets: &NameSheets,
     basis: &Basis,
     asked: &Question<'_>,
     answer: &Answer,
 ) -> Result<String, AllocError> {
-    let clock = Clock::of(settings.zone);
     let itinerary = itinerary_of(alloc, basis, clock, sheets, asked, answer)?;
     match format {
         Format::Names => people_text(alloc, &itinerary),
@@ -122,7 +128,7 @@ fn refusal_text(alloc: Global, refusal: &Refusal<'_>) -> Result<String, AllocErr
 
 // Nothing is claimed of the texts: tests say what they are.
 impl Teller for FolderTeller<'_> {
-    type Names = NameSheets;
+    type Names = ReplyNames;
 
     ghost tells = { λ _ _ _ _. Unit {0} };
 
@@ -152,7 +158,15 @@ impl Teller for FolderTeller<'_> {
             },
         };
         let sheets = self.sheets(alloc, settings.feed)?;
-        answer_text(alloc, format, &settings, &sheets, basis, &asked, answer)
+        answer_text(
+            alloc,
+            format,
+            Clock::of(settings.zone),
+            &sheets,
+            basis,
+            &asked,
+            answer,
+        )
     }
 
     fn report(
@@ -189,16 +203,18 @@ impl Teller for FolderTeller<'_> {
         }
     }
 
-    fn names(&self, alloc: Global, folder: &str) -> Result<NameSheets, AllocError> {
-        self.sheets(alloc, folder)
+    fn names(&self, alloc: Global, plan: &Plan<'_>) -> Result<ReplyNames, AllocError> {
+        Ok(ReplyNames {
+            sheets: self.sheets(alloc, plan.settings.feed)?,
+            clock: Clock::of(plan.settings.zone),
+        })
     }
 
     fn reply(
         &self,
         alloc: Global,
         format: Format,
-        plan: &Plan<'_>,
-        names: &NameSheets,
+        names: &ReplyNames,
         basis: &Basis,
         question: &Option<LineQuestion<'_>>,
         reply: &Reply<'_>,
@@ -216,7 +232,15 @@ impl Teller for FolderTeller<'_> {
                         seconds: question.seconds,
                     },
                 };
-                answer_text(alloc, format, &plan.settings, names, basis, &asked, answer)
+                answer_text(
+                    alloc,
+                    format,
+                    names.clock,
+                    &names.sheets,
+                    basis,
+                    &asked,
+                    answer,
+                )
             }
         }
     }

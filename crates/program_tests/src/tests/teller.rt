@@ -67,7 +67,7 @@ impl Teller for Saying {
         }
     }
 
-    fn names(&self, _alloc: Global, _folder: &str) -> Result<(), AllocError> {
+    fn names(&self, _alloc: Global, _plan: &Plan<'_>) -> Result<(), AllocError> {
         Ok(())
     }
 
@@ -75,7 +75,6 @@ impl Teller for Saying {
         &self,
         alloc: Global,
         _format: Format,
-        _plan: &Plan<'_>,
         _names: &(),
         _basis: &Basis,
         _question: &Option<Question<'_>>,
