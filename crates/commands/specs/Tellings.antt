@@ -79,8 +79,8 @@ tells_legs (styles.Told format) legs = true
 
 -- which texts tell the reply to a question in a style: its lines, or as the telling has it in a format
 abbrev pub reply_telling : (Format → ReplyTelling) → Style → ReplyTelling
-reply_telling replies styles.Lines question reply text = text ≡ reply_text reply
-reply_telling replies (styles.Told format) question reply text = replies format question reply text
+reply_telling replies styles.Lines = λ question reply text. text ≡ reply_text reply
+reply_telling replies (styles.Told format) = λ question reply text. replies format question reply text
 
 -- why stops aren't listed: the feed is at fault, or memory ran out
 abbrev pub IsStopsFault : Fault → Type 0

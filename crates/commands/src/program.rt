@@ -33,7 +33,7 @@ fn shows_progress(plan: &Plan<'_>) -> bool {
 /// not at all; `teller` has the texts of formats beside lines, and of stops that are listed. A build has its workers in threads of `rt`.
 /// Questions that are asked line by line stand in `input`. The answer goes to `out`, a fault to `err`.
 ///
-/// Gives the status to end with, and the disk of the store where it was opened. Ids are looked up under `keys`: where the system gave no
+/// Gives the status to end with, the disk of the store where it was opened, and the output. Ids are looked up under `keys`: where the system gave no
 /// randomness for them, that is the fault.
 pub fn run_words<
     'a,
@@ -47,7 +47,7 @@ pub fn run_words<
     M: FnOnce(bool) -> P,
     T: Teller,
     I: BufRead,
-    W: Write,
+    W: Write + Drop,
     E: Write,
 >(
     alloc: Global,
@@ -60,9 +60,9 @@ pub fn run_words<
     open_store: S,
     progress: M,
     input: &mut I,
-    out: &mut W,
+    out: W,
     err: &mut E,
-) -> (u8, Option<D>)
+) -> (u8, Option<D>, W)
     requires feed { O.IsAlwaysCallable open_feed }
     requires folder { L.IsAlwaysCallable list_folder }
     requires store { S.IsAlwaysCallable open_store }
@@ -71,29 +71,33 @@ pub fn run_words<
         (telling_of T.tells T.reports T.finds T.replies) (I.remaining input.old)
         (FnOnceReturnsAt O.FnOnce open_feed) (AreReaders R.remaining) (FnOnceReturnsAt L.FnOnce list_folder) (is_some keys)
         (map (λ word. word.now) words.entry.now)
-        (run_of (W.contents out.old) (W.contents out.new) result.0) result.1 }
+        (run_of (W.contents out) (W.contents result.2) result.0) result.1 }
 {
+    let mut out = out;
     let mut shown = Vec::new(alloc);
     let job = match read_words(alloc, words, &mut shown) {
         Ok(job) => job,
-        Err(status) => return (show("tp", shown.as_slice(), status, out, err), None),
+        Err(status) => {
+            let status = show("tp", shown.as_slice(), status, &mut out, err);
+            return (status, None, out);
+        }
     };
     match job {
         Job::Check { feed } => {
             let Ok(files) = open_feed(feed) else {
-                return (out_of_memory("tp", err), None);
+                return (out_of_memory("tp", err), None, out);
             };
-            let status = run_check(alloc, keys, feed, files, list_folder, out, err);
-            (status, None)
+            let status = run_check(alloc, keys, feed, files, list_folder, &mut out, err);
+            (status, None, out)
         }
         Job::Stops { feed, text, all } => {
-            let status = run_stops(alloc, teller, feed, text, all, out, err);
-            (status, None)
+            let status = run_stops(alloc, teller, feed, text, all, &mut out, err);
+            (status, None, out)
         }
         Job::Plan(plan) => {
             let files = match open_feed(plan.settings.feed) {
                 Ok(files) => files,
-                Err(_) => return (out_of_memory("tp", err), None),
+                Err(_) => return (out_of_memory("tp", err), None, out),
             };
             let mut progress = progress(shows_progress(&plan));
             run(

@@ -8,6 +8,7 @@ use serving::{Reply, ReplyTeller};
 use std::alloc::{AllocError, Global};
 
 /// Tells replies in a format, with names that are read once. Where memory was refused for the names, it is refused for each reply.
+#[derive(Drop)]
 pub struct FormatReplies<'b, T: Teller> {
     pub teller: &'b T,
     pub format: Format,

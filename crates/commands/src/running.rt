@@ -105,9 +105,9 @@ fn ground<'a, R: Read + Drop>(
 /// beneath it where there is something to do about it. In a style that isn't lines, `teller` has the texts. A build has its workers in
 /// threads of `rt`; while it goes on, `progress` is told how far it is. Questions that are asked line by line stand in `input`.
 ///
-/// Gives the status to end with, and the disk where it was opened: 0 done; 1 the feed or its days are at fault; 2 the dates or the time
-/// are; 3 a stop has no tree, since it would be too large, memory was refused for it, or the questions ended before it was built; 4 the
-/// store is at fault, or its device; 6 the question is at fault; 7 memory ran out; 8 `out` refused a write. Ids are looked up under
+/// Gives the status to end with, the disk where it was opened, and the output: 0 done; 1 the feed or its days are at fault; 2 the dates or
+/// the time are; 3 a stop has no tree, since it would be too large, memory was refused for it, or the questions ended before it was built;
+/// 4 the store is at fault, or its device; 6 the question is at fault; 7 memory ran out; 8 `out` refused a write. Ids are looked up under
 /// `keys`: where the system gave no randomness for them, that is the fault.
 pub fn run<
     H: Threads + Wait + Sync,
@@ -117,7 +117,7 @@ pub fn run<
     P: Progress,
     T: Teller,
     I: BufRead,
-    W: Write,
+    W: Write + Drop,
     E: Write,
 >(
     alloc: Global,
@@ -129,21 +129,22 @@ pub fn run<
     open_store: S,
     progress: &mut P,
     input: &mut I,
-    out: &mut W,
+    out: W,
     err: &mut E,
-) -> (u8, Option<D>)
+) -> (u8, Option<D>, W)
     requires { S.IsAlwaysCallable open_store }
     ensures run { (feed : Feed) → AreReaders R.remaining files feed
         → IsRun (opening_of (FnOnceReturnsAt S.FnOnce open_store) D.honest D.state D.failures)
         (telling_of T.tells T.reports T.finds T.replies) (I.remaining input.old) (is_some keys) feed plan.now
-        (run_of (W.contents out.old) (W.contents out.new) result.0) result.1 }
+        (run_of (W.contents out) (W.contents result.2) result.0) result.1 }
     ensures statuses { Contains statuses result.0 }
 {
     let (basis, errand) = match ground(alloc, keys, plan, files) {
         Ok(ground) => ground,
-        Err(fault) => return (tell_plan_fault(alloc, teller, plan, &fault, err), None),
+        Err(fault) => return (tell_plan_fault(alloc, teller, plan, &fault, err), None, out),
     };
     let rides = Rides::new(plan.settings.rides);
+    let mut out = out;
     match errand {
         Errand::Answer(task, leaving) => {
             let moment = basis.moment(leaving.day, leaving.seconds);
@@ -152,16 +153,23 @@ pub fn run<
                 task,
                 leaving,
             };
-            run_task(
-                alloc, teller, &basis, rides, moment, &asked, open_store, out, err,
-            )
+            let (status, disk) = run_task(
+                alloc, teller, &basis, rides, moment, &asked, open_store, &mut out, err,
+            );
+            (status, disk, out)
         }
-        Errand::Build { path, workers } => run_build(
-            alloc, rt, &basis, rides, path, workers, open_store, progress, out, err,
-        ),
-        Errand::List(path) => run_list(
-            alloc, teller, plan, &basis, rides, path, open_store, out, err,
-        ),
+        Errand::Build { path, workers } => {
+            let (status, disk) = run_build(
+                alloc, rt, &basis, rides, path, workers, open_store, progress, &mut out, err,
+            );
+            (status, disk, out)
+        }
+        Errand::List(path) => {
+            let (status, disk) = run_list(
+                alloc, teller, plan, &basis, rides, path, open_store, &mut out, err,
+            );
+            (status, disk, out)
+        }
         Errand::Serve { path, workers } => run_serve(
             alloc, rt, teller, plan, &basis, path, workers, open_store, input, out, err,
         ),

@@ -107,7 +107,14 @@ pub fn run_build<
 }
 
 // Replies to the questions of the input over the disk of a store, as the plan's style has it.
-fn serve_as<'a, H: Threads + Wait + Sync, D: Disk + Drop + Send, T: Teller, I: BufRead, W: Write>(
+fn serve_as<
+    'a,
+    H: Threads + Wait + Sync,
+    D: Disk + Drop + Send,
+    T: Teller,
+    I: BufRead,
+    W: Write + Drop,
+>(
     alloc: Global,
     rt: &H,
     teller: &T,
@@ -116,14 +123,14 @@ fn serve_as<'a, H: Threads + Wait + Sync, D: Disk + Drop + Send, T: Teller, I: B
     disk: D,
     workers: Workers,
     input: &mut I,
-    out: &mut W,
-) -> (Result<Served<'a>, Fault<'a>>, D)
+    out: W,
+) -> (Result<Served<'a>, Fault<'a>>, D, W)
     ensures served { D.honest disk → MatchResult result.0
         (IsServing basis.now plan.now.settings.rides (reply_telling (λ format. T.replies format basis.now) plan.now.style)
         (tells_legs plan.now.style false) (D.state disk) (D.state result.1)
-        (I.remaining input.old) (W.contents out.old) (W.contents out.new))
+        (I.remaining input.old) (W.contents out) (W.contents result.2))
         (IsUnopened (form_over basis.now plan.now.settings.rides) (D.state disk) (D.state result.1)) }
-    ensures kept { IfErr result.0 (λ _. Keeps (W.contents out.old) (W.contents out.new)) }
+    ensures kept { IfErr result.0 (λ _. Keeps (W.contents out) (W.contents result.2)) }
     ensures device { MatchResult result.0 (λ served. IfErr served.built (OnlyFailing (D.failures disk) (D.failures result.1)))
         (OnlyFailing (D.failures disk) (D.failures result.1)) }
     ensures honest { D.honest disk ↔ D.honest result.1 }
@@ -145,14 +152,14 @@ fn serve_as<'a, H: Threads + Wait + Sync, D: Disk + Drop + Send, T: Teller, I: B
 }
 
 /// Replies to the questions of the input, line by line, as the plan's style has it, over the file of that path, while workers build the
-/// trees that it lacks.
+/// trees that it lacks. The output comes back.
 pub fn run_serve<
     H: Threads + Wait + Sync,
     D: Disk + Drop + Send,
     S: FnOnce(&str) -> Result<D, FileFault>,
     T: Teller,
     I: BufRead,
-    W: Write,
+    W: Write + Drop,
     E: Write,
 >(
     alloc: Global,
@@ -164,26 +171,27 @@ pub fn run_serve<
     workers: Workers,
     open_store: S,
     input: &mut I,
-    out: &mut W,
+    out: W,
     err: &mut E,
-) -> (u8, Option<D>)
+) -> (u8, Option<D>, W)
     requires { S.IsAlwaysCallable open_store }
     ensures run { IsOverStore (opening_of (FnOnceReturnsAt S.FnOnce open_store) D.honest D.state D.failures) path.now
         (IsServeRun (telling_of T.tells T.reports T.finds T.replies) plan.now.style basis.now plan.now.settings.rides
         (I.remaining input.old))
-        (run_of (W.contents out.old) (W.contents out.new) result.0) result.1 }
+        (run_of (W.contents out) (W.contents result.2) result.0) result.1 }
     ensures statuses { Contains statuses result.0 }
 {
     match open_store(path) {
         Err(fault) => {
             let fault = file_fault(fault);
-            (tell_plan_fault(alloc, teller, plan, &fault, err), None)
+            (tell_plan_fault(alloc, teller, plan, &fault, err), None, out)
         }
         Ok(disk) => {
-            let (served, disk) = serve_as(
+            let (served, disk, out) = serve_as(
                 alloc, rt, teller, plan, basis, disk, workers, input, out,
             );
-            (tell_serving(alloc, teller, plan, &served, err), Some(disk))
+            let status = tell_serving(alloc, teller, plan, &served, err);
+            (status, Some(disk), out)
         }
     }
 }

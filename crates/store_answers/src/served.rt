@@ -35,32 +35,32 @@ pub struct Served<'a> {
 
 // The questions of an input, which are replied to on an output.
 #[derive(Drop)]
-struct Serving<'s, T: ReplyTeller, R: BufRead, W: Write> {
+struct Serving<'s, T: ReplyTeller, R: BufRead, W: Write + Drop> {
     alloc: Global,
     planner: &'s Planner,
     basis: &'s Basis,
     teller: &'s T,
     reader: Reader,
     input: &'s mut R,
-    out: &'s mut W,
+    out: W,
 }
 
 // What comes of it is the output and how it ended.
-impl<'s, T: ReplyTeller, R: BufRead, W: Write> Meanwhile for Serving<'s, T, R, W> {
+impl<'s, T: ReplyTeller, R: BufRead, W: Write + Drop> Meanwhile for Serving<'s, T, R, W> {
     ghost use Rattle.std.specs.Prelude.{◌≡◌, IfSome};
     ghost use Rattle.serving.specs.Answers.{IsOver, IsReply};
     ghost use Rattle.serving.specs.Runs.{IsServed};
     ghost use Rattle.serving.specs.Tellings.{IsReplyText};
 
-    type Output = (&'s mut W, End);
+    type Output = (W, End);
 
     ghost can_run = { λ s. IsOver s.basis.now s.planner.now × (s.reader.origin.form ≡ s.planner.now.form) };
 
     ghost gives = { λ s given. IfSome (R.remaining s.input.now) (λ bytes.
         IsServed (IsReplyText (T.tells s.teller.now) (IsReply s.planner.now s.basis.now (T.tells_legs s.teller.now)))
-        s.reader bytes (W.contents s.out.now) (W.contents given.0.now) given.1) };
+        s.reader bytes (W.contents s.out) (W.contents given.0) given.1) };
 
-    fn run(self) -> (&'s mut W, End) {
+    fn run(self) -> (W, End) {
         let Self {
             alloc,
             planner,
@@ -68,17 +68,17 @@ impl<'s, T: ReplyTeller, R: BufRead, W: Write> Meanwhile for Serving<'s, T, R, W
             teller,
             reader,
             input,
-            out,
+            mut out,
         } = self;
-        let end = serve_lines(alloc, planner, basis, teller, reader, input, out);
+        let end = serve_lines(alloc, planner, basis, teller, reader, input, &mut out);
         (out, end)
     }
 }
 
 /// Replies to the questions of the input, a line each, on `out`, as the teller has it, while workers build the trees that the file of the
 /// disk lacks, and each is stored and shown to who asks: `serve_lines` says what the lines and the replies are, and `build` what a build
-/// is. Once there are no more lines, or the output refuses a write, no tree is begun any more, and what is in hand ends. The disk comes
-/// back.
+/// is. Once there are no more lines, or the output refuses a write, no tree is begun any more, and what is in hand ends. The disk
+/// and the output come back.
 ///
 /// Each reply stands for one look at the trees that are stored by then. Of a trusted disk an answer is exactly the best of all journeys.
 pub fn serve<
@@ -87,7 +87,7 @@ pub fn serve<
     H: Threads + Wait + Sync,
     T: ReplyTeller,
     R: BufRead,
-    W: Write,
+    W: Write + Drop,
 >(
     alloc: Global,
     rt: &H,
@@ -97,13 +97,13 @@ pub fn serve<
     workers: Workers,
     teller: &T,
     input: &mut R,
-    out: &mut W,
-) -> (Result<Served<'a>, Fault<'a>>, D)
+    out: W,
+) -> (Result<Served<'a>, Fault<'a>>, D, W)
     ensures served { D.honest disk → MatchResult result.0
-        (IsServing basis.now rides (T.tells teller.now) (T.tells_legs teller.now) (D.state disk) (D.state result.1)
-        (R.remaining input.old) (W.contents out.old) (W.contents out.new))
+        (IsServing basis.now rides (λ question reply text. T.tells teller.now question reply text) (T.tells_legs teller.now)
+        (D.state disk) (D.state result.1) (R.remaining input.old) (W.contents out) (W.contents result.2))
         (IsUnopened (form_over basis.now rides) (D.state disk) (D.state result.1)) }
-    ensures kept { IfErr result.0 (λ _. Keeps (W.contents out.old) (W.contents out.new)) }
+    ensures kept { IfErr result.0 (λ _. Keeps (W.contents out) (W.contents result.2)) }
     ensures device { MatchResult result.0 (λ served. IfErr served.built (OnlyFailing (D.failures disk) (D.failures result.1)))
         (OnlyFailing (D.failures disk) (D.failures result.1)) }
     ensures honest { D.honest disk ↔ D.honest result.1 }
@@ -116,7 +116,7 @@ pub fn serve<
         reader,
     } = match open(alloc, rt, basis, rides, disk) {
         Ok(opened) => opened,
-        Err((fault, disk)) => return (Err(Fault::from(fault)), disk),
+        Err((fault, disk)) => return (Err(Fault::from(fault)), disk, out),
     };
     let serving = Serving {
         alloc,
@@ -128,9 +128,9 @@ pub fn serve<
         out,
     };
     let workers = usize::from(workers.number);
-    let (desk, outcome, (_out, end)) = precompute_while(
+    let (desk, outcome, (out, end)) = precompute_while(
         alloc, rt, desk, &planner, workers, &Free, serving,
     );
     let built = told(alloc, basis, desk.stored(), &outcome);
-    (Ok(Served { end, built }), desk.into_disk(rt))
+    (Ok(Served { end, built }), desk.into_disk(rt), out)
 }

@@ -21,10 +21,10 @@ fn replies_in_a_format(rt: HostRuntime) -> Result<(), Fail> {
     ];
     for (teller, replies) in rows {
         let mut input = LINES;
-        let (mut out, mut err) = (Vec::new(rt.alloc()), Vec::new(rt.alloc()));
+        let mut err = Vec::new(rt.alloc());
         let keys = RandomState::new(&rt)?;
         let store = Ok(MemDisk::new(rt.alloc()));
-        let (_status, disk) = run_words(
+        let (_status, disk, out) = run_words(
             rt.alloc(),
             &rt,
             Some(keys),
@@ -35,7 +35,7 @@ fn replies_in_a_format(rt: HostRuntime) -> Result<(), Fail> {
             |_path| store,
             |_asked| Silent,
             &mut input,
-            &mut out,
+            Vec::new(rt.alloc()),
             &mut err,
         );
         assert_eq!(rt; std::str::from_utf8(out.as_slice())?, replies);

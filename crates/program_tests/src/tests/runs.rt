@@ -29,8 +29,8 @@ pub fn outcome_over<T: Threads + Wait + Sync>(
     store: Result<MemDisk, FileFault>,
 ) -> Left {
     let mut input: &[u8] = b"";
-    let (mut out, mut err) = (Vec::new(rt.alloc()), Vec::new(rt.alloc()));
-    let (status, disk) = run_words(
+    let mut err = Vec::new(rt.alloc());
+    let (status, disk, out) = run_words(
         rt.alloc(),
         threads,
         keys,
@@ -41,7 +41,7 @@ pub fn outcome_over<T: Threads + Wait + Sync>(
         |_path| store,
         |_asked| Silent,
         &mut input,
-        &mut out,
+        Vec::new(rt.alloc()),
         &mut err,
     );
     Left {

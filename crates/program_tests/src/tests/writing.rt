@@ -43,9 +43,9 @@ impl Write for Narrow {
 fn an_answer_in_a_format(rt: HostRuntime) -> Result<(), Fail> {
     for (teller, status, lines) in [(Saying(Some("told\n")), 0, "told\n"), (Saying(None), 7, "")] {
         let mut input: &[u8] = b"";
-        let (mut out, mut err) = (Vec::new(rt.alloc()), Vec::new(rt.alloc()));
+        let mut err = Vec::new(rt.alloc());
         let keys = RandomState::new(&rt)?;
-        let (ended, _disk) = run_words(
+        let (ended, _disk, out) = run_words(
             rt.alloc(),
             &rt,
             Some(keys),
@@ -56,7 +56,7 @@ fn an_answer_in_a_format(rt: HostRuntime) -> Result<(), Fail> {
             no_store,
             |_asked| Silent,
             &mut input,
-            &mut out,
+            Vec::new(rt.alloc()),
             &mut err,
         );
         assert_eq!(rt; ended, status);
@@ -69,11 +69,10 @@ fn an_answer_in_a_format(rt: HostRuntime) -> Result<(), Fail> {
 #[test]
 fn a_writer_that_refuses_the_rest(rt: HostRuntime) -> Result<(), Fail> {
     for room in 0..=ANSWER.len() {
-        let mut out = Narrow { room };
         let mut input: &[u8] = b"";
         let mut err = Vec::new(rt.alloc());
         let keys = RandomState::new(&rt)?;
-        let (status, _disk) = run_words(
+        let (status, _disk, _out) = run_words(
             rt.alloc(),
             &rt,
             Some(keys),
@@ -84,7 +83,7 @@ fn a_writer_that_refuses_the_rest(rt: HostRuntime) -> Result<(), Fail> {
             no_store,
             |_asked| Silent,
             &mut input,
-            &mut out,
+            Narrow { room },
             &mut err,
         );
         let (wanted, said) = if room < ANSWER.len() {

@@ -13,7 +13,7 @@ returns-in-Answer-clause-run g c = λ feed h.
     let basis = c.in-Ok.ground.0 in
     let o = opening_of (FnOnceReturnsAt g.S.FnOnce c.args.open_store) g.D.Disk.honest g.D.Disk.state g.D.Disk.failures in
     let t = telling_of g.T.Teller.tells g.T.Teller.reports g.T.Teller.finds g.T.Teller.replies in
-    let run = run_of (g.W.Write.contents c.args.out.now) (g.W.Write.contents c.run_task.new.out) c.run_task.result.0 in
+    let run = run_of (g.W.Write.contents c.args.out) (g.W.Write.contents c.run_task.new.out) c.run_task.result.0 in
     let errand = subst (λ (e : Errand). IsErrand plan.settings.date.now plan.command e) c.in-Answer.is c.in-Ok.ensures.errand in
     let done = subst (λ (k : ℕ). IsTaskRun o t plan.style basis k c.moment-moment.result c.in-Answer.task run c.run_task.result.1) c.new-rides.ensures c.run_task.ensures.run in
     inr (
@@ -28,7 +28,7 @@ returns-in-Build-clause-run g c = λ feed h.
     let basis = c.in-Ok.ground.0 in
     let o = opening_of (FnOnceReturnsAt g.S.FnOnce c.args.open_store) g.D.Disk.honest g.D.Disk.state g.D.Disk.failures in
     let t = telling_of g.T.Teller.tells g.T.Teller.reports g.T.Teller.finds g.T.Teller.replies in
-    let run = run_of (g.W.Write.contents c.args.out.now) (g.W.Write.contents c.run_build.new.out) c.run_build.result.0 in
+    let run = run_of (g.W.Write.contents c.args.out) (g.W.Write.contents c.run_build.new.out) c.run_build.result.0 in
     let errand = subst (λ (e : Errand). IsErrand plan.settings.date.now plan.command e) c.in-Build.is c.in-Ok.ensures.errand in
     let done = subst (λ (k : ℕ). IsOverStore o c.in-Build.path.now (IsBuildRun basis k) run c.run_build.result.1) c.new-rides.ensures c.run_build.ensures.run in
     inr (basis, c.in-Ok.ensures.ground feed h, build_run o t (g.I.BufRead.remaining c.args.input.now) plan.style plan.settings basis run c.run_build.result.1 plan.command c.in-Build.path c.in-Build.workers errand done)
@@ -39,7 +39,7 @@ returns-in-List-clause-run g c = λ feed h.
     let basis = c.in-Ok.ground.0 in
     let o = opening_of (FnOnceReturnsAt g.S.FnOnce c.args.open_store) g.D.Disk.honest g.D.Disk.state g.D.Disk.failures in
     let t = telling_of g.T.Teller.tells g.T.Teller.reports g.T.Teller.finds g.T.Teller.replies in
-    let run = run_of (g.W.Write.contents c.args.out.now) (g.W.Write.contents c.run_list.new.out) c.run_list.result.0 in
+    let run = run_of (g.W.Write.contents c.args.out) (g.W.Write.contents c.run_list.new.out) c.run_list.result.0 in
     let errand = subst (λ (e : Errand). IsErrand plan.settings.date.now plan.command e) c.in-List.is c.in-Ok.ensures.errand in
     let done = subst (λ (k : ℕ). IsOverStore o c.in-List.path.now (IsListRun t plan.style basis k) run c.run_list.result.1) c.new-rides.ensures c.run_list.ensures.run in
     inr (basis, c.in-Ok.ensures.ground feed h, list_run o t (g.I.BufRead.remaining c.args.input.now) plan.style plan.settings basis run c.run_list.result.1 plan.command c.in-List.path errand done)
@@ -51,6 +51,6 @@ returns-clause-run g c = λ feed h.
     let input = g.I.BufRead.remaining c.args.input.now in
     let o = opening_of (FnOnceReturnsAt g.S.FnOnce c.args.open_store) g.D.Disk.honest g.D.Disk.state g.D.Disk.failures in
     let t = telling_of g.T.Teller.tells g.T.Teller.reports g.T.Teller.finds g.T.Teller.replies in
-    let run = run_of (g.W.Write.contents c.args.out.now) (g.W.Write.contents c.run_serve.new.out) c.run_serve.result.0 in
+    let run = run_of (g.W.Write.contents c.args.out) (g.W.Write.contents c.run_serve.result.2) c.run_serve.result.0 in
     let errand = subst (λ (e : Errand). IsErrand plan.settings.date.now plan.command e) c.in-Serve.is c.in-Ok.ensures.errand in
     inr (basis, c.in-Ok.ensures.ground feed h, serve_run o t input plan.style plan.settings basis run c.run_serve.result.1 plan.command c.in-Serve.path c.in-Serve.workers errand c.run_serve.ensures.run)

@@ -19,6 +19,6 @@ returns-in-Ok-clause-run g c =
       given_back = refl;
       honest = c.serve_as-served.ensures.honest;
       uses = λ honest. serving_told t plan.style c.args.basis.now plan.settings.rides (g.I.BufRead.remaining c.args.input.now) old new
-          (g.W.Write.contents c.args.out.now) (g.W.Write.contents c.serve_as-served.new.out) fails c.serve_as-served.result.0 c.tell_serving.result
+          (g.W.Write.contents c.args.out) (g.W.Write.contents c.serve_as-served.result.2) fails c.serve_as-served.result.0 c.tell_serving.result
           (c.serve_as-served.ensures.served honest) c.serve_as-served.ensures.kept c.serve_as-served.ensures.device c.tell_serving.ensures.status;
     })
