@@ -2,8 +2,8 @@
 
 mod feed;
 mod reading;
+mod replies;
 mod runs;
-mod serving;
 mod stores;
 mod teller;
 mod words;

@@ -69,8 +69,12 @@ pub fn open<R: Wait>(rt: &R, alloc: Global, basis: &Basis) -> Option<Setting>
     ensures reader { IfSome result (λ s. s.reader.origin.form ≡ s.planner.form) }
     ensures board { IfSome result (λ s. s.reader.told.book ≡ s.desk.board.told.book) }
 {
-    let network = basis.network(alloc).ok()?;
-    let names = Arc::try_clone(basis.shared_names()).ok()?;
+    let Ok(network) = basis.network(alloc) else {
+        return None;
+    };
+    let Ok(names) = Arc::try_clone(basis.shared_names()) else {
+        return None;
+    };
     let disk = MemDisk::new(alloc);
     let Ok(opened) = Planner::open(alloc, rt, disk, network, names, Rides::new(3), 1) else {
         return None;
