@@ -44,9 +44,9 @@ building_app name = with_rule (store_app name) (number_rule (codes "workers") (c
 abbrev pub build_app : App
 build_app = with_rule (building_app (codes "build")) (flag_rule (codes "progress"))
 
--- questions line by line, while they are built; told in a format
+-- questions line by line, while they are built
 abbrev pub serve_app : App
-serve_app = with_rule (building_app (codes "serve")) (optional_rule (codes "format"))
+serve_app = building_app (codes "serve")
 
 -- the stops whose trees are stored
 abbrev pub list_app : App

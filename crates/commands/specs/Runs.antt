@@ -26,12 +26,13 @@ use Rattle.answering.specs.Refusals.{IsUnanswered, NoneMissing}
 use Rattle.store_answers.specs.Asked.{IsStoredAnswer, IsStoredRefusal}
 use Rattle.store_answers.specs.Builds.{IsBuilt, IsUnbuilt}
 use Rattle.store_answers.specs.Listings.{IsListed, IsUnlisted}
+use Rattle.serving.specs.Tellings.{line_telling}
 use Rattle.store_answers.specs.Replies.{IsServing}
 use Rattle.store_answers.specs.Stores.{IsUnopened, OnlyFailing, form_over}
 use Rattle.store_answers.specs.declared.served.Served.{Served}
 use Rattle.commands.specs.Feeds.{IsGround, IsGroundFault, LeavesAt}
 use Rattle.commands.specs.Prints.{AreReportLines, IsFaulted, IsPrint, served_status}
-use Rattle.commands.specs.Tellings.{IsAnswerPrint, IsReportPrint, Telling, reply_telling, tells_legs}
+use Rattle.commands.specs.Tellings.{IsAnswerPrint, IsReportPrint, Telling, tells_legs}
 
 -- a run: standard output before it and after it, and its status
 pub record Run : Type 0 where
@@ -118,17 +119,16 @@ IsListRun t style basis k old new MayTell run =
     run.before run.after run.status
 
 -- questions of an input were replied to, while what a store lacks was built, and the status tells how both ended
-pub record IsServedRun (t : Telling) (style : Style) (basis : BasisData) (k : ℕ) (input : Option (List ℕ)) (old new : State)
-    (MayTell : Fault → Type 0) (run : Run) : Type 0 where
+pub record IsServedRun (basis : BasisData) (k : ℕ) (input : Option (List ℕ)) (old new : State) (MayTell : Fault → Type 0) (run : Run) : Type 0 where
   pub served : Served
-  pub serving : IsServing basis k (reply_telling (λ format. t.replies format basis) style) (tells_legs style false) old new input run.before run.after served
+  pub serving : IsServing basis k (λ question reply text. line_telling question reply text) false old new input run.before run.after served
   pub may_tell : IfErr served.built MayTell
   pub said : run.status ≡ served_status served
 
 -- the same, or the store isn't opened
-abbrev pub IsServeRun : Telling → Style → BasisData → ℕ → Option (List ℕ) → Use
-IsServeRun t style basis k input old new MayTell run =
-    IsServedRun t style basis k input old new MayTell run ⊎ Tells (λ fault. IsUnopened (form_over basis k) old new fault × MayTell fault) run
+abbrev pub IsServeRun : BasisData → ℕ → Option (List ℕ) → Use
+IsServeRun basis k input old new MayTell run =
+    IsServedRun basis k input old new MayTell run ⊎ Tells (λ fault. IsUnopened (form_over basis k) old new fault × MayTell fault) run
 
 -- a question, over the timetable, at the moment of its words
 abbrev pub IsTaskRun : {D : Type 0} → Opening D → Telling → Style → BasisData → ℕ → Option ℕ → Task → Run → Option D → Type 0
@@ -148,7 +148,7 @@ IsCommandRun o t input style settings basis (commands.Build store workers progre
 IsCommandRun o t input style settings basis (commands.List store) run disk =
     IsOverStore o store.now (IsListRun t style basis settings.rides) run disk
 IsCommandRun o t input style settings basis (commands.Serve store workers) run disk =
-    IsOverStore o store.now (IsServeRun t style basis settings.rides input) run disk
+    IsOverStore o store.now (IsServeRun basis settings.rides input) run disk
 
 -- What a run leaves, in the order in which faults are looked for: the words, the feed and its days; then the store, and then the question.
 -- The store is opened only where the feed and its days are without fault.

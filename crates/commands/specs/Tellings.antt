@@ -12,24 +12,19 @@ use Rattle.command_line.specs.declared.format.Style.TheVariants as styles
 use Rattle.program_inputs.specs.declared.fault.Fault.{Fault}
 use Rattle.program_inputs.specs.declared.fault.Fault.TheVariants as faults
 use Rattle.feed_basis.specs.Basis.{BasisData}
-use Rattle.question_lines.specs.declared.question.Question.{Question}
-use Rattle.serving.specs.Printed.{reply_text}
-use Rattle.serving.specs.Tellings.{Telling as ReplyTelling}
-use Rattle.serving.specs.declared.reply.Reply.{Reply}
 use Rattle.gtfs_rows.specs.declared.fault.FeedFault.{FeedFault}
 use Rattle.commands.specs.Prints.{AreAnswerLines, AreReportLines, IsPrint, IsTextPrinted}
 use denote.Ref.{Bor}
 
--- What texts may tell an answer, a report or a reply to a question in a format, over a basis, and which lines may list stops.
+-- What texts may tell an answer or a report in a format, over a basis, and which lines may list stops.
 pub record Telling : Type 1 where
   pub tells : Format → BasisData → Answer → List ℕ → Type 0
   pub reports : Format → Report → List ℕ → Type 0
   pub finds : List ℕ → List ℕ → Bool → List ℕ → Type 0
-  pub replies : Format → BasisData → ReplyTelling
 
 abbrev pub telling_of : (Format → BasisData → Answer → List ℕ → Type 0) → (Format → Report → List ℕ → Type 0)
-    → (List ℕ → List ℕ → Bool → List ℕ → Type 0) → (Format → BasisData → ReplyTelling) → Telling
-telling_of tells reports finds replies = record { tells = tells; reports = reports; finds = finds; replies = replies }
+    → (List ℕ → List ℕ → Bool → List ℕ → Type 0) → Telling
+telling_of tells reports finds = record { tells = tells; reports = reports; finds = finds }
 
 -- such a text stands on standard output, or is cut off; or memory ran out as it was made, and nothing was written
 abbrev pub IsTold : (List ℕ → Type 0) → Option (List ℕ) → Option (List ℕ) → ℕ → Type 0
@@ -76,11 +71,6 @@ IsReportPrint reports (styles.Told format) Right Wrong old new status = IsToldPr
 abbrev pub tells_legs : Style → Bool → Bool
 tells_legs styles.Lines legs = legs
 tells_legs (styles.Told format) legs = true
-
--- which texts tell the reply to a question in a style: its lines, or as the telling has it in a format
-abbrev pub reply_telling : (Format → ReplyTelling) → Style → ReplyTelling
-reply_telling replies styles.Lines = λ question reply text. text ≡ reply_text reply
-reply_telling replies (styles.Told format) = λ question reply text. replies format question reply text
 
 -- why stops aren't listed: the feed is at fault, or memory ran out
 abbrev pub IsStopsFault : Fault → Type 0

@@ -1,22 +1,18 @@
 //! Commands over the file of a store.
 
-ghost use Rattle.std.specs.Prelude.{◌≡◌, ◌↔◌, false, IfErr, MatchResult};
+ghost use Rattle.std.specs.Prelude.{◌≡◌};
 ghost use Rattle.std.specs.Fn.{FnOnceReturnsAt};
-ghost use Rattle.std.specs.Io.KnownBytes.{Keeps};
 ghost use Rattle.std.specs.List.{Contains};
 ghost use Rattle.commands.specs.Prints.{statuses};
-ghost use Rattle.commands.specs.Tellings.{reply_telling, telling_of, tells_legs};
-ghost use Rattle.store_answers.specs.Replies.{IsServing};
-ghost use Rattle.store_answers.specs.Stores.{IsUnopened, OnlyFailing, form_over};
+ghost use Rattle.commands.specs.Tellings.{telling_of};
 ghost use Rattle.commands.specs.Runs.{IsAskRun, IsBuildRun, IsListRun, IsOverStore, IsServeRun, of_file, opening_of, run_of};
 
 use crate::printing::{print_report, tell_fault};
-use crate::replies::FormatReplies;
 use crate::served::tell_serving;
 use crate::telling::{
     Asked, Teller, print_answer_as, print_report_as, tell_plan_fault, tells_legs,
 };
-use command_line::{Plan, Question, Style, Workers};
+use command_line::{Plan, Question, Workers};
 use disk_model::{Disk, FileFault};
 use feed_basis::Basis;
 use precomputing::Progress;
@@ -27,7 +23,7 @@ use std::alloc::Global;
 use std::io::{BufRead, Write};
 use std::sync::Wait;
 use std::thread::Threads;
-use store_answers::{Served, ask_stored, build, list, serve};
+use store_answers::{ask_stored, build, list, serve};
 use timetable::Rides;
 
 // Why a file isn't opened, as the program tells it.
@@ -54,7 +50,7 @@ pub fn run_list<D: Disk, S: FnOnce(&str) -> Result<D, FileFault>, T: Teller, W: 
 ) -> (u8, Option<D>)
     requires { S.IsAlwaysCallable open_store }
     ensures run { IsOverStore (opening_of (FnOnceReturnsAt S.FnOnce open_store) D.honest D.state D.failures) path.now
-        (IsListRun (telling_of T.tells T.reports T.finds T.replies) plan.now.style basis.now rides)
+        (IsListRun (telling_of T.tells T.reports T.finds) plan.now.style basis.now rides)
         (run_of (W.contents out.old) (W.contents out.new) result.0) result.1 }
     ensures statuses { Contains statuses result.0 }
 {
@@ -106,66 +102,20 @@ pub fn run_build<
     }
 }
 
-// Replies to the questions of the input over the disk of a store, as the plan's style has it.
-fn serve_as<
-    'a,
-    H: Threads + Wait + Sync,
-    D: Disk + Drop + Send,
-    T: Teller + Copy,
-    I: BufRead,
-    W: Write + Drop,
->(
-    alloc: Global,
-    rt: &H,
-    teller: &T,
-    plan: &Plan<'_>,
-    basis: &'a Basis,
-    disk: D,
-    workers: Workers,
-    input: &mut I,
-    out: W,
-) -> (Result<Served<'a>, Fault<'a>>, D, W)
-    ensures served { D.honest disk → MatchResult result.0
-        (IsServing basis.now plan.now.settings.rides (reply_telling (λ format. T.replies format basis.now) plan.now.style)
-        (tells_legs plan.now.style false) (D.state disk) (D.state result.1)
-        (I.remaining input.old) (W.contents out) (W.contents result.2))
-        (IsUnopened (form_over basis.now plan.now.settings.rides) (D.state disk) (D.state result.1)) }
-    ensures kept { IfErr result.0 (λ _. Keeps (W.contents out) (W.contents result.2)) }
-    ensures device { MatchResult result.0 (λ served. IfErr served.built (OnlyFailing (D.failures disk) (D.failures result.1)))
-        (OnlyFailing (D.failures disk) (D.failures result.1)) }
-    ensures honest { D.honest disk ↔ D.honest result.1 }
-{
-    let rides = Rides::new(plan.settings.rides);
-    match plan.style {
-        Style::Lines => serve(alloc, rt, basis, rides, disk, workers, &Lines, input, out),
-        Style::Told(format) => {
-            let replies = FormatReplies {
-                teller: *teller,
-                format,
-                basis,
-                names: teller.names(alloc, plan).ok(),
-            };
-            serve(alloc, rt, basis, rides, disk, workers, &replies, input, out)
-        }
-    }
-}
-
-/// Replies to the questions of the input, line by line, as the plan's style has it, over the file of that path, while workers build the
+/// Replies to the questions of the input, line by line, over the file of that path, while workers build the
 /// trees that it lacks. The output comes back.
 pub fn run_serve<
     H: Threads + Wait + Sync,
     D: Disk + Drop + Send,
     S: FnOnce(&str) -> Result<D, FileFault>,
-    T: Teller + Copy,
     I: BufRead,
     W: Write + Drop,
     E: Write,
 >(
     alloc: Global,
     rt: &H,
-    teller: &T,
-    plan: &Plan<'_>,
     basis: &Basis,
+    rides: Rides,
     path: &str,
     workers: Workers,
     open_store: S,
@@ -175,21 +125,17 @@ pub fn run_serve<
 ) -> (u8, Option<D>, W)
     requires { S.IsAlwaysCallable open_store }
     ensures run { IsOverStore (opening_of (FnOnceReturnsAt S.FnOnce open_store) D.honest D.state D.failures) path.now
-        (IsServeRun (telling_of T.tells T.reports T.finds T.replies) plan.now.style basis.now plan.now.settings.rides
-        (I.remaining input.old))
+        (IsServeRun basis.now rides (I.remaining input.old))
         (run_of (W.contents out) (W.contents result.2) result.0) result.1 }
     ensures statuses { Contains statuses result.0 }
 {
     match open_store(path) {
-        Err(fault) => {
-            let fault = file_fault(fault);
-            (tell_plan_fault(alloc, teller, plan, &fault, err), None, out)
-        }
+        Err(fault) => (tell_fault(&file_fault(fault), err), None, out),
         Ok(disk) => {
-            let (served, disk, out) = serve_as(
-                alloc, rt, teller, plan, basis, disk, workers, input, out,
+            let (served, disk, out) = serve(
+                alloc, rt, basis, rides, disk, workers, &Lines, input, out,
             );
-            let status = tell_serving(alloc, teller, plan, &served, err);
+            let status = tell_serving(&served, err);
             (status, Some(disk), out)
         }
     }
@@ -213,7 +159,7 @@ pub fn run_ask<D: Disk, S: FnOnce(&str) -> Result<D, FileFault>, T: Teller, W: W
 ) -> (u8, Option<D>)
     requires { S.IsAlwaysCallable open_store }
     ensures run { IsOverStore (opening_of (FnOnceReturnsAt S.FnOnce open_store) D.honest D.state D.failures) path.now
-        (IsAskRun (telling_of T.tells T.reports T.finds T.replies) asked.now.plan.style basis.now rides moment question.now legs)
+        (IsAskRun (telling_of T.tells T.reports T.finds) asked.now.plan.style basis.now rides moment question.now legs)
         (run_of (W.contents out.old) (W.contents out.new) result.0) result.1 }
     ensures statuses { Contains statuses result.0 }
 {

@@ -1,6 +1,6 @@
 //! Answers and reports in formats beside their lines: who tells them, and how they are printed.
 
-ghost use Rattle.std.specs.Prelude.{◌≡◌, ℕ, List, Bool, Option, IfOk, IfErr, MatchResult, string_bytes, option_map};
+ghost use Rattle.std.specs.Prelude.{◌≡◌, ℕ, List, Bool, IfOk, IfErr, MatchResult, string_bytes, option_map};
 ghost use Rattle.std.specs.Result.{result_ok};
 ghost use Rattle.std.specs.List.{Contains};
 ghost use Rattle.std.specs.Io.KnownBytes.{Keeps};
@@ -8,9 +8,6 @@ ghost use Rattle.answer_lines.specs.declared.answer.Answer.{Answer};
 ghost use Rattle.answer_lines.specs.declared.report.Report.{Report};
 ghost use Rattle.command_line.specs.declared.format.Format.{Format};
 ghost use Rattle.feed_basis.specs.Basis.{BasisData};
-ghost use Rattle.question_lines.specs.declared.question.Question.{Question};
-ghost use Rattle.serving.specs.Printed.{no_memory};
-ghost use Rattle.serving.specs.declared.reply.Reply.{Reply};
 ghost use Rattle.program_inputs.specs.Faults.{status_of};
 ghost use Rattle.commands.specs.Prints.{statuses};
 ghost use Rattle.commands.specs.Tellings.{IsAnswerText, IsPrintedOf, IsReportText, IsStopsFault, IsStopsText, tells_legs};
@@ -22,7 +19,6 @@ use command_line::{Format, Plan, Style, Task};
 use feed_basis::Basis;
 use program_inputs::{Fault, out_of_memory};
 use question_lines::Question;
-use serving::Reply;
 use std::alloc::{AllocError, Global};
 use std::io::Write;
 
@@ -34,18 +30,13 @@ pub struct Asked<'a> {
     pub leaving: Leaving,
 }
 
-/// Tells answers, reports, replies and faults in formats beside their lines. A text ends with a line's end.
+/// Tells answers, reports and faults in formats beside their lines. A text ends with a line's end.
 pub trait Teller {
-    /// The names that replies are told with.
-    type Names: Drop;
-
     ghost tells: { Format → BasisData → Answer → List ℕ → Type 0 };
 
     ghost reports: { Format → Report → List ℕ → Type 0 };
 
     ghost finds: { List ℕ → List ℕ → Bool → List ℕ → Type 0 };
-
-    ghost replies: { Format → BasisData → Option Question → Reply → List ℕ → Type 0 };
 
     /// The text of an answer in a format. It fails only where memory runs out.
     fn answer(
@@ -79,25 +70,6 @@ pub trait Teller {
     ) -> Result<String, Fault<'static>>
         ensures text { IfOk result (λ lines. finds folder.now text.now all (string_bytes lines)) }
         ensures fault { IfErr result IsStopsFault };
-
-    /// The names that the replies of a plan are told with. It fails only where memory runs out.
-    fn names(&self, alloc: Global, plan: &Plan<'_>) -> Result<Self::Names, AllocError>;
-
-    /// The text of the reply to a line that is this question, or none, in a format. It fails only where memory runs out.
-    fn reply(
-        &self,
-        alloc: Global,
-        format: Format,
-        names: &Self::Names,
-        basis: &Basis,
-        question: &Option<Question<'_>>,
-        reply: &Reply<'_>,
-    ) -> Result<String, AllocError>
-        ensures { IfOk result (λ text. replies format basis.now question.now reply.now (string_bytes text)) };
-
-    /// The text of the reply that memory was refused, in a format. It takes none.
-    fn memory_refused(&self, format: Format) -> &'static str
-        ensures { (basis : BasisData) (question : Option Question) → replies format basis question no_memory result.now };
 
     /// What a fault is told as in a format; none where it is told as in lines.
     fn fault(&self, alloc: Global, format: Format, fault: &Fault<'_>) -> Option<String>;

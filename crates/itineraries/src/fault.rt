@@ -108,21 +108,3 @@ pub fn fault_json<'a>(alloc: Global, fault: &'a Fault<'a>) -> Result<String, All
     );
     json(alloc, &Told { fault: text })
 }
-
-/// A fault of this code and name alone, for what no `Fault` says, as an object of JSON like the others.
-pub fn bare_fault_json<'a>(
-    alloc: Global,
-    code: Option<&'a str>,
-    name: &'a str,
-    status: u8,
-) -> Result<String, AllocError> {
-    let text = FaultText {
-        code,
-        name,
-        file: None,
-        row: None,
-        id: None,
-        status,
-    };
-    json(alloc, &Told { fault: text })
-}

@@ -12,7 +12,7 @@ mod telling;
 mod through;
 
 pub use clock::Clock;
-pub use fault::{bare_fault_json, fault_json};
+pub use fault::fault_json;
 pub use geo::geojson;
 pub use itinerary::{Itinerary, StopList};
 pub use names::{NameSheets, Names};

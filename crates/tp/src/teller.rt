@@ -1,33 +1,20 @@
 //! Answers, reports and faults in formats beside lines, with the names that the feed's folder has.
 
 use answer_lines::{Answer, DayTime, Report};
-use command_line::{Format, Plan, Task};
+use command_line::{Format, Task};
 use commands::{Asked, Teller};
 use feed_basis::Basis;
 use feed_names::open_names;
 use gtfs_tables::{FaultKind, FeedFault, FeedFile};
 use gtfs_text::Sheet;
 use itineraries::{
-    Asked as Question, Clock, NameSheets, bare_fault_json, fault_json, geojson, itinerary_of, json,
-    people_text, stop_list_of,
+    Asked as Question, Clock, NameSheets, fault_json, geojson, itinerary_of, json, people_text,
+    stop_list_of,
 };
 use program_inputs::Fault;
-use question_lines::Question as LineQuestion;
-use serving::{Refusal, Reply};
 use std::alloc::{AllocError, Global};
 use std::format;
 use stop_search::{list_stops, near_stops};
-
-// The reply that memory was refused, for machines. It needs none.
-const MEMORY_REFUSED: &str = "\
-{\"fault\":{\"code\":null,\"name\":\"Memory\",\"file\":null,\"row\":null,\"id\":null,\"status\":7}}\n";
-
-/// What replies are told with: the files that names are read from, and the clock of the zone.
-#[derive(Drop)]
-pub struct ReplyNames {
-    sheets: NameSheets,
-    clock: Clock,
-}
 
 /// Tells answers with names from the files of a feed's folder, which are read for each answer.
 #[derive(Clone, Copy)]
@@ -95,48 +82,13 @@ fn line(text: String) -> Result<String, AllocError> {
     Ok(text)
 }
 
-// The text of the answer to a question, with the names of the sheets.
-fn answer_text(
-    alloc: Global,
-    format: Format,
-    clock: Clock,
-    sheets: &NameSheets,
-    basis: &Basis,
-    asked: &Question<'_>,
-    answer: &Answer,
-) -> Result<String, AllocError> {
-    let itinerary = itinerary_of(alloc, basis, clock, sheets, asked, answer)?;
-    match format {
-        Format::Names => people_text(alloc, &itinerary),
-        Format::Json => line(json(alloc, &itinerary)?),
-        Format::GeoJson => line(geojson(alloc, &itinerary)?),
-    }
-}
-
-// The text of a refusal.
-fn refusal_text(alloc: Global, refusal: &Refusal<'_>) -> Result<String, AllocError> {
-    let json = match refusal {
-        Refusal::BadLine => bare_fault_json(alloc, None, "BadLine", 2),
-        Refusal::BoardRefused => bare_fault_json(alloc, Some("Q4"), "BoardRefused", 6),
-        Refusal::UnknownStop(id) => fault_json(alloc, &Fault::UnknownStop(id)),
-        Refusal::NotCovered => fault_json(alloc, &Fault::NotCovered),
-        Refusal::NotStored(id) => fault_json(alloc, &Fault::NotStored(id)),
-        Refusal::Memory => fault_json(alloc, &Fault::Memory),
-    };
-    line(json?)
-}
-
 // Nothing is claimed of the texts: tests say what they are.
 impl Teller for FolderTeller<'_> {
-    type Names = ReplyNames;
-
     ghost tells = { λ _ _ _ _. Unit {0} };
 
     ghost reports = { λ _ _ _. Unit {0} };
 
     ghost finds = { λ _ _ _ _. Unit {0} };
-
-    ghost replies = { λ _ _ _ _ _. Unit {0} };
 
     fn answer(
         &self,
@@ -158,15 +110,13 @@ impl Teller for FolderTeller<'_> {
             },
         };
         let sheets = self.sheets(alloc, settings.feed)?;
-        answer_text(
-            alloc,
-            format,
-            Clock::of(settings.zone),
-            &sheets,
-            basis,
-            &asked,
-            answer,
-        )
+        let clock = Clock::of(settings.zone);
+        let itinerary = itinerary_of(alloc, basis, clock, &sheets, &asked, answer)?;
+        match format {
+            Format::Names => people_text(alloc, &itinerary),
+            Format::Json => line(json(alloc, &itinerary)?),
+            Format::GeoJson => line(geojson(alloc, &itinerary)?),
+        }
     }
 
     fn report(
@@ -201,52 +151,6 @@ impl Teller for FolderTeller<'_> {
             ))),
             Err(_) => Err(Fault::Memory),
         }
-    }
-
-    fn names(&self, alloc: Global, plan: &Plan<'_>) -> Result<ReplyNames, AllocError> {
-        Ok(ReplyNames {
-            sheets: self.sheets(alloc, plan.settings.feed)?,
-            clock: Clock::of(plan.settings.zone),
-        })
-    }
-
-    fn reply(
-        &self,
-        alloc: Global,
-        format: Format,
-        names: &ReplyNames,
-        basis: &Basis,
-        question: &Option<LineQuestion<'_>>,
-        reply: &Reply<'_>,
-    ) -> Result<String, AllocError> {
-        match (question, reply) {
-            (_, Reply::Refused(refusal)) => refusal_text(alloc, refusal),
-            (None, Reply::Answer(_)) => refusal_text(alloc, &Refusal::BadLine),
-            (Some(question), Reply::Answer(answer)) => {
-                let asked = Question {
-                    command: "serve",
-                    from: question.from,
-                    to: question.to,
-                    departs: DayTime {
-                        date: question.day,
-                        seconds: question.seconds,
-                    },
-                };
-                answer_text(
-                    alloc,
-                    format,
-                    names.clock,
-                    &names.sheets,
-                    basis,
-                    &asked,
-                    answer,
-                )
-            }
-        }
-    }
-
-    fn memory_refused(&self, _format: Format) -> &'static str {
-        MEMORY_REFUSED
     }
 
     fn fault(&self, alloc: Global, format: Format, fault: &Fault<'_>) -> Option<String> {

@@ -1,12 +1,10 @@
 //! A teller of one text.
 
 use answer_lines::{Answer, Report};
-use command_line::{Format, Plan};
+use command_line::Format;
 use commands::{Asked, Teller};
 use feed_basis::Basis;
 use program_inputs::Fault;
-use question_lines::Question;
-use serving::Reply;
 use std::alloc::{AllocError, Global};
 
 /// A teller of this text, or one that runs out of memory.
@@ -23,15 +21,11 @@ impl Saying {
 }
 
 impl Teller for Saying {
-    type Names = ();
-
     ghost tells = { λ _ _ _ _. Unit {0} };
 
     ghost reports = { λ _ _ _. Unit {0} };
 
     ghost finds = { λ _ _ _ _. Unit {0} };
-
-    ghost replies = { λ _ _ _ _ _. Unit {0} };
 
     fn answer(
         &self,
@@ -65,26 +59,6 @@ impl Teller for Saying {
             Ok(text) => Ok(text),
             Err(_) => Err(Fault::Memory),
         }
-    }
-
-    fn names(&self, _alloc: Global, _plan: &Plan<'_>) -> Result<(), AllocError> {
-        Ok(())
-    }
-
-    fn reply(
-        &self,
-        alloc: Global,
-        _format: Format,
-        _names: &(),
-        _basis: &Basis,
-        _question: &Option<Question<'_>>,
-        _reply: &Reply<'_>,
-    ) -> Result<String, AllocError> {
-        self.text(alloc)
-    }
-
-    fn memory_refused(&self, _format: Format) -> &'static str {
-        "no memory\n"
     }
 
     fn fault(&self, alloc: Global, _format: Format, _fault: &Fault<'_>) -> Option<String> {

@@ -42,8 +42,8 @@ pub const LIST: [&str; 10] = [
     "tp", "list", "--feed", "feed", "--date", "20240102", "--rides", "1", "--store", "file",
 ];
 
-/// Replies to questions, told to machines, while one worker builds.
-pub const SERVE: [&str; 14] = [
+/// Replies to questions while one worker builds.
+pub const SERVE: [&str; 12] = [
     "tp",
     "serve",
     "--feed",
@@ -56,6 +56,4 @@ pub const SERVE: [&str; 14] = [
     "file",
     "--workers",
     "1",
-    "--format",
-    "json",
 ];

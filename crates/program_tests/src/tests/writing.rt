@@ -17,10 +17,10 @@ fn no_store(_path: &str) -> Result<MemDisk, FileFault> {
     Err(FileFault::Failed)
 }
 
-// A writer that takes so many bytes and refuses the next.
+/// A writer that takes so many bytes and refuses the next.
 #[derive(Drop)]
-struct Narrow {
-    room: usize,
+pub struct Narrow {
+    pub room: usize,
 }
 
 impl Write for Narrow {
