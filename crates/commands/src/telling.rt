@@ -18,7 +18,6 @@ use answer_lines::{Answer, Report};
 use command_line::{Format, Plan, Style, Task};
 use feed_basis::Basis;
 use program_inputs::{Fault, out_of_memory};
-use question_lines::Question;
 use std::alloc::{AllocError, Global};
 use std::io::Write;
 

@@ -13,13 +13,13 @@ returns-in-Answer-clause-run g c = λ feed h.
     let basis = c.in-Ok.ground.0 in
     let o = opening_of (FnOnceReturnsAt g.S.FnOnce c.args.open_store) g.D.Disk.honest g.D.Disk.state g.D.Disk.failures in
     let t = telling_of g.T.Teller.tells g.T.Teller.reports g.T.Teller.finds in
-    let run = run_of (g.W.Write.contents c.args.out) (g.W.Write.contents c.run_task.new.out) c.run_task.result.0 in
+    let run = run_of (g.W.Write.contents c.args.out) (g.W.Write.contents c.run_task-status.new.out) c.run_task-status.result.0 in
     let errand = subst (λ (e : Errand). IsErrand plan.settings.date.now plan.command e) c.in-Answer.is c.in-Ok.ensures.errand in
-    let done = subst (λ (k : ℕ). IsTaskRun o t plan.style basis k c.moment-moment.result c.in-Answer.task run c.run_task.result.1) c.new-rides.ensures c.run_task.ensures.run in
+    let done = subst (λ (k : ℕ). IsTaskRun o t plan.style basis k c.moment-moment.result c.in-Answer.task run c.run_task-status.result.1) c.new-rides.ensures c.run_task-status.ensures.run in
     inr (
       basis,
       c.in-Ok.ensures.ground feed h,
-      question_run o t (g.I.BufRead.remaining c.args.input.now) plan.style plan.settings basis run c.run_task.result.1 plan.command c.in-Answer.task c.in-Answer.leaving c.moment-moment.result errand c.moment-moment.ensures done,
+      question_run o t (g.I.Read.remaining c.args.input.now) plan.style plan.settings basis run c.run_task-status.result.1 plan.command c.in-Answer.task c.in-Answer.leaving c.moment-moment.result errand c.moment-moment.ensures done,
     )
 
 pub returns-in-Build-clause-run : goal.returns-in-Build-clause-run
@@ -28,10 +28,10 @@ returns-in-Build-clause-run g c = λ feed h.
     let basis = c.in-Ok.ground.0 in
     let o = opening_of (FnOnceReturnsAt g.S.FnOnce c.args.open_store) g.D.Disk.honest g.D.Disk.state g.D.Disk.failures in
     let t = telling_of g.T.Teller.tells g.T.Teller.reports g.T.Teller.finds in
-    let run = run_of (g.W.Write.contents c.args.out) (g.W.Write.contents c.run_build.new.out) c.run_build.result.0 in
+    let run = run_of (g.W.Write.contents c.args.out) (g.W.Write.contents c.run_build-status.new.out) c.run_build-status.result.0 in
     let errand = subst (λ (e : Errand). IsErrand plan.settings.date.now plan.command e) c.in-Build.is c.in-Ok.ensures.errand in
-    let done = subst (λ (k : ℕ). IsOverStore o c.in-Build.path.now (IsBuildRun basis k) run c.run_build.result.1) c.new-rides.ensures c.run_build.ensures.run in
-    inr (basis, c.in-Ok.ensures.ground feed h, build_run o t (g.I.BufRead.remaining c.args.input.now) plan.style plan.settings basis run c.run_build.result.1 plan.command c.in-Build.path c.in-Build.workers errand done)
+    let done = subst (λ (k : ℕ). IsOverStore o c.in-Build.path.now (IsBuildRun basis k) run c.run_build-status.result.1) c.new-rides.ensures c.run_build-status.ensures.run in
+    inr (basis, c.in-Ok.ensures.ground feed h, build_run o t (g.I.Read.remaining c.args.input.now) plan.style plan.settings basis run c.run_build-status.result.1 plan.command c.in-Build.path c.in-Build.workers errand done)
 
 pub returns-in-List-clause-run : goal.returns-in-List-clause-run
 returns-in-List-clause-run g c = λ feed h.
@@ -39,16 +39,16 @@ returns-in-List-clause-run g c = λ feed h.
     let basis = c.in-Ok.ground.0 in
     let o = opening_of (FnOnceReturnsAt g.S.FnOnce c.args.open_store) g.D.Disk.honest g.D.Disk.state g.D.Disk.failures in
     let t = telling_of g.T.Teller.tells g.T.Teller.reports g.T.Teller.finds in
-    let run = run_of (g.W.Write.contents c.args.out) (g.W.Write.contents c.run_list.new.out) c.run_list.result.0 in
+    let run = run_of (g.W.Write.contents c.args.out) (g.W.Write.contents c.run_list-status.new.out) c.run_list-status.result.0 in
     let errand = subst (λ (e : Errand). IsErrand plan.settings.date.now plan.command e) c.in-List.is c.in-Ok.ensures.errand in
-    let done = subst (λ (k : ℕ). IsOverStore o c.in-List.path.now (IsListRun t plan.style basis k) run c.run_list.result.1) c.new-rides.ensures c.run_list.ensures.run in
-    inr (basis, c.in-Ok.ensures.ground feed h, list_run o t (g.I.BufRead.remaining c.args.input.now) plan.style plan.settings basis run c.run_list.result.1 plan.command c.in-List.path errand done)
+    let done = subst (λ (k : ℕ). IsOverStore o c.in-List.path.now (IsListRun t plan.style basis k) run c.run_list-status.result.1) c.new-rides.ensures c.run_list-status.ensures.run in
+    inr (basis, c.in-Ok.ensures.ground feed h, list_run o t (g.I.Read.remaining c.args.input.now) plan.style plan.settings basis run c.run_list-status.result.1 plan.command c.in-List.path errand done)
 
 pub returns-clause-run : goal.returns-clause-run
 returns-clause-run g c = λ feed h.
     let plan = c.args.plan.now in
     let basis = c.in-Ok.ground.0 in
-    let input = g.I.BufRead.remaining c.args.input.now in
+    let input = g.I.Read.remaining c.args.input.now in
     let o = opening_of (FnOnceReturnsAt g.S.FnOnce c.args.open_store) g.D.Disk.honest g.D.Disk.state g.D.Disk.failures in
     let t = telling_of g.T.Teller.tells g.T.Teller.reports g.T.Teller.finds in
     let run = run_of (g.W.Write.contents c.args.out) (g.W.Write.contents c.run_serve.result.2) c.run_serve.result.0 in

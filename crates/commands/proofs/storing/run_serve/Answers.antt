@@ -15,7 +15,7 @@ returns-in-Ok-clause-run g c =
       opened = gave_at g.S.FnOnce c.open_store.ensures c.in-Ok.is;
       given_back = refl;
       honest = c.serve-served.ensures.honest;
-      uses = λ honest. serving_told c.args.basis.now c.args.rides (g.I.BufRead.remaining c.args.input.now) old new
+      uses = λ honest. serving_told c.args.basis.now c.args.rides (g.I.Read.remaining c.args.input.now) old new
           (g.W.Write.contents c.args.out) (g.W.Write.contents c.serve-served.result.2) fails c.serve-served.result.0 c.tell_serving-status.result
           (c.serve-served.ensures.served honest) c.serve-served.ensures.kept c.serve-served.ensures.device c.tell_serving-status.ensures.status;
     })
