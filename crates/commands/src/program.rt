@@ -33,8 +33,8 @@ fn shows_progress(plan: &Plan<'_>) -> bool {
 /// not at all; `teller` has the texts of formats beside lines, and of stops that are listed. A build has its workers in threads of `rt`.
 /// Questions that are asked line by line stand in `input`. The answer goes to `out`, a fault to `err`.
 ///
-/// Gives the status to end with, the disk of the store where it was opened, and the output. Ids are looked up under `keys`: where the system gave no
-/// randomness for them, that is the fault.
+/// Gives the status to end with, the disk of the store where it was opened, and the output. Ids are looked up under `keys`: where the
+/// system gave no randomness for them, that is the fault.
 pub fn run_words<
     'a,
     H: Threads + Wait + Sync,
