@@ -19,7 +19,7 @@ const FAULTS: &str = "\
 Example: tp scan --feed demo/feed-m --date 20240102 --from A --to D --at 08:00:00
 
 An answer is lines of ids. With --names, scan and ask tell rides and walks with names, for people;
-with --format json, direct, scan and ask answer in JSON, and with --format geojson for a map.
+with --format json, direct, scan, ask and serve answer in JSON, with --format geojson for a map.
 
 A fault is a line on standard error, its code and name; for a fault of the feed with the file and
 the row, where row 0 is the header or the whole file:
@@ -96,9 +96,11 @@ const SERVE: &str = "Replies to questions line by line, while the missing trees 
 const SERVE_MORE: &str = "\
 Each line of standard input is a question: the ids of two stops or stations, a date and a time, with
 a tab between each and the next. The reply is what ask prints, or `refused` and why there is no
-answer, and then a line with a dot alone; it is written before the next line is read. A stop whose
-tree isn't stored yet is refused as Q3 NotStored: ask again later. At the end of the input no new
-tree is begun, and `stored N of M` is told on standard error; the status is 3 where trees are missing.
+answer, and then a line with a dot alone; it is written before the next line is read. With --format
+json or geojson each reply is one line: what ask prints in that format, or a fault as an object. A
+stop whose tree isn't stored yet is refused as Q3 NotStored: ask again later. At the end of the
+input no new tree is begun, and `stored N of M` is told on standard error; the status is 3 where
+trees are missing.
 
 Example: tp serve --feed demo/feed-m --date 20240102 --store demo.store < questions.tsv";
 
@@ -272,7 +274,10 @@ fn serve<'a>(alloc: Global) -> Result<Command<'a>, Error>
     ensures local { IfOk result (λ c. (fields_of c).has_globals ≡ false) }
     ensures err { IfErr result (λ e. kind_of e ≡ OutOfMemory) }
 {
-    building(alloc, "serve", SERVE, SERVE_MORE)
+    let command = building(alloc, "serve", SERVE, SERVE_MORE)?.arg(optional(
+        alloc, "format", "FORMAT", FORMAT,
+    ))?;
+    Ok(command)
 }
 
 // The command that answers from pattern trees.

@@ -9,7 +9,7 @@ use Rattle.command_line.specs.declared.workers.Workers.{Workers}
 use Rattle.program_inputs.specs.declared.settings.Settings.{Settings}
 use Rattle.feed_basis.specs.Basis.{BasisData}
 use Rattle.commands.specs.Errands.{IsErrand}
-use Rattle.commands.specs.Runs.{IsBuildRun, IsCommandRun, IsListRun, IsOverStore, IsServeRun, IsTaskRun, Opening, Run}
+use Rattle.commands.specs.Runs.{IsBuildRun, IsCommandRun, IsListRun, IsOverStore, IsServeIn, IsTaskRun, Opening, Run}
 use Rattle.commands.specs.Tellings.{Telling}
 use Rattle.commands.specs.Words.{HasWords}
 use Rattle.commands.specs.declared.errand.Errand.{Errand}
@@ -57,10 +57,10 @@ module _ {D : Type 0} (o : Opening D) (t : Telling) (input : Option (List ℕ)) 
   list_run (commands.Serve store workers) path h done = absurd h
 
   pub serve_run : (command : Command) (path : Bor (List ℕ)) (workers : Workers) → IsErrand settings.date.now command (errands.Serve path workers)
-      → IsOverStore o path.now (IsServeRun basis settings.rides input) run disk
+      → IsServeIn o t style basis settings.rides input path.now run disk
       → IsCommandRun o t input style settings basis command run disk
   serve_run (commands.Serve store asked) path workers h done =
-      subst (λ p. IsOverStore o p (IsServeRun basis settings.rides input) run disk) h.0 done
+      subst (λ p. IsServeIn o t style basis settings.rides input p run disk) h.0 done
   serve_run (commands.Answer task) path workers h done = absurd h
   serve_run (commands.Build store asked progress) path workers h done = absurd h
   serve_run (commands.List store) path workers h done = absurd h

@@ -6,6 +6,7 @@ use Rattle.disk_model.specs.declared.fault.FileFault.TheVariants as files
 use Rattle.gtfs_tables.specs.Feed.{Feed}
 use Rattle.recovery.specs.declared.fault.RecoverFault.TheVariants.{Device}
 use Rattle.command_line.specs.declared.format.Style.{Style}
+use Rattle.command_line.specs.declared.format.Style.TheVariants as styles
 use Rattle.command_line.specs.declared.job.Command.{Command}
 use Rattle.command_line.specs.declared.job.Command.TheVariants as commands
 use Rattle.command_line.specs.declared.job.Plan.{Plan}
@@ -26,13 +27,13 @@ use Rattle.answering.specs.Refusals.{IsUnanswered, NoneMissing}
 use Rattle.store_answers.specs.Asked.{IsStoredAnswer, IsStoredRefusal}
 use Rattle.store_answers.specs.Builds.{IsBuilt, IsUnbuilt}
 use Rattle.store_answers.specs.Listings.{IsListed, IsUnlisted}
-use Rattle.serving.specs.Tellings.{line_telling}
+use Rattle.serving.specs.Tellings.{Telling as ReplyTelling}
 use Rattle.store_answers.specs.Replies.{IsServing}
 use Rattle.store_answers.specs.Stores.{IsUnopened, OnlyFailing, form_over}
 use Rattle.store_answers.specs.declared.served.Served.{Served}
 use Rattle.commands.specs.Feeds.{IsGround, IsGroundFault, LeavesAt}
 use Rattle.commands.specs.Prints.{AreReportLines, IsFaulted, IsPrint, served_status}
-use Rattle.commands.specs.Tellings.{IsAnswerPrint, IsReportPrint, Telling, tells_legs}
+use Rattle.commands.specs.Tellings.{IsAnswerPrint, IsReportPrint, Telling, tells_legs, tells_reply}
 
 -- a run: standard output before it and after it, and its status
 pub record Run : Type 0 where
@@ -119,16 +120,30 @@ IsListRun t style basis k old new MayTell run =
     run.before run.after run.status
 
 -- questions of an input were replied to, while what a store lacks was built, and the status tells how both ended
-pub record IsServedRun (basis : BasisData) (k : ℕ) (input : Option (List ℕ)) (old new : State) (MayTell : Fault → Type 0) (run : Run) : Type 0 where
+pub record IsServedRun (tells : ReplyTelling) (wanted : Bool) (basis : BasisData) (k : ℕ) (input : Option (List ℕ)) (old new : State)
+    (MayTell : Fault → Type 0) (run : Run) : Type 0 where
   pub served : Served
-  pub serving : IsServing basis k (λ question reply text. line_telling question reply text) false old new input run.before run.after served
+  pub serving : IsServing basis k tells wanted old new input run.before run.after served
   pub may_tell : IfErr served.built MayTell
   pub said : run.status ≡ served_status served
 
 -- the same, or the store isn't opened
-abbrev pub IsServeRun : BasisData → ℕ → Option (List ℕ) → Use
-IsServeRun basis k input old new MayTell run =
-    IsServedRun basis k input old new MayTell run ⊎ Tells (λ fault. IsUnopened (form_over basis k) old new fault × MayTell fault) run
+abbrev pub IsServeRun : ReplyTelling → Bool → BasisData → ℕ → Option (List ℕ) → Use
+IsServeRun tells wanted basis k input old new MayTell run =
+    IsServedRun tells wanted basis k input old new MayTell run
+    ⊎ Tells (λ fault. IsUnopened (form_over basis k) old new fault × MayTell fault) run
+
+-- memory ran out before the file of the store was opened, which only what a format tells can bring about
+abbrev pub IsNoLookup : {D : Type 0} → Style → Run → Option D → Type 0
+IsNoLookup styles.Lines run disk = ⊥
+IsNoLookup (styles.Told format) run disk = Tells (λ fault. fault ≡ faults.Memory) run × (disk ≡ None)
+
+-- questions of an input, over the file of that path, with the replies in a style
+abbrev pub IsServeIn : {D : Type 0} → Opening D → Telling → Style → BasisData → ℕ → Option (List ℕ) → List ℕ → Run → Option D → Type 0
+IsServeIn o t style basis k input path run disk =
+    IsNoLookup style run disk
+    ⊎ IsOverStore o path
+    (IsServeRun (λ question reply text. tells_reply t style basis question reply text) (tells_legs style false) basis k input) run disk
 
 -- a question, over the timetable, at the moment of its words
 abbrev pub IsTaskRun : {D : Type 0} → Opening D → Telling → Style → BasisData → ℕ → Option ℕ → Task → Run → Option D → Type 0
@@ -148,7 +163,7 @@ IsCommandRun o t input style settings basis (commands.Build store workers progre
 IsCommandRun o t input style settings basis (commands.List store) run disk =
     IsOverStore o store.now (IsListRun t style basis settings.rides) run disk
 IsCommandRun o t input style settings basis (commands.Serve store workers) run disk =
-    IsOverStore o store.now (IsServeRun basis settings.rides input) run disk
+    IsServeIn o t style basis settings.rides input store.now run disk
 
 -- What a run leaves, in the order in which faults are looked for: the words, the feed and its days; then the store, and then the question.
 -- The store is opened only where the feed and its days are without fault.

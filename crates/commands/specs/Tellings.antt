@@ -13,18 +13,25 @@ use Rattle.program_inputs.specs.declared.fault.Fault.{Fault}
 use Rattle.program_inputs.specs.declared.fault.Fault.TheVariants as faults
 use Rattle.feed_basis.specs.Basis.{BasisData}
 use Rattle.gtfs_rows.specs.declared.fault.FeedFault.{FeedFault}
+use Rattle.serving.specs.Tellings.{Telling as ReplyTelling, line_telling}
 use Rattle.commands.specs.Prints.{AreAnswerLines, AreReportLines, IsPrint, IsTextPrinted}
 use denote.Ref.{Bor}
 
--- What texts may tell an answer or a report in a format, over a basis, and which lines may list stops.
+-- What texts may tell an answer, a report or a reply in a format, over a basis, and which lines may list stops.
 pub record Telling : Type 1 where
   pub tells : Format → BasisData → Answer → List ℕ → Type 0
   pub reports : Format → Report → List ℕ → Type 0
   pub finds : List ℕ → List ℕ → Bool → List ℕ → Type 0
+  pub replies : Format → BasisData → ReplyTelling
 
 abbrev pub telling_of : (Format → BasisData → Answer → List ℕ → Type 0) → (Format → Report → List ℕ → Type 0)
-    → (List ℕ → List ℕ → Bool → List ℕ → Type 0) → Telling
-telling_of tells reports finds = record { tells = tells; reports = reports; finds = finds }
+    → (List ℕ → List ℕ → Bool → List ℕ → Type 0) → (Format → BasisData → ReplyTelling) → Telling
+telling_of tells reports finds replies = record { tells = tells; reports = reports; finds = finds; replies = replies }
+
+-- a reply in a style: as lines, or as a format has it
+abbrev pub tells_reply : Telling → Style → BasisData → ReplyTelling
+tells_reply t styles.Lines basis question reply text = line_telling question reply text
+tells_reply t (styles.Told format) basis question reply text = t.replies format basis question reply text
 
 -- such a text stands on standard output, or is cut off; or memory ran out as it was made, and nothing was written
 abbrev pub IsTold : (List ℕ → Type 0) → Option (List ℕ) → Option (List ℕ) → ℕ → Type 0

@@ -6,6 +6,7 @@ mod checking;
 mod errand;
 mod printing;
 mod program;
+mod replies;
 mod running;
 mod served;
 mod storing;

@@ -68,7 +68,7 @@ pub fn run_words<
     requires store { S.IsAlwaysCallable open_store }
     requires progress { M.IsAlwaysCallable progress }
     ensures { IsProgramRun (opening_of (FnOnceReturnsAt S.FnOnce open_store) D.honest D.state D.failures)
-        (telling_of T.tells T.reports T.finds) (I.remaining input.old)
+        (telling_of T.tells T.reports T.finds T.replies) (I.remaining input.old)
         (FnOnceReturnsAt O.FnOnce open_feed) (AreReaders R.remaining) (FnOnceReturnsAt L.FnOnce list_folder) (is_some keys)
         (map (λ word. word.now) words.entry.now)
         (run_of (W.contents out) (W.contents result.2) result.0) result.1 }

@@ -41,7 +41,7 @@ fn run_task<D: Disk, S: FnOnce(&str) -> Result<D, FileFault>, T: Teller, W: Writ
 ) -> (u8, Option<D>)
     requires { S.IsAlwaysCallable open_store }
     ensures run { IsTaskRun (opening_of (FnOnceReturnsAt S.FnOnce open_store) D.honest D.state D.failures)
-        (telling_of T.tells T.reports T.finds) asked.now.plan.style basis.now rides moment asked.now.task
+        (telling_of T.tells T.reports T.finds T.replies) asked.now.plan.style basis.now rides moment asked.now.task
         (run_of (W.contents out.old) (W.contents out.new) result.0) result.1 }
     ensures statuses { Contains statuses result.0 }
 {
@@ -135,7 +135,7 @@ pub fn run<
     requires { S.IsAlwaysCallable open_store }
     ensures run { (feed : Feed) → AreReaders R.remaining files feed
         → IsRun (opening_of (FnOnceReturnsAt S.FnOnce open_store) D.honest D.state D.failures)
-        (telling_of T.tells T.reports T.finds) (I.remaining input.old) (is_some keys) feed plan.now
+        (telling_of T.tells T.reports T.finds T.replies) (I.remaining input.old) (is_some keys) feed plan.now
         (run_of (W.contents out) (W.contents result.2) result.0) result.1 }
     ensures statuses { Contains statuses result.0 }
 {
@@ -171,7 +171,7 @@ pub fn run<
             (status, disk, out)
         }
         Errand::Serve { path, workers } => run_serve(
-            alloc, rt, &basis, rides, path, workers, open_store, input, out, err,
+            alloc, rt, teller, plan, &basis, rides, path, workers, open_store, input, out, err,
         ),
     }
 }

@@ -5,15 +5,23 @@ ghost use Rattle.std.specs.List.{Contains};
 ghost use Rattle.program_inputs.specs.Faults.{status_of};
 ghost use Rattle.commands.specs.Prints.{built_status, served_status, statuses};
 
-use crate::printing::tell_fault;
+use crate::telling::{Teller, tell_plan_fault};
 use answer_lines::Report;
+use command_line::Plan;
 use program_inputs::{Fault, out_of_memory, unwritten};
 use serving::End;
+use std::alloc::Global;
 use std::io::Write;
 use store_answers::Served;
 
 // Tells on `err` how many trees the file has, or why the build came to an early end. Gives the status of that.
-fn tell_built<E: Write>(built: &Result<Report<'_>, Fault<'_>>, err: &mut E) -> u8
+fn tell_built<T: Teller, E: Write>(
+    alloc: Global,
+    teller: &T,
+    plan: &Plan<'_>,
+    built: &Result<Report<'_>, Fault<'_>>,
+    err: &mut E,
+) -> u8
     ensures status { result ≡ built_status built.now }
     ensures statuses { Contains statuses result }
 {
@@ -24,16 +32,22 @@ fn tell_built<E: Write>(built: &Result<Report<'_>, Fault<'_>>, err: &mut E) -> u
             }
             report.status()
         }
-        Err(fault) => tell_fault(fault, err),
+        Err(fault) => tell_plan_fault(alloc, teller, plan, fault, err),
     }
 }
 
 // Tells on `err` how replies and the build beside them ended. Gives the status.
-fn tell_served<E: Write>(served: &Served<'_>, err: &mut E) -> u8
+fn tell_served<T: Teller, E: Write>(
+    alloc: Global,
+    teller: &T,
+    plan: &Plan<'_>,
+    served: &Served<'_>,
+    err: &mut E,
+) -> u8
     ensures status { result ≡ served_status served.now }
     ensures statuses { Contains statuses result }
 {
-    let built = tell_built(&served.built, err);
+    let built = tell_built(alloc, teller, plan, &served.built, err);
     match served.end {
         End::AllRead => built,
         End::Unread => {
@@ -45,13 +59,20 @@ fn tell_served<E: Write>(served: &Served<'_>, err: &mut E) -> u8
     }
 }
 
-/// Tells on `err` how replies and the build beside them ended, or why the store wasn't opened. Gives the status.
-pub fn tell_serving<E: Write>(served: &Result<Served<'_>, Fault<'_>>, err: &mut E) -> u8
+/// Tells on `err` how replies and the build beside them ended, or why the store wasn't opened; a fault as the plan's style has it. Gives
+/// the status.
+pub fn tell_serving<T: Teller, E: Write>(
+    alloc: Global,
+    teller: &T,
+    plan: &Plan<'_>,
+    served: &Result<Served<'_>, Fault<'_>>,
+    err: &mut E,
+) -> u8
     ensures status { MatchResult served.now (λ served. result ≡ served_status served) (λ fault. result ≡ status_of fault) }
     ensures statuses { Contains statuses result }
 {
     match served {
-        Ok(served) => tell_served(served, err),
-        Err(fault) => tell_fault(fault, err),
+        Ok(served) => tell_served(alloc, teller, plan, served, err),
+        Err(fault) => tell_plan_fault(alloc, teller, plan, fault, err),
     }
 }

@@ -5,20 +5,21 @@ ghost use Rattle.std.specs.Fn.{FnOnceReturnsAt};
 ghost use Rattle.std.specs.List.{Contains};
 ghost use Rattle.commands.specs.Prints.{statuses};
 ghost use Rattle.commands.specs.Tellings.{telling_of};
-ghost use Rattle.commands.specs.Runs.{IsAskRun, IsBuildRun, IsListRun, IsOverStore, IsServeRun, of_file, opening_of, run_of};
+ghost use Rattle.commands.specs.Runs.{IsAskRun, IsBuildRun, IsListRun, IsOverStore, IsServeIn, IsServeRun, of_file, opening_of, run_of};
 
 use crate::printing::{print_report, tell_fault};
+use crate::replies::FormatReplies;
 use crate::served::tell_serving;
 use crate::telling::{
     Asked, Teller, print_answer_as, print_report_as, tell_plan_fault, tells_legs,
 };
-use command_line::{Plan, Question, Workers};
+use command_line::{Plan, Question, Style, Workers};
 use disk_model::{Disk, FileFault};
 use feed_basis::Basis;
 use precomputing::Progress;
 use program_inputs::Fault;
 use recovery::RecoverFault;
-use serving::Lines;
+use serving::{Lines, ReplyTeller};
 use std::alloc::Global;
 use std::io::{BufRead, Write};
 use std::sync::Wait;
@@ -50,7 +51,7 @@ pub fn run_list<D: Disk, S: FnOnce(&str) -> Result<D, FileFault>, T: Teller, W: 
 ) -> (u8, Option<D>)
     requires { S.IsAlwaysCallable open_store }
     ensures run { IsOverStore (opening_of (FnOnceReturnsAt S.FnOnce open_store) D.honest D.state D.failures) path.now
-        (IsListRun (telling_of T.tells T.reports T.finds) plan.now.style basis.now rides)
+        (IsListRun (telling_of T.tells T.reports T.finds T.replies) plan.now.style basis.now rides)
         (run_of (W.contents out.old) (W.contents out.new) result.0) result.1 }
     ensures statuses { Contains statuses result.0 }
 {
@@ -102,18 +103,22 @@ pub fn run_build<
     }
 }
 
-/// Replies to the questions of the input, line by line, over the file of that path, while workers build the
-/// trees that it lacks. The output comes back.
-pub fn run_serve<
+// Replies to the questions of the input over the file of that path, as `replies` tells them. The output comes back.
+fn serve_by<
     H: Threads + Wait + Sync,
     D: Disk + Drop + Send,
     S: FnOnce(&str) -> Result<D, FileFault>,
+    T: Teller,
+    R: ReplyTeller,
     I: BufRead,
     W: Write + Drop,
     E: Write,
 >(
     alloc: Global,
     rt: &H,
+    teller: &T,
+    plan: &Plan<'_>,
+    replies: &R,
     basis: &Basis,
     rides: Rides,
     path: &str,
@@ -125,20 +130,77 @@ pub fn run_serve<
 ) -> (u8, Option<D>, W)
     requires { S.IsAlwaysCallable open_store }
     ensures run { IsOverStore (opening_of (FnOnceReturnsAt S.FnOnce open_store) D.honest D.state D.failures) path.now
-        (IsServeRun basis.now rides (I.remaining input.old))
+        (IsServeRun (λ question reply text. R.tells replies.now basis.now question reply text) (R.tells_legs replies.now)
+        basis.now rides (I.remaining input.old))
         (run_of (W.contents out) (W.contents result.2) result.0) result.1 }
     ensures statuses { Contains statuses result.0 }
 {
     match open_store(path) {
-        Err(fault) => (tell_fault(&file_fault(fault), err), None, out),
+        Err(fault) => {
+            let fault = file_fault(fault);
+            (tell_plan_fault(alloc, teller, plan, &fault, err), None, out)
+        }
         Ok(disk) => {
             let (served, disk, out) = serve(
-                alloc, rt, basis, rides, disk, workers, &Lines, input, out,
+                alloc, rt, basis, rides, disk, workers, replies, input, out,
             );
-            let status = tell_serving(&served, err);
+            let status = tell_serving(alloc, teller, plan, &served, err);
             (status, Some(disk), out)
         }
     }
+}
+
+/// Replies to the questions of the input, line by line, as the plan's style has the replies, over the file of that path, while workers
+/// build the trees that it lacks. What a format tells is looked up before the file is opened. The output comes back.
+pub fn run_serve<
+    H: Threads + Wait + Sync,
+    D: Disk + Drop + Send,
+    S: FnOnce(&str) -> Result<D, FileFault>,
+    T: Teller,
+    I: BufRead,
+    W: Write + Drop,
+    E: Write,
+>(
+    alloc: Global,
+    rt: &H,
+    teller: &T,
+    plan: &Plan<'_>,
+    basis: &Basis,
+    rides: Rides,
+    path: &str,
+    workers: Workers,
+    open_store: S,
+    input: &mut I,
+    out: W,
+    err: &mut E,
+) -> (u8, Option<D>, W)
+    requires { S.IsAlwaysCallable open_store }
+    ensures run { IsServeIn (opening_of (FnOnceReturnsAt S.FnOnce open_store) D.honest D.state D.failures)
+        (telling_of T.tells T.reports T.finds T.replies) plan.now.style basis.now rides (I.remaining input.old) path.now
+        (run_of (W.contents out) (W.contents result.2) result.0) result.1 }
+    ensures statuses { Contains statuses result.0 }
+{
+    let format = match plan.style {
+        Style::Lines => {
+            return serve_by(
+                alloc, rt, teller, plan, &Lines, basis, rides, path, workers, open_store, input,
+                out, err,
+            );
+        }
+        Style::Told(format) => format,
+    };
+    let Ok(lookup) = teller.lookup(alloc, plan) else {
+        let status = tell_plan_fault(alloc, teller, plan, &Fault::Memory, err);
+        return (status, None, out);
+    };
+    let replies = FormatReplies {
+        teller: *teller,
+        format,
+        lookup,
+    };
+    serve_by(
+        alloc, rt, teller, plan, &replies, basis, rides, path, workers, open_store, input, out, err,
+    )
 }
 
 /// Answers a question between places from the trees that the file of that path has, for one who leaves at the moment, as the plan's style
@@ -159,7 +221,7 @@ pub fn run_ask<D: Disk, S: FnOnce(&str) -> Result<D, FileFault>, T: Teller, W: W
 ) -> (u8, Option<D>)
     requires { S.IsAlwaysCallable open_store }
     ensures run { IsOverStore (opening_of (FnOnceReturnsAt S.FnOnce open_store) D.honest D.state D.failures) path.now
-        (IsAskRun (telling_of T.tells T.reports T.finds) asked.now.plan.style basis.now rides moment question.now legs)
+        (IsAskRun (telling_of T.tells T.reports T.finds T.replies) asked.now.plan.style basis.now rides moment question.now legs)
         (run_of (W.contents out.old) (W.contents out.new) result.0) result.1 }
     ensures statuses { Contains statuses result.0 }
 {

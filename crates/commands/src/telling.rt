@@ -1,6 +1,6 @@
 //! Answers and reports in formats beside their lines: who tells them, and how they are printed.
 
-ghost use Rattle.std.specs.Prelude.{◌≡◌, ℕ, List, Bool, IfOk, IfErr, MatchResult, string_bytes, option_map};
+ghost use Rattle.std.specs.Prelude.{◌≡◌, ℕ, List, Bool, Option, IfOk, IfErr, MatchResult, string_bytes, option_map};
 ghost use Rattle.std.specs.Result.{result_ok};
 ghost use Rattle.std.specs.List.{Contains};
 ghost use Rattle.std.specs.Io.KnownBytes.{Keeps};
@@ -9,6 +9,9 @@ ghost use Rattle.answer_lines.specs.declared.report.Report.{Report};
 ghost use Rattle.command_line.specs.declared.format.Format.{Format};
 ghost use Rattle.feed_basis.specs.Basis.{BasisData};
 ghost use Rattle.program_inputs.specs.Faults.{status_of};
+ghost use Rattle.question_lines.specs.declared.question.Question.{Question};
+ghost use Rattle.serving.specs.Printed.{no_memory};
+ghost use Rattle.serving.specs.Tellings.{Telling};
 ghost use Rattle.commands.specs.Prints.{statuses};
 ghost use Rattle.commands.specs.Tellings.{IsAnswerText, IsPrintedOf, IsReportText, IsStopsFault, IsStopsText, tells_legs};
 
@@ -18,6 +21,8 @@ use answer_lines::{Answer, Report};
 use command_line::{Format, Plan, Style, Task};
 use feed_basis::Basis;
 use program_inputs::{Fault, out_of_memory};
+use question_lines::Question;
+use serving::Reply;
 use std::alloc::{AllocError, Global};
 use std::io::Write;
 
@@ -29,13 +34,18 @@ pub struct Asked<'a> {
     pub leaving: Leaving,
 }
 
-/// Tells answers, reports and faults in formats beside their lines. A text ends with a line's end.
-pub trait Teller {
+/// Tells answers, reports, replies and faults in formats beside their lines. A text ends with a line's end.
+pub trait Teller: Copy {
+    /// What names and times of replies are looked up in.
+    type Lookup: Drop;
+
     ghost tells: { Format → BasisData → Answer → List ℕ → Type 0 };
 
     ghost reports: { Format → Report → List ℕ → Type 0 };
 
     ghost finds: { List ℕ → List ℕ → Bool → List ℕ → Type 0 };
+
+    ghost replies: { Format → BasisData → Telling };
 
     /// The text of an answer in a format. It fails only where memory runs out.
     fn answer(
@@ -69,6 +79,25 @@ pub trait Teller {
     ) -> Result<String, Fault<'static>>
         ensures text { IfOk result (λ lines. finds folder.now text.now all (string_bytes lines)) }
         ensures fault { IfErr result IsStopsFault };
+
+    /// What replies over the plan's feed are looked up in, made once for all of them. It fails only where memory runs out.
+    fn lookup(&self, alloc: Global, plan: &Plan<'_>) -> Result<Self::Lookup, AllocError>;
+
+    /// The text of a reply in a format, to a line that is this question, or none. It fails only where memory runs out.
+    fn reply(
+        &self,
+        alloc: Global,
+        format: Format,
+        lookup: &Self::Lookup,
+        basis: &Basis,
+        question: &Option<Question<'_>>,
+        reply: &Reply<'_>,
+    ) -> Result<String, AllocError>
+        ensures { IfOk result (λ text. replies format basis.now question.now reply.now (string_bytes text)) };
+
+    /// The text in a format of the reply that memory was refused. It takes none.
+    fn memory_refused(&self, format: Format) -> &'static str
+        ensures { (basis : BasisData) → (question : Option Question) → replies format basis question no_memory result.now };
 
     /// What a fault is told as in a format; none where it is told as in lines.
     fn fault(&self, alloc: Global, format: Format, fault: &Fault<'_>) -> Option<String>;

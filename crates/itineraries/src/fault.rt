@@ -94,6 +94,13 @@ fn text_of<'a>(
     }
 }
 
+/// A fault that is shown so, of no file and no id, with the status that it goes with, as an object of JSON, on one line, without a line's
+/// end. It fails only where memory runs out.
+pub fn named_fault_json(alloc: Global, shown: &str, status: u8) -> Result<String, AllocError> {
+    let text = text_of(shown, None, None, None, status);
+    json(alloc, &Told { fault: text })
+}
+
 /// A fault as an object of JSON, on one line, without a line's end. It fails only where memory runs out.
 pub fn fault_json<'a>(alloc: Global, fault: &'a Fault<'a>) -> Result<String, AllocError> {
     let shown = format!(in alloc; "{fault}")?;

@@ -12,14 +12,14 @@ mod telling;
 mod through;
 
 pub use clock::Clock;
-pub use fault::fault_json;
+pub use fault::{fault_json, named_fault_json};
 pub use geo::geojson;
 pub use itinerary::{Itinerary, StopList};
 pub use names::{NameSheets, Names};
 pub use people::people_text;
 use serde::Serialize;
 use std::alloc::{AllocError, Global};
-pub use telling::{Asked, itinerary_of, stop_list_of};
+pub use telling::{Asked, itinerary_by, itinerary_of, stop_list_of};
 
 /// A value as JSON, on one line, without a line's end. It fails only where memory runs out.
 pub fn json<T: Serialize>(alloc: Global, value: &T) -> Result<String, AllocError> {

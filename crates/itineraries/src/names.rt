@@ -4,7 +4,7 @@ use crate::itinerary::{Place, Route, Trip};
 use feed_names::{NamedRow, RouteName, StopName, TripName, names_of};
 use gtfs_text::Sheet;
 use std::alloc::{AllocError, Global};
-use std::collections::BTreeMap;
+use std::collections::{BTreeMap, BTreeSet};
 
 /// The sheets of a feed that names are read from, where they are there.
 #[derive(Drop)]
@@ -15,11 +15,11 @@ pub struct NameSheets {
 }
 
 // What a file tells people of each of these ids.
-fn table_of<'a, T: NamedRow>(
+fn table_of<T: NamedRow>(
     alloc: Global,
     sheet: &Option<Sheet>,
-    ids: &[&'a str],
-) -> Result<BTreeMap<&'a str, T>, AllocError> {
+    ids: &[&str],
+) -> Result<BTreeMap<String, T>, AllocError> {
     let mut table = BTreeMap::new(alloc);
     let Some(sheet) = sheet else {
         return Ok(table);
@@ -27,10 +27,23 @@ fn table_of<'a, T: NamedRow>(
     let mut names = names_of(alloc, sheet, ids)?.into_iter();
     for id in ids {
         if let Some(Some(name)) = names.next() {
-            table.insert(*id, name)?;
+            table.insert(String::from_str(alloc, id)?, name)?;
         }
     }
     Ok(table)
+}
+
+// The ids of all rows of a file.
+fn ids_of<T: NamedRow>(alloc: Global, sheet: &Option<Sheet>) -> Result<Vec<&str>, AllocError> {
+    let mut ids = Vec::new(alloc);
+    if let Some(sheet) = sheet
+        && let Some(column) = sheet.column(T::key())
+    {
+        for before in 0..sheet.rows() {
+            ids.push(sheet.field(before + 1, column))?;
+        }
+    }
+    Ok(ids)
 }
 
 // A copy of a text, where there is one.
@@ -53,9 +66,9 @@ fn degrees(text: &str, most: f64) -> Option<f64> {
 
 /// Names of stops, trips and routes, by their ids.
 #[derive(Drop)]
-pub struct Names<'a> {
-    stops: BTreeMap<&'a str, StopName>,
-    trips: BTreeMap<&'a str, TripName>,
+pub struct Names {
+    stops: BTreeMap<String, StopName>,
+    trips: BTreeMap<String, TripName>,
     routes: BTreeMap<String, RouteName>,
 }
 
@@ -63,33 +76,43 @@ pub struct Names<'a> {
 fn routes_of(
     alloc: Global,
     sheet: &Option<Sheet>,
-    trips: &BTreeMap<&str, TripName>,
+    trips: &BTreeMap<String, TripName>,
 ) -> Result<BTreeMap<String, RouteName>, AllocError> {
-    let mut ids = Vec::new(alloc);
+    let mut ids = BTreeSet::new(alloc);
     for trip in trips.values() {
-        ids.push(trip.route.as_str())?;
+        ids.insert(trip.route.as_str())?;
     }
-    let mut routes = BTreeMap::new(alloc);
-    let Some(sheet) = sheet else {
-        return Ok(routes);
-    };
-    let mut names = names_of(alloc, sheet, &ids)?.into_iter();
+    let mut wanted = Vec::with_capacity(alloc, ids.len())?;
     for id in &ids {
-        if let Some(Some(name)) = names.next() {
-            routes.insert(String::from_str(alloc, id)?, name)?;
-        }
+        wanted.push(*id)?;
     }
-    Ok(routes)
+    table_of(alloc, sheet, &wanted)
 }
 
-impl<'a> Names<'a> {
+impl Names {
+    /// No names.
+    pub fn none(alloc: Global) -> Names {
+        Names {
+            stops: BTreeMap::new(alloc),
+            trips: BTreeMap::new(alloc),
+            routes: BTreeMap::new(alloc),
+        }
+    }
+
+    /// All names that the sheets have. It fails only where memory runs out.
+    pub fn all(alloc: Global, sheets: &NameSheets) -> Result<Names, AllocError> {
+        let stops = ids_of::<StopName>(alloc, &sheets.stops)?;
+        let trips = ids_of::<TripName>(alloc, &sheets.trips)?;
+        Names::of(alloc, sheets, &stops, &trips)
+    }
+
     /// The names of these stops and trips, and of the trips' routes. It fails only where memory runs out.
     pub fn of(
         alloc: Global,
         sheets: &NameSheets,
-        stops: &[&'a str],
-        trips: &[&'a str],
-    ) -> Result<Names<'a>, AllocError> {
+        stops: &[&str],
+        trips: &[&str],
+    ) -> Result<Names, AllocError> {
         let stops = table_of(alloc, &sheets.stops, stops)?;
         let trips = table_of(alloc, &sheets.trips, trips)?;
         let routes = routes_of(alloc, &sheets.routes, &trips)?;

@@ -22,10 +22,10 @@ pub struct Asked<'a> {
 
 // What an answer is told by.
 #[derive(Clone, Copy)]
-struct Teller<'a, 'n> {
+struct Teller<'a> {
     basis: &'a Basis,
     clock: Clock,
-    names: &'n Names<'a>,
+    names: &'a Names,
 }
 
 // The stops and trips whose names are wanted.
@@ -79,7 +79,7 @@ fn wanted_of<'a>(
     Ok(wanted)
 }
 
-impl Teller<'_, '_> {
+impl Teller<'_> {
     // The seconds from one time to a later one.
     fn seconds(&self, departs: DayTime, arrives: DayTime) -> Option<u32> {
         let departs = self.basis.moment(departs.date, departs.seconds)?;
@@ -201,10 +201,23 @@ pub fn itinerary_of<'a>(
 ) -> Result<Itinerary<'a>, AllocError> {
     let wanted = wanted_of(alloc, basis, asked, answer)?;
     let names = Names::of(alloc, sheets, &wanted.stops, &wanted.trips)?;
+    itinerary_by(alloc, basis, clock, &names, asked, answer)
+}
+
+/// What is told of an answer, whose rides and walks are there, to what was asked over the basis, by the clock, with these names. It fails
+/// only where memory runs out.
+pub fn itinerary_by<'a>(
+    alloc: Global,
+    basis: &Basis,
+    clock: Clock,
+    names: &Names,
+    asked: &Asked<'a>,
+    answer: &Answer,
+) -> Result<Itinerary<'a>, AllocError> {
     let teller = Teller {
         basis,
         clock,
-        names: &names,
+        names,
     };
     Ok(Itinerary {
         command: asked.command,

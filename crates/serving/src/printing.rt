@@ -8,6 +8,7 @@ ghost use Rattle.serving.specs.Tellings.{IsBegun, IsPrinted};
 use crate::reply::Reply;
 use crate::telling::ReplyTeller;
 use answer_lines::print_bytes;
+use feed_basis::Basis;
 use question_lines::Question;
 use std::alloc::Global;
 use std::io::Write;
@@ -31,15 +32,16 @@ fn print_text<W: Write>(text: &str, out: &mut W) -> Result<(), OutputRefused>
 /// the reply's text.
 pub(crate) fn print_reply<T: ReplyTeller, W: Write>(
     alloc: Global,
+    basis: &Basis,
     teller: &T,
     question: &Option<Question<'_>>,
     reply: &Reply<'_>,
     out: &mut W,
 ) -> Result<(), OutputRefused>
-    ensures ok { OnOk result (IsPrinted (T.tells teller.now question.now) reply.now (W.contents out.old) (W.contents out.new)) }
-    ensures err { OnErr result (IsBegun (T.tells teller.now question.now) reply.now (W.contents out.old) (W.contents out.new)) }
+    ensures ok { OnOk result (IsPrinted (T.tells teller.now basis.now question.now) reply.now (W.contents out.old) (W.contents out.new)) }
+    ensures err { OnErr result (IsBegun (T.tells teller.now basis.now question.now) reply.now (W.contents out.old) (W.contents out.new)) }
 {
-    match teller.told(alloc, question, reply) {
+    match teller.told(alloc, basis, question, reply) {
         Ok(text) => print_text(&text, out),
         Err(_) => print_text(teller.memory_refused(), out),
     }

@@ -43,15 +43,15 @@ fn serve_line<T: ReplyTeller, W: Write>(
     requires own { reader.origin.form ≡ planner.now.form }
     ensures own { result.0.origin.form ≡ planner.now.form }
     ensures replied { (text : List ℕ) → IsKept text line.now → MatchResult result.1
-        (λ _. IsReplied (IsReplyText (T.tells teller.now) (IsReply planner.now basis.now (T.tells_legs teller.now)))
+        (λ _. IsReplied (IsReplyText (T.tells teller.now basis.now) (IsReply planner.now basis.now (T.tells_legs teller.now)))
         text reader result.0 (W.contents out.old) (W.contents out.new))
-        (λ _. IsCutOff (IsReplyText (T.tells teller.now) (IsReply planner.now basis.now (T.tells_legs teller.now)))
+        (λ _. IsCutOff (IsReplyText (T.tells teller.now basis.now) (IsReply planner.now basis.now (T.tells_legs teller.now)))
         text reader result.0 (W.contents out.old) (W.contents out.new)) }
 {
     let question = line.question();
     let legs = teller.legs();
     let (reader, reply) = reply_of(alloc, planner, basis, legs, reader, &question);
-    let printed = print_reply(alloc, teller, &question, &reply, out);
+    let printed = print_reply(alloc, basis, teller, &question, &reply, out);
     (reader, printed)
 }
 
@@ -73,7 +73,7 @@ pub fn serve_lines<T: ReplyTeller, R: BufRead, W: Write>(
     requires over { IsOver basis.now planner.now }
     requires own { reader.origin.form ≡ planner.now.form }
     ensures { IfSome (R.remaining input.old) (λ bytes.
-        IsServed (IsReplyText (T.tells teller.now) (IsReply planner.now basis.now (T.tells_legs teller.now)))
+        IsServed (IsReplyText (T.tells teller.now basis.now) (IsReply planner.now basis.now (T.tells_legs teller.now)))
         reader bytes (W.contents out.old) (W.contents out.new) result) }
 {
     let Ok(mut line) = Line::new(alloc) else {

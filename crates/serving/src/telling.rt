@@ -1,19 +1,21 @@
 //! Replies as texts: who tells them.
 
 ghost use Rattle.std.specs.Prelude.{◌≡◌, Bool, Option, IfOk, string_bytes};
+ghost use Rattle.feed_basis.specs.Basis.{BasisData};
 ghost use Rattle.question_lines.specs.declared.question.Question.{Question};
 ghost use Rattle.serving.specs.Printed.{no_memory};
 ghost use Rattle.serving.specs.Tellings.{Telling};
 
 use crate::reply::Reply;
+use feed_basis::Basis;
 use question_lines::Question;
 use std::alloc::{AllocError, Global};
 use std::format;
 
 /// Tells replies to lines. A text ends with a line's end.
 pub trait ReplyTeller {
-    /// Which texts tell a reply to a line that is this question, or none.
-    ghost tells: { Self → Telling };
+    /// Which texts tell a reply to a line that is this question, or none, over a basis.
+    ghost tells: { Self → BasisData → Telling };
 
     /// Whether the rides and walks of journeys are told.
     ghost tells_legs: { Self → Bool };
@@ -22,18 +24,19 @@ pub trait ReplyTeller {
     fn legs(&self) -> bool
         ensures { result ≡ tells_legs self.now };
 
-    /// The text of a reply to a line that is this question, or none. It fails only where memory runs out.
+    /// The text of a reply to a line that is this question, or none, over the basis. It fails only where memory runs out.
     fn told(
         &self,
         alloc: Global,
+        basis: &Basis,
         question: &Option<Question<'_>>,
         reply: &Reply<'_>,
     ) -> Result<String, AllocError>
-        ensures { IfOk result (λ text. tells self.now question.now reply.now (string_bytes text)) };
+        ensures { IfOk result (λ text. tells self.now basis.now question.now reply.now (string_bytes text)) };
 
     /// The text of the reply that memory was refused. It takes none.
     fn memory_refused(&self) -> &'static str
-        ensures { (question : Option Question) → tells self.now question no_memory result.now };
+        ensures { (basis : BasisData) → (question : Option Question) → tells self.now basis question no_memory result.now };
 }
 
 /// Tells replies as lines: those of an answer, or `refused` and why there is none, and then a line with a dot alone. Rides and walks aren't
@@ -45,7 +48,7 @@ impl ReplyTeller for Lines {
     ghost use Rattle.std.specs.Prelude.{false};
     ghost use Rattle.serving.specs.Tellings.{line_telling};
 
-    ghost tells = { λ _. line_telling };
+    ghost tells = { λ _ _. line_telling };
 
     ghost tells_legs = { λ _. false };
 
@@ -56,6 +59,7 @@ impl ReplyTeller for Lines {
     fn told(
         &self,
         alloc: Global,
+        _basis: &Basis,
         _question: &Option<Question<'_>>,
         reply: &Reply<'_>,
     ) -> Result<String, AllocError> {

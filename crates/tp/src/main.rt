@@ -2,6 +2,7 @@
 #![tactic(auto)]
 
 mod progress;
+mod replies;
 mod teller;
 
 use crate::progress::Meter;

@@ -1,22 +1,25 @@
 //! Answers, reports and faults in formats beside lines, with the names that the feed's folder has.
 
+use crate::replies::{Lookup, MEMORY_REFUSED, reply_text};
 use answer_lines::{Answer, DayTime, Report};
-use command_line::{Format, Task};
+use command_line::{Format, Plan, Task};
 use commands::{Asked, Teller};
 use feed_basis::Basis;
 use feed_names::open_names;
 use gtfs_tables::{FaultKind, FeedFault, FeedFile};
 use gtfs_text::Sheet;
 use itineraries::{
-    Asked as Question, Clock, NameSheets, fault_json, geojson, itinerary_of, json, people_text,
-    stop_list_of,
+    Asked as AskedFor, Clock, NameSheets, Names, fault_json, geojson, itinerary_of, json,
+    people_text, stop_list_of,
 };
 use program_inputs::Fault;
+use question_lines::Question;
+use serving::Reply;
 use std::alloc::{AllocError, Global};
 use std::format;
 use stop_search::{list_stops, near_stops};
 
-/// Tells answers with names from the files of a feed's folder, which are read for each answer.
+/// Tells answers with names from the files of a feed's folder, which are read for each answer, and once for all replies to lines.
 #[derive(Clone, Copy)]
 pub struct FolderTeller<'r> {
     rt: &'r HostRuntime,
@@ -75,8 +78,8 @@ fn command_of(task: &Task<'_>) -> &'static str {
     }
 }
 
-// A text with a line's end behind it.
-fn line(text: String) -> Result<String, AllocError> {
+/// A text with a line's end behind it.
+pub fn line(text: String) -> Result<String, AllocError> {
     let mut text = text;
     text.push('\n')?;
     Ok(text)
@@ -84,11 +87,15 @@ fn line(text: String) -> Result<String, AllocError> {
 
 // Nothing is claimed of the texts: tests say what they are.
 impl Teller for FolderTeller<'_> {
+    type Lookup = Lookup;
+
     ghost tells = { λ _ _ _ _. Unit {0} };
 
     ghost reports = { λ _ _ _. Unit {0} };
 
     ghost finds = { λ _ _ _ _. Unit {0} };
+
+    ghost replies = { λ _ _ _ _ _. Unit {0} };
 
     fn answer(
         &self,
@@ -100,7 +107,7 @@ impl Teller for FolderTeller<'_> {
     ) -> Result<String, AllocError> {
         let settings = asked.plan.settings;
         let question = asked.task.question();
-        let asked = Question {
+        let asked = AskedFor {
             command: command_of(&asked.task),
             from: question.from,
             to: question.to,
@@ -151,6 +158,30 @@ impl Teller for FolderTeller<'_> {
             ))),
             Err(_) => Err(Fault::Memory),
         }
+    }
+
+    fn lookup(&self, alloc: Global, plan: &Plan<'_>) -> Result<Lookup, AllocError> {
+        let sheets = self.sheets(alloc, plan.settings.feed)?;
+        Ok(Lookup {
+            names: Names::all(alloc, &sheets)?,
+            clock: Clock::of(plan.settings.zone),
+        })
+    }
+
+    fn reply(
+        &self,
+        alloc: Global,
+        format: Format,
+        lookup: &Lookup,
+        basis: &Basis,
+        question: &Option<Question<'_>>,
+        reply: &Reply<'_>,
+    ) -> Result<String, AllocError> {
+        reply_text(alloc, format, lookup, basis, question, reply)
+    }
+
+    fn memory_refused(&self, _format: Format) -> &'static str {
+        MEMORY_REFUSED
     }
 
     fn fault(&self, alloc: Global, format: Format, fault: &Fault<'_>) -> Option<String> {

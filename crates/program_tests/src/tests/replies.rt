@@ -2,7 +2,7 @@
 
 use super::feed::feed;
 use super::teller::Saying;
-use super::words::SERVE;
+use super::words::{SERVE, SERVE_JSON};
 use super::writing::Narrow;
 use commands::run_words;
 use disk_model::MemDisk;
@@ -40,6 +40,39 @@ fn each_line_has_a_reply(rt: HostRuntime) -> Result<(), Fail> {
     assert_eq!(rt; std::str::from_utf8(out.as_slice())?, REPLIES);
     assert!(rt; status == 0 || status == 3);
     assert!(rt; disk.is_some());
+    Ok(())
+}
+
+// In a format each line has the teller's text as its reply, or the one for want of memory where the teller has none.
+#[test]
+fn each_line_has_a_reply_in_a_format(rt: HostRuntime) -> Result<(), Fail> {
+    let rows = [
+        (Saying(Some("told\n")), "told\ntold\n"),
+        (Saying(None), "no memory\nno memory\n"),
+    ];
+    for (teller, replies) in rows {
+        let mut input = LINES;
+        let mut err = Vec::new(rt.alloc());
+        let keys = RandomState::new(&rt)?;
+        let store = Ok(MemDisk::new(rt.alloc()));
+        let (status, disk, out) = run_words(
+            rt.alloc(),
+            &rt,
+            Some(keys),
+            &teller,
+            &SERVE_JSON,
+            |_folder| Ok(feed(None)),
+            |_folder| Ok(None),
+            |_path| store,
+            |_asked| Silent,
+            &mut input,
+            Vec::new(rt.alloc()),
+            &mut err,
+        );
+        assert_eq!(rt; std::str::from_utf8(out.as_slice())?, replies);
+        assert!(rt; status == 0 || status == 3);
+        assert!(rt; disk.is_some());
+    }
     Ok(())
 }
 

@@ -1,7 +1,7 @@
 use Rattle.std.proofs.Common.{ℕ, inr, subst}
 use Rattle.std.specs.Fn.{FnOnceReturnsAt}
 use Rattle.commands.specs.Errands.{IsErrand}
-use Rattle.commands.specs.Runs.{IsBuildRun, IsListRun, IsOverStore, IsServeRun, IsTaskRun, opening_of, run_of}
+use Rattle.commands.specs.Runs.{IsBuildRun, IsListRun, IsOverStore, IsServeIn, IsTaskRun, opening_of, run_of}
 use Rattle.commands.specs.Tellings.{telling_of}
 use Rattle.commands.specs.declared.errand.Errand.{Errand}
 use Rattle.commands.proofs.RunFacts.{question_run, build_run, list_run, serve_run}
@@ -12,7 +12,7 @@ returns-in-Answer-clause-run g c = λ feed h.
     let plan = c.args.plan.now in
     let basis = c.in-Ok.ground.0 in
     let o = opening_of (FnOnceReturnsAt g.S.FnOnce c.args.open_store) g.D.Disk.honest g.D.Disk.state g.D.Disk.failures in
-    let t = telling_of g.T.Teller.tells g.T.Teller.reports g.T.Teller.finds in
+    let t = telling_of g.T.Teller.tells g.T.Teller.reports g.T.Teller.finds g.T.Teller.replies in
     let run = run_of (g.W.Write.contents c.args.out) (g.W.Write.contents c.run_task-status.new.out) c.run_task-status.result.0 in
     let errand = subst (λ (e : Errand). IsErrand plan.settings.date.now plan.command e) c.in-Answer.is c.in-Ok.ensures.errand in
     let done = subst (λ (k : ℕ). IsTaskRun o t plan.style basis k c.moment-moment.result c.in-Answer.task run c.run_task-status.result.1) c.new-rides.ensures c.run_task-status.ensures.run in
@@ -27,7 +27,7 @@ returns-in-Build-clause-run g c = λ feed h.
     let plan = c.args.plan.now in
     let basis = c.in-Ok.ground.0 in
     let o = opening_of (FnOnceReturnsAt g.S.FnOnce c.args.open_store) g.D.Disk.honest g.D.Disk.state g.D.Disk.failures in
-    let t = telling_of g.T.Teller.tells g.T.Teller.reports g.T.Teller.finds in
+    let t = telling_of g.T.Teller.tells g.T.Teller.reports g.T.Teller.finds g.T.Teller.replies in
     let run = run_of (g.W.Write.contents c.args.out) (g.W.Write.contents c.run_build-status.new.out) c.run_build-status.result.0 in
     let errand = subst (λ (e : Errand). IsErrand plan.settings.date.now plan.command e) c.in-Build.is c.in-Ok.ensures.errand in
     let done = subst (λ (k : ℕ). IsOverStore o c.in-Build.path.now (IsBuildRun basis k) run c.run_build-status.result.1) c.new-rides.ensures c.run_build-status.ensures.run in
@@ -38,7 +38,7 @@ returns-in-List-clause-run g c = λ feed h.
     let plan = c.args.plan.now in
     let basis = c.in-Ok.ground.0 in
     let o = opening_of (FnOnceReturnsAt g.S.FnOnce c.args.open_store) g.D.Disk.honest g.D.Disk.state g.D.Disk.failures in
-    let t = telling_of g.T.Teller.tells g.T.Teller.reports g.T.Teller.finds in
+    let t = telling_of g.T.Teller.tells g.T.Teller.reports g.T.Teller.finds g.T.Teller.replies in
     let run = run_of (g.W.Write.contents c.args.out) (g.W.Write.contents c.run_list-status.new.out) c.run_list-status.result.0 in
     let errand = subst (λ (e : Errand). IsErrand plan.settings.date.now plan.command e) c.in-List.is c.in-Ok.ensures.errand in
     let done = subst (λ (k : ℕ). IsOverStore o c.in-List.path.now (IsListRun t plan.style basis k) run c.run_list-status.result.1) c.new-rides.ensures c.run_list-status.ensures.run in
@@ -50,8 +50,8 @@ returns-clause-run g c = λ feed h.
     let basis = c.in-Ok.ground.0 in
     let input = g.I.Read.remaining c.args.input.now in
     let o = opening_of (FnOnceReturnsAt g.S.FnOnce c.args.open_store) g.D.Disk.honest g.D.Disk.state g.D.Disk.failures in
-    let t = telling_of g.T.Teller.tells g.T.Teller.reports g.T.Teller.finds in
+    let t = telling_of g.T.Teller.tells g.T.Teller.reports g.T.Teller.finds g.T.Teller.replies in
     let run = run_of (g.W.Write.contents c.args.out) (g.W.Write.contents c.run_serve.result.2) c.run_serve.result.0 in
     let errand = subst (λ (e : Errand). IsErrand plan.settings.date.now plan.command e) c.in-Serve.is c.in-Ok.ensures.errand in
-    let done = subst (λ (k : ℕ). IsOverStore o c.in-Serve.path.now (IsServeRun basis k input) run c.run_serve.result.1) c.new-rides.ensures c.run_serve.ensures.run in
+    let done = subst (λ (k : ℕ). IsServeIn o t plan.style basis k input c.in-Serve.path.now run c.run_serve.result.1) c.new-rides.ensures c.run_serve.ensures.run in
     inr (basis, c.in-Ok.ensures.ground feed h, serve_run o t input plan.style plan.settings basis run c.run_serve.result.1 plan.command c.in-Serve.path c.in-Serve.workers errand done)

@@ -22,6 +22,6 @@ returns-clause-replied g c = λ text kept.
     let reply = c.reply_of-reader.result.1 in
     let asks = c.question-question.ensures text kept in
     let is = subst (λ wanted. IsReply p basis wanted text old new reply) c.legs-legs.ensures (c.reply_of-reader.ensures text asks) in
-    line_printed (g.T.ReplyTeller.tells c.args.teller.now) (IsReply p basis legs) text old new (g.W.Write.contents c.args.out.now)
+    line_printed (g.T.ReplyTeller.tells c.args.teller.now basis) (IsReply p basis legs) text old new (g.W.Write.contents c.args.out.now)
     (g.W.Write.contents c.print_reply-printed.new.out) c.question-question.result reply c.print_reply-printed.result asks is
     (looks p basis legs text old new reply is) c.print_reply-printed.ensures.ok c.print_reply-printed.ensures.err

@@ -10,7 +10,7 @@ use Rattle.serving.proofs.serving.serve_lines.Goals as goal
 
 pub lines-init : goal.lines-init
 lines-init g c =
-    let Right = IsReplyText (g.T.ReplyTeller.tells c.args.teller.now)
+    let Right = IsReplyText (g.T.ReplyTeller.tells c.args.teller.now c.args.basis.now)
     (IsReply c.args.planner.now c.args.basis.now (g.T.ReplyTeller.tells_legs c.args.teller.now)) in
     let out = g.W.Write.contents c.args.out.now in
     let input = g.R.Read.remaining c.args.input.now in
@@ -22,7 +22,7 @@ lines-init g c =
 
 pub lines-preserved : goal.lines-preserved
 lines-preserved g c =
-    let Right = IsReplyText (g.T.ReplyTeller.tells c.args.teller.now)
+    let Right = IsReplyText (g.T.ReplyTeller.tells c.args.teller.now c.args.basis.now)
     (IsReply c.args.planner.now c.args.basis.now (g.T.ReplyTeller.tells_legs c.args.teller.now)) in
     let out = g.W.Write.contents c.args.out.now in
     let input = g.R.Read.remaining c.args.input.now in
@@ -42,7 +42,7 @@ lines-preserved g c =
 
 pub returns-then-is_err : goal.returns-then-is_err
 returns-then-is_err g c =
-    let Right = IsReplyText (g.T.ReplyTeller.tells c.args.teller.now)
+    let Right = IsReplyText (g.T.ReplyTeller.tells c.args.teller.now c.args.basis.now)
     (IsReply c.args.planner.now c.args.basis.now (g.T.ReplyTeller.tells_legs c.args.teller.now)) in
     let out = g.W.Write.contents c.args.out.now in
     let input = g.R.Read.remaining c.args.input.now in

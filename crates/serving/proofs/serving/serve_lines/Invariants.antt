@@ -7,6 +7,6 @@ use Rattle.serving.proofs.serving.serve_lines.Given as goal
 abbrev pub invariant-lines : goal.invariant-lines
 invariant-lines g l = record {
   own : l.reader.origin.form ≡ l.planner.form;
-  so_far : SoFar (IsReplyText (g.T.ReplyTeller.tells l.teller) (IsReply l.planner l.basis (g.T.ReplyTeller.tells_legs l.teller))) l.fn.reader (g.W.Write.contents l.fn.out) (g.R.Read.remaining l.fn.input) (g.R.Read.remaining l.input) l.reader
+  so_far : SoFar (IsReplyText (g.T.ReplyTeller.tells l.teller l.basis) (IsReply l.planner l.basis (g.T.ReplyTeller.tells_legs l.teller))) l.fn.reader (g.W.Write.contents l.fn.out) (g.R.Read.remaining l.fn.input) (g.R.Read.remaining l.input) l.reader
       (g.W.Write.contents l.out);
 }
