@@ -1,6 +1,6 @@
 //! From an answer to what is told of it.
 
-use crate::clock::Clock;
+use crate::clock::{Clock, Time};
 use crate::itinerary::{Itinerary, Journey, Kind, Leg, Place, StopList};
 use crate::names::{NameSheets, Names};
 use crate::through::stops_between;
@@ -18,6 +18,8 @@ pub struct Asked<'a> {
     pub to: &'a str,
     /// The time to leave at.
     pub departs: DayTime,
+    /// Whether the stops that a ride calls at in between are told, as on a map.
+    pub through: bool,
 }
 
 // What an answer is told by.
@@ -26,6 +28,8 @@ struct Teller<'a> {
     basis: &'a Basis,
     clock: Clock,
     names: &'a Names,
+    // Whether the stops that a ride calls at in between are told.
+    through: bool,
 }
 
 // The stops and trips whose names are wanted.
@@ -36,21 +40,31 @@ struct Wanted<'a> {
 }
 
 impl<'a> Wanted<'a> {
-    // Those of a ride or a walk, with the stops that a ride calls at in between.
-    fn put(&mut self, alloc: Global, basis: &'a Basis, stage: &'a Stage) -> Result<(), AllocError> {
+    // Those of a ride or a walk.
+    fn put(&mut self, stage: &'a Stage) -> Result<(), AllocError> {
         match stage {
             Stage::Ride { trip, from, to, .. } => {
                 self.trips.push(trip.as_str())?;
                 self.stops.push(from.as_str())?;
                 self.stops.push(to.as_str())?;
-                for stop in stops_between(alloc, basis, stage)? {
-                    self.stops.push(stop)?;
-                }
             }
             Stage::Walk { from, to, .. } => {
                 self.stops.push(from.as_str())?;
                 self.stops.push(to.as_str())?;
             }
+        }
+        Ok(())
+    }
+
+    // The stops that a ride calls at in between.
+    fn put_through(
+        &mut self,
+        alloc: Global,
+        basis: &'a Basis,
+        stage: &Stage,
+    ) -> Result<(), AllocError> {
+        for stop in stops_between(alloc, basis, stage)? {
+            self.stops.push(stop)?;
         }
         Ok(())
     }
@@ -72,7 +86,10 @@ fn wanted_of<'a>(
     if let Answer::Points(points) = answer {
         for point in points {
             for stage in &point.stages {
-                wanted.put(alloc, basis, stage)?;
+                wanted.put(stage)?;
+                if asked.through {
+                    wanted.put_through(alloc, basis, stage)?;
+                }
             }
         }
     }
@@ -87,13 +104,22 @@ impl Teller<'_> {
         arrives.checked_sub(departs)
     }
 
-    // The stops that a ride calls at in between.
+    // The stops that a ride calls at in between, where they are told.
     fn through(&self, alloc: Global, stage: &Stage) -> Result<Vec<Place>, AllocError> {
         let mut places = Vec::new(alloc);
+        if !self.through {
+            return Ok(places);
+        }
         for stop in stops_between(alloc, self.basis, stage)? {
             places.push(self.names.place(alloc, stop)?)?;
         }
         Ok(places)
+    }
+
+    // A place and a time there.
+    fn stay(&self, alloc: Global, id: &str, at: DayTime) -> Result<(Place, Time), AllocError> {
+        let place = self.names.place(alloc, id)?;
+        Ok((place, self.clock.time(alloc, at)?))
     }
 
     // A ride or a walk, which begins at this time where it is a walk.
@@ -112,13 +138,15 @@ impl Teller<'_> {
             Some(trip) => (Kind::Ride, Some(self.names.trip(alloc, trip)?)),
             None => (Kind::Walk, None),
         };
+        let (from, departure) = self.stay(alloc, from.as_str(), departs)?;
+        let (to, arrival) = self.stay(alloc, to.as_str(), arrives)?;
         Ok(Leg {
             kind,
             trip,
-            from: self.names.place(alloc, from.as_str())?,
-            departure: self.clock.time(alloc, departs)?,
-            to: self.names.place(alloc, to.as_str())?,
-            arrival: self.clock.time(alloc, arrives)?,
+            from,
+            departure,
+            to,
+            arrival,
             seconds: self.seconds(departs, arrives),
             through: self.through(alloc, stage)?,
         })
@@ -218,6 +246,7 @@ pub fn itinerary_by<'a>(
         basis,
         clock,
         names,
+        through: asked.through,
     };
     Ok(Itinerary {
         command: asked.command,

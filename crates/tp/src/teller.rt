@@ -115,6 +115,7 @@ impl Teller for FolderTeller<'_> {
                 date: asked.leaving.day,
                 seconds: asked.leaving.seconds,
             },
+            through: format == Format::GeoJson,
         };
         let sheets = self.sheets(alloc, settings.feed)?;
         let clock = Clock::of(settings.zone);
