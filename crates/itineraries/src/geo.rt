@@ -5,8 +5,8 @@ use crate::json;
 use serde::Serialize;
 use std::alloc::{AllocError, Global};
 
-// A position: its longitude and its latitude, in degrees (RFC 7946, section 3.1.1).
-type Position = (f64, f64);
+/// A position: its longitude and its latitude, in degrees (RFC 7946, section 3.1.1).
+pub(crate) type Position = (f64, f64);
 
 // The shape of a ride or a walk.
 #[derive(Drop, Serialize)]
@@ -52,13 +52,13 @@ struct FeatureCollection<'a> {
     features: Vec<Feature<'a>>,
 }
 
-// The position of a place, where the feed has one.
-fn position_of(place: &Place) -> Option<Position> {
+/// The position of a place, where the feed has one.
+pub(crate) fn position_of(place: &Place) -> Option<Position> {
     Some((place.longitude?, place.latitude?))
 }
 
-// A text, where there is one.
-fn text_of(text: &Option<String>) -> Option<&str> {
+/// A text, where there is one.
+pub(crate) fn text_of(text: &Option<String>) -> Option<&str> {
     match text {
         Some(text) => Some(text.as_str()),
         None => None,

@@ -8,6 +8,7 @@ mod geo;
 mod itinerary;
 mod names;
 mod people;
+mod stop_map;
 mod telling;
 mod through;
 
@@ -19,6 +20,7 @@ pub use names::{NameSheets, Names};
 pub use people::people_text;
 use serde::Serialize;
 use std::alloc::{AllocError, Global};
+pub use stop_map::stops_geojson;
 pub use telling::{Asked, itinerary_by, itinerary_of, stop_list_of};
 
 /// A value as JSON, on one line, without a line's end. It fails only where memory runs out.

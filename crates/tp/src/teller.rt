@@ -10,7 +10,7 @@ use gtfs_tables::{FaultKind, FeedFault, FeedFile};
 use gtfs_text::Sheet;
 use itineraries::{
     Asked as AskedFor, Clock, NameSheets, Names, fault_json, geojson, itinerary_of, json,
-    people_text, stop_list_of,
+    people_text, stop_list_of, stops_geojson,
 };
 use program_inputs::Fault;
 use question_lines::Question;
@@ -139,8 +139,10 @@ impl Teller for FolderTeller<'_> {
             Report::Stored(ids) => stop_list_of(alloc, &sheets, "list", ids)?,
             Report::Built { missing, .. } => stop_list_of(alloc, &sheets, "build", missing)?,
         };
-        let _ = format;
-        line(json(alloc, &list)?)
+        match format {
+            Format::GeoJson => line(stops_geojson(alloc, &list)?),
+            Format::Names | Format::Json => line(json(alloc, &list)?),
+        }
     }
 
     fn stops(
