@@ -11,7 +11,7 @@ use Rattle.feed_basis.specs.Basis.{BasisData, IsBasis}
 use Rattle.feed_basis.specs.BasisFaults.{IsBasisFault}
 use Rattle.commands.specs.Words.{HasWords, IsDate, IsLeaving, IsWordFault}
 
--- The timetable of the feed's rows on the covered days, and the ids of its stops and trips. There are keys to look ids up with.
+-- The timetable of the feed's rows on the covered days, and the ids of its stops and trips. There are hash keys to look ids up with.
 pub record IsGround (keyed : Bool) (feed : Feed) (settings : Settings) (basis : BasisData) : Type 0 where
   pub with_keys : keyed ≡ true
   pub first : Date
@@ -25,7 +25,7 @@ pub record LeavesAt (settings : Settings) (task : Task) (basis : BasisData) (mom
   pub words : IsLeaving settings.date.now task day seconds
   pub is : IsMoment basis.cover day seconds moment
 
--- the words are dates and times, and there are no keys to look ids up with, or else the feed or its days are at fault
+-- the words are dates and times, and there are no hash keys to look ids up with, or else the feed or its days are at fault
 pub record IsFeedFault (keyed : Bool) (feed : Feed) (plan : Plan) (fault : Fault) : Type 0 where
   pub first : Date
   pub first_is : IsDate plan.settings.date.now first

@@ -26,7 +26,8 @@ pub record NameJob (words : List Text) (job : Job) : Type 0 where
   pub faultless : fault_of program_app words ≡ []
   pub is : IsJob (subcommand_of program_app words) job
 
--- What a job over a feed's files leaves: `lists` says which names a folder was said to have, `keyed` whether there are keys to look ids up with.
+-- What a job over a feed's files leaves: `lists` says which names a folder was said to have, `keyed` whether there are hash keys to look ids
+-- up with.
 abbrev pub IsDone : {D N : Type 0} → Opening D → Telling → Option (List ℕ) → (List ℕ → Result Names N → Type 0) → Bool → Feed → Job → Run → Option D → Type 0
 IsDone o t input lists keyed feed (jobs.Check folder) run disk = IsCheckRun (lists folder.now) keyed feed run × (disk ≡ None)
 IsDone o t input lists keyed feed (jobs.Stops folder text all) run disk = ⊥

@@ -18,18 +18,18 @@ use std::io::{Read, Write};
 // What the feed has, with the names in its folder, which are looked for only where it is without fault.
 fn report_of<R: Read + Drop, L: FnOnce(&str) -> io::Result<Option<Vec<String>>>>(
     alloc: Global,
-    keys: Option<RandomState>,
+    hash_keys: Option<RandomState>,
     folder: &str,
     files: Files<R>,
     list_folder: L,
 ) -> Result<FeedReport, Fault<'static>>
     requires { L.IsAlwaysCallable list_folder }
     ensures counts { (feed : Feed) → AreReaders R.remaining files feed → IfOk result (λ report. AreCounts feed report.counts) }
-    ensures keyed { OnOk result (is_some keys ≡ true) }
+    ensures keyed { OnOk result (is_some hash_keys ≡ true) }
     ensures names { IfOk result (λ report. FnOnceReturnsAt L.FnOnce list_folder folder.now (Ok report.names)) }
-    ensures fault { (feed : Feed) → AreReaders R.remaining files feed → IfErr result (IsCheckFault (is_some keys) feed) }
+    ensures fault { (feed : Feed) → AreReaders R.remaining files feed → IfErr result (IsCheckFault (is_some hash_keys) feed) }
 {
-    let counts = match counts_of(alloc, keys, files) {
+    let counts = match counts_of(alloc, hash_keys, files) {
         Ok(counts) => counts,
         Err(fault) => return Err(fault),
     };
@@ -48,7 +48,7 @@ pub fn run_check<
     E: Write,
 >(
     alloc: Global,
-    keys: Option<RandomState>,
+    hash_keys: Option<RandomState>,
     folder: &str,
     files: Files<R>,
     list_folder: L,
@@ -57,9 +57,9 @@ pub fn run_check<
 ) -> u8
     requires { L.IsAlwaysCallable list_folder }
     ensures run { (feed : Feed) → AreReaders R.remaining files feed
-        → IsCheckRun (FnOnceReturnsAt L.FnOnce list_folder folder.now) (is_some keys) feed
+        → IsCheckRun (FnOnceReturnsAt L.FnOnce list_folder folder.now) (is_some hash_keys) feed
         (run_of (W.contents out.old) (W.contents out.new) result) }
 {
-    let report = report_of(alloc, keys, folder, files, list_folder);
+    let report = report_of(alloc, hash_keys, folder, files, list_folder);
     print_feed(alloc, report, out, err)
 }

@@ -33,7 +33,7 @@ fn shows_progress(plan: &Plan<'_>) -> bool {
 /// not at all; `teller` has the texts of formats beside lines, and of stops that are listed. A build has its workers in threads of `rt`.
 /// Questions that are asked line by line stand in `input`. The answer goes to `out`, a fault to `err`.
 ///
-/// Gives the status to end with, the disk of the store where it was opened, and the output. Ids are looked up under `keys`: where the
+/// Gives the status to end with, the disk of the store where it was opened, and the output. Ids are looked up under `hash_keys`: where the
 /// system gave no randomness for them, that is the fault.
 pub fn run_words<
     'a,
@@ -52,7 +52,7 @@ pub fn run_words<
 >(
     alloc: Global,
     rt: &H,
-    keys: Option<RandomState>,
+    hash_keys: Option<RandomState>,
     teller: &T,
     words: &'a [&'a str],
     open_feed: O,
@@ -69,7 +69,7 @@ pub fn run_words<
     requires progress { M.IsAlwaysCallable progress }
     ensures { IsProgramRun (opening_of (FnOnceReturnsAt S.FnOnce open_store) D.honest D.state D.failures)
         (telling_of T.tells T.reports T.finds T.replies) (I.remaining input.old)
-        (FnOnceReturnsAt O.FnOnce open_feed) (AreReaders R.remaining) (FnOnceReturnsAt L.FnOnce list_folder) (is_some keys)
+        (FnOnceReturnsAt O.FnOnce open_feed) (AreReaders R.remaining) (FnOnceReturnsAt L.FnOnce list_folder) (is_some hash_keys)
         (map (λ word. word.now) words.entry.now)
         (run_of (W.contents out) (W.contents result.2) result.0) result.1 }
 {
@@ -87,7 +87,7 @@ pub fn run_words<
             let Ok(files) = open_feed(feed) else {
                 return (out_of_memory("tp", err), None, out);
             };
-            let status = run_check(alloc, keys, feed, files, list_folder, &mut out, err);
+            let status = run_check(alloc, hash_keys, feed, files, list_folder, &mut out, err);
             (status, None, out)
         }
         Job::Stops { feed, text, all } => {
@@ -103,7 +103,7 @@ pub fn run_words<
             run(
                 alloc,
                 rt,
-                keys,
+                hash_keys,
                 teller,
                 &plan,
                 files,

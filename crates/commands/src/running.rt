@@ -83,20 +83,20 @@ fn run_task<D: Disk, S: FnOnce(&str) -> Result<D, FileFault>, T: Teller, W: Writ
 // What the plan stands on: the timetable of the feed, and the command with its words read.
 fn ground<'a, R: Read + Drop>(
     alloc: Global,
-    keys: Option<RandomState>,
+    hash_keys: Option<RandomState>,
     plan: &Plan<'a>,
     files: Files<R>,
 ) -> Result<(Basis, Errand<'a>), Fault<'a>>
     ensures ground { (feed : Feed) → AreReaders R.remaining files feed
-        → IfOk result (λ ground. IsGround (is_some keys) feed plan.now.settings ground.0) }
+        → IfOk result (λ ground. IsGround (is_some hash_keys) feed plan.now.settings ground.0) }
     ensures errand { IfOk result (λ ground. IsErrand plan.now.settings.date.now plan.now.command ground.1) }
-    ensures fault { (feed : Feed) → AreReaders R.remaining files feed → IfErr result (IsGroundFault (is_some keys) feed plan.now) }
+    ensures fault { (feed : Feed) → AreReaders R.remaining files feed → IfErr result (IsGroundFault (is_some hash_keys) feed plan.now) }
 {
     let words = match words_of(plan) {
         Ok(words) => words,
         Err(fault) => return Err(fault),
     };
-    let basis = basis_of(alloc, keys, &plan.settings, words.first, files)?;
+    let basis = basis_of(alloc, hash_keys, &plan.settings, words.first, files)?;
     Ok((basis, words.errand))
 }
 
@@ -108,7 +108,7 @@ fn ground<'a, R: Read + Drop>(
 /// Gives the status to end with, the disk where it was opened, and the output: 0 done; 1 the feed or its days are at fault; 2 the dates or
 /// the time are; 3 a stop has no tree, since it would be too large, memory was refused for it, or the questions ended before it was built;
 /// 4 the store is at fault, or its device; 6 the question is at fault; 7 memory ran out; 8 `out` refused a write. Ids are looked up under
-/// `keys`: where the system gave no randomness for them, that is the fault.
+/// `hash_keys`: where the system gave no randomness for them, that is the fault.
 pub fn run<
     H: Threads + Wait + Sync,
     R: Read + Drop,
@@ -122,7 +122,7 @@ pub fn run<
 >(
     alloc: Global,
     rt: &H,
-    keys: Option<RandomState>,
+    hash_keys: Option<RandomState>,
     teller: &T,
     plan: &Plan<'_>,
     files: Files<R>,
@@ -135,11 +135,11 @@ pub fn run<
     requires { S.IsAlwaysCallable open_store }
     ensures run { (feed : Feed) → AreReaders R.remaining files feed
         → IsRun (opening_of (FnOnceReturnsAt S.FnOnce open_store) D.honest D.state D.failures)
-        (telling_of T.tells T.reports T.finds T.replies) (I.remaining input.old) (is_some keys) feed plan.now
+        (telling_of T.tells T.reports T.finds T.replies) (I.remaining input.old) (is_some hash_keys) feed plan.now
         (run_of (W.contents out) (W.contents result.2) result.0) result.1 }
     ensures statuses { Contains statuses result.0 }
 {
-    let (basis, errand) = match ground(alloc, keys, plan, files) {
+    let (basis, errand) = match ground(alloc, hash_keys, plan, files) {
         Ok(ground) => ground,
         Err(fault) => return (tell_plan_fault(alloc, teller, plan, &fault, err), None, out),
     };

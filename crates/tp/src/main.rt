@@ -45,11 +45,11 @@ fn status<T: Threads + Wait + Sync>(rt: &HostRuntime, threads: &T) -> u8 {
     let Ok(mut input) = BufReader::new(alloc, rt.stdin()) else {
         return out_of_memory("tp", &mut err);
     };
-    let keys = RandomState::new(rt).ok();
+    let hash_keys = RandomState::new(rt).ok();
     let (status, _disk, _out) = run_words(
         alloc,
         threads,
-        keys,
+        hash_keys,
         &FolderTeller::new(rt),
         texts.as_slice(),
         |folder| open_feed(rt, alloc, folder),

@@ -57,12 +57,12 @@ fn what_can_not_be_read_to_its_end(rt: HostRuntime) -> Result<(), Fail> {
             "tp: Memory\n",
         ),
     ];
-    let keys = RandomState::new(&rt)?;
+    let hash_keys = RandomState::new(&rt)?;
     for (file, kind, status, fault) in rows {
         let left = outcome_over(
             &rt,
             &rt,
-            Some(keys),
+            Some(hash_keys),
             Some((file, kind)),
             &SCAN,
             Err(FileFault::Failed),

@@ -21,12 +21,12 @@ const REPLIES: &str = "refused Q1 UnknownStop X\n.\nrefused BadLine\n.\n";
 fn each_line_has_a_reply(rt: HostRuntime) -> Result<(), Fail> {
     let mut input = LINES;
     let mut err = Vec::new(rt.alloc());
-    let keys = RandomState::new(&rt)?;
+    let hash_keys = RandomState::new(&rt)?;
     let store = Ok(MemDisk::new(rt.alloc()));
     let (status, disk, out) = run_words(
         rt.alloc(),
         &rt,
-        Some(keys),
+        Some(hash_keys),
         &Saying(None),
         &SERVE,
         |_folder| Ok(feed(None)),
@@ -53,12 +53,12 @@ fn each_line_has_a_reply_in_a_format(rt: HostRuntime) -> Result<(), Fail> {
     for (teller, replies) in rows {
         let mut input = LINES;
         let mut err = Vec::new(rt.alloc());
-        let keys = RandomState::new(&rt)?;
+        let hash_keys = RandomState::new(&rt)?;
         let store = Ok(MemDisk::new(rt.alloc()));
         let (status, disk, out) = run_words(
             rt.alloc(),
             &rt,
-            Some(keys),
+            Some(hash_keys),
             &teller,
             &SERVE_JSON,
             |_folder| Ok(feed(None)),
@@ -82,12 +82,12 @@ fn replies_that_are_cut_off(rt: HostRuntime) -> Result<(), Fail> {
     for room in [0, 5, REPLIES.len() - 1] {
         let mut input = LINES;
         let mut err = Vec::new(rt.alloc());
-        let keys = RandomState::new(&rt)?;
+        let hash_keys = RandomState::new(&rt)?;
         let store = Ok(MemDisk::new(rt.alloc()));
         let (status, disk, _out) = run_words(
             rt.alloc(),
             &rt,
-            Some(keys),
+            Some(hash_keys),
             &Saying(None),
             &SERVE,
             |_folder| Ok(feed(None)),

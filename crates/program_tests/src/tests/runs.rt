@@ -23,7 +23,7 @@ pub struct Left {
 pub fn outcome_over<T: Threads + Wait + Sync>(
     rt: &HostRuntime,
     threads: &T,
-    keys: Option<RandomState>,
+    hash_keys: Option<RandomState>,
     failure: Failure,
     words: &[&str],
     store: Result<MemDisk, FileFault>,
@@ -33,7 +33,7 @@ pub fn outcome_over<T: Threads + Wait + Sync>(
     let (status, disk, out) = run_words(
         rt.alloc(),
         threads,
-        keys,
+        hash_keys,
         &Saying(Some("told\n")),
         words,
         |_folder| Ok(feed(failure)),
@@ -59,6 +59,6 @@ pub fn outcome_of<T: Threads + Wait + Sync>(
     words: &[&str],
     store: Result<MemDisk, FileFault>,
 ) -> Result<Left, Fail> {
-    let keys = RandomState::new(rt)?;
-    Ok(outcome_over(rt, threads, Some(keys), None, words, store))
+    let hash_keys = RandomState::new(rt)?;
+    Ok(outcome_over(rt, threads, Some(hash_keys), None, words, store))
 }

@@ -44,11 +44,11 @@ fn an_answer_in_a_format(rt: HostRuntime) -> Result<(), Fail> {
     for (teller, status, lines) in [(Saying(Some("told\n")), 0, "told\n"), (Saying(None), 7, "")] {
         let mut input: &[u8] = b"";
         let mut err = Vec::new(rt.alloc());
-        let keys = RandomState::new(&rt)?;
+        let hash_keys = RandomState::new(&rt)?;
         let (ended, _disk, out) = run_words(
             rt.alloc(),
             &rt,
-            Some(keys),
+            Some(hash_keys),
             &teller,
             &JSON,
             |_folder| Ok(feed(None)),
@@ -71,11 +71,11 @@ fn a_writer_that_refuses_the_rest(rt: HostRuntime) -> Result<(), Fail> {
     for room in 0..=ANSWER.len() {
         let mut input: &[u8] = b"";
         let mut err = Vec::new(rt.alloc());
-        let keys = RandomState::new(&rt)?;
+        let hash_keys = RandomState::new(&rt)?;
         let (status, _disk, _out) = run_words(
             rt.alloc(),
             &rt,
-            Some(keys),
+            Some(hash_keys),
             &Saying(None),
             &SCAN,
             |_folder| Ok(feed(None)),

@@ -13,7 +13,7 @@ all_three (Err e) A C B a b c = tt
 pub returns : goal.returns
 returns g c = record {
   run = λ feed h.
-      let keyed = is_some c.args.keys in
+      let keyed = is_some c.args.hash_keys in
       let lists = FnOnceReturnsAt g.L.FnOnce c.args.list_folder c.args.folder.now in
       let counted = λ (report : FeedReport). AreCounts feed report.counts in
       let named = λ (report : FeedReport). lists (Ok report.names) in
