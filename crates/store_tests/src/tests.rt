@@ -1,5 +1,11 @@
-//! What crashes leave of a store, and how faults are told.
+//! Files by the layout alone, opened whole, cut short and with one byte changed; stores that are put to, stopped and opened again; and how
+//! faults are told.
 
+mod changes;
 mod crashes;
+mod excerpts;
 mod faults;
 mod layout;
+mod opening;
+mod stopping;
+mod whole;

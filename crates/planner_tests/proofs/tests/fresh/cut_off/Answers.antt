@@ -4,7 +4,7 @@ use Rattle.disk_model.specs.Image.{Image, IsOutcome, settled_image}
 use Rattle.disk_model.specs.MemDisk.{state_of}
 use Rattle.section_store.specs.Lasting.{IsTrusted, IsTrustedFile, StaysTrusted}
 use Rattle.section_store.specs.Sections.{form_of}
-use Rattle.core_tests.proofs.tests.fresh.cut_off.Goals as goal
+use Rattle.planner_tests.proofs.tests.fresh.cut_off.Goals as goal
 
 pub returns-in-Ok : goal.returns-in-Ok
 returns-in-Ok c = λ bytes left.
