@@ -10,7 +10,7 @@ use std::sync::{Arc, Wait};
 use std::thread;
 use std::thread::Threads;
 use timetable::Timetable;
-use work_ledger::{Call, Entry, Ledger};
+use work_ledger::{Entry, Ledger};
 
 // The number of the ninth seat, which stores.
 const STORER: u8 = 8;
@@ -34,7 +34,7 @@ pub struct NineAtWork {
     pub history: Vec<Entry>,
 }
 
-/// The ledger with so many seats, opened once more where memory is refused.
+/// The ledger with so many seats.
 pub fn opened<B: Basis>(
     alloc: Global,
     ledger: Ledger,
@@ -45,14 +45,7 @@ pub fn opened<B: Basis>(
     requires some { 0 < seats }
     requires most { seats ≤ 256 }
 {
-    let ledger = match Shared::open(alloc, ledger, seats) {
-        Ok(opened) => return Ok(opened),
-        Err((ledger, _)) => ledger,
-    };
-    match Shared::open(alloc, ledger, seats) {
-        Ok(opened) => Ok(opened),
-        Err((_, fault)) => Err(fault),
-    }
+    Shared::open(alloc, ledger, seats).map_err(|(_ledger, fault)| fault)
 }
 
 /// The history so far.
@@ -90,27 +83,7 @@ pub fn comes_to<B: Basis, R: Wait>(
     false
 }
 
-// Whether the ledger was told to stop.
-fn is_stopped<B: Basis, R: Wait>(rt: &R, shared: &Shared<B>, seat: &Seat) -> bool {
-    for number in 0..shared.entries(rt, seat) {
-        if let Some(entry) = shared.entry(rt, seat, number)
-            && entry.call == Call::Stop
-        {
-            return true;
-        }
-    }
-    false
-}
-
-/// Closes the ledger, and once more where memory was refused for the entry.
-pub fn close<B: Basis, R: Wait>(rt: &R, shared: &Shared<B>, seat: &Seat) {
-    shared.close(rt, seat);
-    if !is_stopped(rt, shared, seat) {
-        shared.close(rt, seat);
-    }
-}
-
-// Works at a seat to the end, or to where memory is refused twice. The seat of number `storer` stores too.
+// Works at a seat to the end. The seat of number `storer` stores too.
 fn work<B: Basis, R: Wait>(
     rt: &R,
     alloc: Global,
@@ -121,30 +94,26 @@ fn work<B: Basis, R: Wait>(
 ) -> Vec<Entry> {
     let stores = seat.number() == storer;
     let mut worker = Worker::new(rt, alloc, shared, seat);
-    if let Some(mut workshop) = Workshop::open(alloc, table) {
+    if let Ok(mut workshop) = Workshop::new(alloc, table) {
         worker.work(&mut workshop, HANDED_IN, stores);
     }
     worker.leave()
 }
 
-// Stores until no tree comes. None where no call comes either, as no thread could be made; then the ledger is closed.
+// Stores until no tree comes.
 fn store_all<B: Basis, R: Wait>(
     rt: &R,
     alloc: Global,
     shared: &Shared<B>,
     seat: Seat,
-) -> Option<Vec<Entry>> {
-    if !comes_to(rt, shared, &seat, 1) {
-        close(rt, shared, &seat);
-        return None;
-    }
+) -> Vec<Entry> {
     let mut worker = Worker::new(rt, alloc, shared, seat);
     for _ in 0..u32::MAX {
         if !worker.store() {
             break;
         }
     }
-    Some(worker.leave())
+    worker.leave()
 }
 
 // Two seats at once.
@@ -207,7 +176,7 @@ fn eight_and_one<B: Basis + Send + Sync, R: Threads + Wait + Sync>(
     table: &Arc<Timetable>,
     workers: ([Seat; 4], [Seat; 4]),
     storer: Seat,
-) -> (([Vec<Entry>; 4], [Vec<Entry>; 4]), Option<Vec<Entry>>) {
+) -> (([Vec<Entry>; 4], [Vec<Entry>; 4]), Vec<Entry>) {
     thread::join(
         rt,
         || eight(rt, alloc, shared, table, STORER, workers),
@@ -240,13 +209,13 @@ pub fn four_seats<B: Basis + Send + Sync, R: Threads + Wait + Sync>(
     Ok(FourAtWork { told, history })
 }
 
-/// Eight seats work at once, and a ninth stores. None where no thread could be made.
+/// Eight seats work at once, and a ninth stores.
 pub fn nine_seats<B: Basis + Send + Sync, R: Threads + Wait + Sync>(
     rt: &R,
     alloc: Global,
     table: &Arc<Timetable>,
     ledger: Ledger,
-) -> Result<Option<NineAtWork>, AllocError>
+) -> Result<NineAtWork, AllocError>
     requires table { ledger.table ≡ B.table }
     requires rides { ledger.rides ≡ B.rides }
 {
@@ -261,13 +230,10 @@ pub fn nine_seats<B: Basis + Send + Sync, R: Threads + Wait + Sync>(
     };
     let ((first, second), last) = eight_and_one(rt, alloc, &shared, table, (first, second), last);
     let history = history(rt, alloc, &shared, &reader)?;
-    match last {
-        None => Ok(None),
-        Some(last) => Ok(Some(NineAtWork {
-            first,
-            second,
-            last,
-            history,
-        })),
-    }
+    Ok(NineAtWork {
+        first,
+        second,
+        last,
+        history,
+    })
 }

@@ -65,8 +65,9 @@ impl Model for Workshop {
 }
 
 impl Workshop {
-    // For trees of this timetable and at most so many rides.
-    fn new(alloc: Global, table: &Arc<Timetable>, rides: Rides) -> Result<Workshop, AllocError> {
+    /// For trees of this timetable's stops.
+    pub fn new(alloc: Global, table: &Arc<Timetable>) -> Result<Workshop, AllocError> {
+        let rides = Rides::new(RIDES);
         let table = Arc::try_clone(table)?;
         let scratch = Scratch::new(alloc, &table, rides)?;
         let arena = Arena::new(alloc)?;
@@ -79,17 +80,8 @@ impl Workshop {
         })
     }
 
-    /// For trees of this timetable's stops. It is tried once more where memory is refused.
-    pub fn open(alloc: Global, table: &Arc<Timetable>) -> Option<Workshop> {
-        let rides = Rides::new(RIDES);
-        match Workshop::new(alloc, table, rides) {
-            Err(_) => Workshop::new(alloc, table, rides).ok(),
-            Ok(workshop) => Some(workshop),
-        }
-    }
-
-    // The finished tree of a stop of the timetable, unless memory is refused.
-    fn try_tree(&mut self, source: StopId) -> Option<Finished> {
+    /// The finished tree of a stop of the timetable, unless memory is refused.
+    pub fn tree(&mut self, source: StopId) -> Option<Finished> {
         if source.number() >= self.table.stops() {
             return None;
         }
@@ -102,13 +94,5 @@ impl Workshop {
             &mut self.arena,
         )
         .ok()
-    }
-
-    /// The finished tree of a stop of the timetable. It is asked for once more where memory is refused.
-    pub fn tree(&mut self, source: StopId) -> Option<Finished> {
-        match self.try_tree(source) {
-            None => self.try_tree(source),
-            tree => tree,
-        }
     }
 }

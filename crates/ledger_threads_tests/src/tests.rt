@@ -124,20 +124,6 @@ fn shared_counts(rt: HostRuntime) -> Result<(), Fail> {
     Ok(())
 }
 
-// Eight seats, beside a ninth that stores, with room for one tree. It is tried once more where no thread could be made.
-fn nine<R: Threads + Wait + Sync>(
-    rt: &R,
-    alloc: Global,
-    table: &Arc<Timetable>,
-) -> Result<NineAtWork, AllocError> {
-    match nine_seats::<Brand, _>(rt, alloc, table, ledger(alloc, table, 1)?)? {
-        None => {
-            nine_seats::<Brand, _>(rt, alloc, table, ledger(alloc, table, 1)?)?.ok_or(AllocError)
-        }
-        Some(seats) => Ok(seats),
-    }
-}
-
 // Whether all that the nine seats were told is right and just the history.
 fn nine_agree(seats: &NineAtWork) -> bool {
     let history = seats.history.as_slice();
@@ -148,14 +134,14 @@ fn nine_agree(seats: &NineAtWork) -> bool {
         && are_of(history, 9)
 }
 
-// Whether they agree, and each of so many sources is given out once.
+// Eight seats, beside a ninth that stores, with room for one tree: whether they agree, and each of so many sources is given out once.
 fn nine_count<R: Threads + Wait + Sync>(
     rt: &R,
     alloc: Global,
     table: &Arc<Timetable>,
     stops: usize,
 ) -> Result<bool, AllocError> {
-    let seats = nine(rt, alloc, table)?;
+    let seats = nine_seats::<Brand, _>(rt, alloc, table, ledger(alloc, table, 1)?)?;
     let agree = nine_agree(&seats);
     each_once(alloc, &seats.history, stops).map(|once| once && agree)
 }

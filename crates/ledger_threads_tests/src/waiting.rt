@@ -2,11 +2,11 @@
 
 ghost use Rattle.std.specs.Prelude.{◌≡◌};
 
-use crate::meeting::{close, comes_to, history, opened};
+use crate::meeting::{comes_to, history, opened};
 use crate::setting::{Workshop, bare_stops, ledger};
 use crate::working::Worker;
 use shared_ledger::{Basis, Seat, Shared};
-use std::alloc::{AllocError, Global};
+use std::alloc::Global;
 use std::marker::Brand;
 use std::sync::{Arc, Wait};
 use std::test::Fail;
@@ -32,7 +32,7 @@ fn hand_in_one<B: Basis, R: Wait>(
 ) -> Met {
     let mut worker = Worker::new(rt, alloc, shared, seat);
     let mut back = None;
-    if let Some(mut workshop) = Workshop::open(alloc, table)
+    if let Ok(mut workshop) = Workshop::new(alloc, table)
         && let Some(source) = worker.claim()
         && let Some(tree) = workshop.tree(source)
     {
@@ -70,14 +70,13 @@ fn both<B: Basis + Send + Sync, R: Threads + Wait + Sync>(
     )
 }
 
-// A tree fills the queue, two wait with theirs, and the last seat closes the ledger. None where they don't come to wait, as no thread
-// could be made.
+// A tree fills the queue, two wait with theirs, and the last seat closes the ledger. It fails where they don't come to wait.
 fn fill_and_close<B: Basis + Send + Sync, R: Threads + Wait + Sync>(
     rt: &R,
     alloc: Global,
     table: &Arc<Timetable>,
     ledger: Ledger,
-) -> Result<Option<Crowd>, AllocError>
+) -> Result<Crowd, Fail>
     requires table { ledger.table ≡ B.table }
     requires rides { ledger.rides ≡ B.rides }
 {
@@ -89,7 +88,7 @@ fn fill_and_close<B: Basis + Send + Sync, R: Threads + Wait + Sync>(
         seats.pop(),
         seats.pop(),
     ) else {
-        return Err(AllocError);
+        return Err(Fail::new("too few seats"));
     };
     let _first = hand_in_one(rt, alloc, shared, table, first);
     let ((one, other), waited) = thread::join(
@@ -97,19 +96,19 @@ fn fill_and_close<B: Basis + Send + Sync, R: Threads + Wait + Sync>(
         || both(rt, alloc, shared, table, a, b),
         || {
             let waited = comes_to(rt, shared, &closer, 6);
-            close(rt, shared, &closer);
+            shared.close(rt, &closer);
             waited
         },
     );
     if !waited {
-        return Ok(None);
+        return Err(Fail::new("nobody waits"));
     }
     let history = history(rt, alloc, shared, &closer)?;
-    Ok(Some(Crowd {
+    Ok(Crowd {
         one,
         other,
         history,
-    }))
+    })
 }
 
 // How often an entry stands there.
@@ -135,26 +134,12 @@ fn has_its_tree_back(met: &Met, seat: u8, before: &[Entry], since: &[Entry]) -> 
         && count(since, &full) == 1
 }
 
-// The same, tried once more where no thread could be made.
-fn wait_for_room<R: Threads + Wait + Sync>(
-    rt: &R,
-    alloc: Global,
-    table: &Arc<Timetable>,
-) -> Result<Crowd, AllocError> {
-    match fill_and_close::<Brand, _>(rt, alloc, table, ledger(alloc, table, 1)?)? {
-        None => fill_and_close::<Brand, _>(rt, alloc, table, ledger(alloc, table, 1)?)?.ok_or(
-            AllocError,
-        ),
-        Some(crowd) => Ok(crowd),
-    }
-}
-
 // One tree fills the queue, and two seats wait with theirs, when a fourth closes the ledger. Both go on with their trees.
 #[test]
 fn closed_at_a_full_queue(rt: HostRuntime) -> Result<(), Fail> {
     let alloc = rt.alloc();
     let table = bare_stops(&rt, 5)?;
-    let crowd = wait_for_room(&rt, alloc, &table)?;
+    let crowd = fill_and_close::<Brand, _>(&rt, alloc, &table, ledger(alloc, &table, 1)?)?;
     assert_eq!(rt; crowd.history.len(), 9);
     let (before, since) = crowd.history.split_at(6);
     assert!(rt; count(since, &entry(Call::Stop, Reply::Done)) == 1);
@@ -163,12 +148,9 @@ fn closed_at_a_full_queue(rt: HostRuntime) -> Result<(), Fail> {
     Ok(())
 }
 
-// Whether a take answers that no tree will come. It is called once more where memory is refused.
+// Whether a take answers that no tree will come.
 fn none_comes<B: Basis, R: Wait>(rt: &R, shared: &Shared<B>, seat: &Seat) -> bool {
-    match shared.take(rt, seat) {
-        Err(_) => matches!(shared.take(rt, seat), Ok(None)),
-        Ok(tree) => tree.is_none(),
-    }
+    matches!(shared.take(rt, seat), Ok(None))
 }
 
 // What came of a take that waited: whether it was told that no tree will come, and the history.
@@ -178,21 +160,21 @@ struct Lone {
     history: Vec<Entry>,
 }
 
-// A take waits for the tree of a source that is claimed, if one `is_claimed`. Then the ledger is closed, and the source given back. None
-// where the take doesn't come to wait, as no thread could be made.
+// A take waits for the tree of a source that is claimed, if one `is_claimed`. Then the ledger is closed, and the source given back. It
+// fails where the take doesn't come to wait.
 fn closed_while_empty<B: Basis + Send + Sync, R: Threads + Wait + Sync>(
     rt: &R,
     alloc: Global,
     ledger: Ledger,
     is_claimed: bool,
-) -> Result<Option<Lone>, AllocError>
+) -> Result<Lone, Fail>
     requires table { ledger.table ≡ B.table }
     requires rides { ledger.rides ≡ B.rides }
 {
     let (shared, mut seats) = opened::<B>(alloc, ledger, 3)?;
     let shared = &shared;
     let (Some(closer), Some(a), Some(taker)) = (seats.pop(), seats.pop(), seats.pop()) else {
-        return Err(AllocError);
+        return Err(Fail::new("too few seats"));
     };
     let mut worker = Worker::new(rt, alloc, shared, a);
     let source = if is_claimed { worker.claim() } else { None };
@@ -201,7 +183,7 @@ fn closed_while_empty<B: Basis + Send + Sync, R: Threads + Wait + Sync>(
         || none_comes(rt, shared, &taker),
         || {
             let waited = comes_to(rt, shared, &closer, if is_claimed { 2 } else { 1 });
-            close(rt, shared, &closer);
+            shared.close(rt, &closer);
             if let Some(source) = source {
                 worker.give_back(source);
             }
@@ -209,10 +191,10 @@ fn closed_while_empty<B: Basis + Send + Sync, R: Threads + Wait + Sync>(
         },
     );
     if !waited {
-        return Ok(None);
+        return Err(Fail::new("nobody waits"));
     }
     let history = history(rt, alloc, shared, &closer)?;
-    Ok(Some(Lone { none, history }))
+    Ok(Lone { none, history })
 }
 
 // Whether the take was told that no tree will come, behind just these calls: it asked once before the ledger was closed, and once when no
@@ -250,31 +232,14 @@ fn waits_for_the_last(lone: &Lone, is_claimed: bool) -> bool {
             .as_slice()
 }
 
-// Closes it; tried once more where no thread could be made.
-fn wait_for_the_last<R: Threads + Wait + Sync>(
-    rt: &R,
-    alloc: Global,
-    table: &Arc<Timetable>,
-    is_claimed: bool,
-) -> Result<Lone, AllocError> {
-    match closed_while_empty::<Brand, _>(rt, alloc, ledger(alloc, table, 1)?, is_claimed)? {
-        None => closed_while_empty::<Brand, _>(
-            rt,
-            alloc,
-            ledger(alloc, table, 1)?,
-            is_claimed,
-        )?.ok_or(AllocError),
-        Some(lone) => Ok(lone),
-    }
-}
-
 // A take that waits is told that no tree will come once the ledger is closed, and no source is claimed.
 #[test]
 fn closed_at_an_empty_queue(rt: HostRuntime) -> Result<(), Fail> {
     let alloc = rt.alloc();
     let table = bare_stops(&rt, 5)?;
     for is_claimed in [false, true] {
-        let lone = wait_for_the_last(&rt, alloc, &table, is_claimed)?;
+        let ledger = ledger(alloc, &table, 1)?;
+        let lone = closed_while_empty::<Brand, _>(&rt, alloc, ledger, is_claimed)?;
         assert!(rt; waits_for_the_last(&lone, is_claimed));
     }
     Ok(())
@@ -285,13 +250,13 @@ fn end_early<B: Basis, R: Wait>(mut worker: Worker<'_, B, R>) -> Option<StopId> 
     worker.claim()
 }
 
-// A take waits, and all other seats are left: by a worker that ends without a word, by one that is let go, and by a call. None where the
-// take doesn't come to wait, as no thread could be made.
+// A take waits, and all other seats are left: by a worker that ends without a word, by one that is let go, and by a call. It fails where
+// the take doesn't come to wait.
 fn all_left<B: Basis + Send + Sync, R: Threads + Wait + Sync>(
     rt: &R,
     alloc: Global,
     ledger: Ledger,
-) -> Result<Option<Lone>, AllocError>
+) -> Result<Lone, Fail>
     requires table { ledger.table ≡ B.table }
     requires rides { ledger.rides ≡ B.rides }
 {
@@ -303,7 +268,7 @@ fn all_left<B: Basis + Send + Sync, R: Threads + Wait + Sync>(
         seats.pop(),
         seats.pop(),
     ) else {
-        return Err(AllocError);
+        return Err(Fail::new("too few seats"));
     };
     let (none, waited) = thread::join(
         rt,
@@ -317,10 +282,10 @@ fn all_left<B: Basis + Send + Sync, R: Threads + Wait + Sync>(
         },
     );
     if !waited {
-        return Ok(None);
+        return Err(Fail::new("nobody waits"));
     }
     let history = history(rt, alloc, shared, &taker)?;
-    Ok(Some(Lone { none, history }))
+    Ok(Lone { none, history })
 }
 
 // Whether the take was told that no tree will come, though a source is claimed: it asked once before the others left, and once since.
@@ -345,24 +310,12 @@ fn waits_for_all(lone: &Lone) -> bool {
             .as_slice()
 }
 
-// All leave; tried once more where no thread could be made.
-fn wait_for_all<R: Threads + Wait + Sync>(
-    rt: &R,
-    alloc: Global,
-    table: &Arc<Timetable>,
-) -> Result<Lone, AllocError> {
-    match all_left::<Brand, _>(rt, alloc, ledger(alloc, table, 1)?)? {
-        None => all_left::<Brand, _>(rt, alloc, ledger(alloc, table, 1)?)?.ok_or(AllocError),
-        Some(lone) => Ok(lone),
-    }
-}
-
 // A take that waits is told that no tree will come once all others have left, however they did.
 #[test]
 fn left_by_all_others(rt: HostRuntime) -> Result<(), Fail> {
     let alloc = rt.alloc();
     let table = bare_stops(&rt, 5)?;
-    let lone = wait_for_all(&rt, alloc, &table)?;
+    let lone = all_left::<Brand, _>(&rt, alloc, ledger(alloc, &table, 1)?)?;
     assert!(rt; waits_for_all(&lone));
     Ok(())
 }

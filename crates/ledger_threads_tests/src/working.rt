@@ -11,7 +11,7 @@ use work_ledger::{Call, Claimed, Entry, Fault, Outcome, Refusal, Reply};
 // More than there are sources.
 const MOST_TURNS: u32 = 1 << 16;
 
-/// Who works at a seat, with the calls that it made and the replies that it got. A call to which memory is refused is made once more.
+/// Who works at a seat, with the calls that it made and the replies that it got. A call to which memory is refused is no call.
 #[derive(Drop)]
 pub struct Worker<'a, B: Basis, R: Wait> {
     shared: &'a Shared<B>,
@@ -32,20 +32,14 @@ impl<'a, B: Basis, R: Wait> Worker<'a, B, R> {
     }
 
     fn note(&mut self, call: Call, reply: Reply) {
-        if let Err(refused) = self.told.push(Entry { call, reply }) {
-            let _ = self.told.push(refused.value);
-        }
+        let _ = self.told.push(Entry { call, reply });
     }
 
     /// Claims a source; none where no source is given out.
     pub fn claim(&mut self) -> Option<StopId> {
         let seat = self.sitting.seat();
         let call = Call::Claim(seat.number());
-        let claimed = match self.shared.claim(self.rt, seat) {
-            Err(_) => self.shared.claim(self.rt, seat).ok()?,
-            Ok(claimed) => claimed,
-        };
-        match claimed {
+        match self.shared.claim(self.rt, seat).ok()? {
             Claimed::Source(source) => {
                 self.note(call, Reply::Source(source));
                 Some(source)
@@ -62,11 +56,7 @@ impl<'a, B: Basis, R: Wait> Worker<'a, B, R> {
         let seat = self.sitting.seat();
         let source = tree.tree().source();
         let call = Call::HandIn(seat.number(), source, true);
-        let answer = match self.shared.hand_in(self.rt, seat, tree) {
-            Err((Refusal::Memory, tree)) => self.shared.hand_in(self.rt, seat, tree),
-            answer => answer,
-        };
-        let (refusal, tree) = match answer {
+        let (refusal, tree) = match self.shared.hand_in(self.rt, seat, tree) {
             Ok(()) => {
                 self.note(call, Reply::Done);
                 return None;
@@ -98,21 +88,14 @@ impl<'a, B: Basis, R: Wait> Worker<'a, B, R> {
     pub fn give_back(&mut self, source: StopId) {
         let seat = self.sitting.seat();
         let call = Call::GiveBack(seat.number(), source);
-        let answer = match self.shared.give_back(self.rt, seat, source) {
-            Err(Fault::Memory) => self.shared.give_back(self.rt, seat, source),
-            answer => answer,
-        };
+        let answer = self.shared.give_back(self.rt, seat, source);
         self.note_done(call, answer);
     }
 
     /// Takes a tree, and keeps it; its source. None where no tree will come.
     pub fn take(&mut self) -> Option<StopId> {
         let seat = self.sitting.seat();
-        let taken = match self.shared.take(self.rt, seat) {
-            Err(_) => self.shared.take(self.rt, seat).ok()?,
-            Ok(taken) => taken,
-        };
-        let Some(tree) = taken else {
+        let Some(tree) = self.shared.take(self.rt, seat).ok()? else {
             self.note(Call::Take, Reply::Closed);
             return None;
         };
@@ -125,10 +108,7 @@ impl<'a, B: Basis, R: Wait> Worker<'a, B, R> {
     pub fn ack(&mut self, source: StopId) {
         let seat = self.sitting.seat();
         let call = Call::Ack(source, Outcome::Keep);
-        let answer = match self.shared.ack(self.rt, seat, source, Outcome::Keep) {
-            Err(Fault::Memory) => self.shared.ack(self.rt, seat, source, Outcome::Keep),
-            answer => answer,
-        };
+        let answer = self.shared.ack(self.rt, seat, source, Outcome::Keep);
         self.note_done(call, answer);
     }
 
