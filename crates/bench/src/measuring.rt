@@ -13,6 +13,7 @@ use crate::texts::{Rewritten, read_texts, write_texts};
 use crate::total::times_faster;
 use crate::words::Measure;
 use direct_connections::Network;
+use feed_timetable::assemble;
 use gtfs_tables::{Tables, read_tables};
 use gtfs_text::date;
 use jiff::civil::Date;
@@ -27,7 +28,7 @@ use std::hash::RandomState;
 use std::io::Write;
 use std::sync::Arc;
 use std::time::Instant;
-use timetable::{StopId, Timetable, assemble};
+use timetable::{StopId, Timetable};
 
 // The feed's tables.
 fn read(rt: &HostRuntime, folder: &str) -> Result<Tables, Fault<'static>> {

@@ -3,8 +3,8 @@ use Rattle.std.proofs.Common.{ℕ, length, arith, ◌∙◌, sym, ap}
 use Rattle.std.proofs.lemmas.List.{length-map}
 use Rattle.gtfs_tables.specs.Tables.{TableValues}
 use Rattle.service_days.specs.Cover.{CoverDays}
-use Rattle.timetable.specs.Answers.{IsTimetable}
-use Rattle.timetable.specs.Names.{AreNamesOf}
+use Rattle.feed_timetable.specs.Answers.{IsTimetable}
+use Rattle.feed_timetable.specs.Names.{AreNamesOf}
 use Rattle.timetable.specs.Table.{IsTable}
 use Rattle.feed_basis.specs.Basis.{BasisData, IsSound}
 

@@ -1,10 +1,10 @@
 -- Ids and the stops that they stand for.
 use Rattle.std.proofs.Common.{Option, ◌≡◌, ℕ, ◌+◌, ◌<◌, List, [], ◌∷◌, length, get_or, Some, None, IfSome, All, option_map, arith, refl, subst}
 use Rattle.std.specs.Str.{bytes_eq}
-use Rattle.timetable.specs.Groups.{group}
-use Rattle.timetable.specs.NameLists.{NameLists}
-use Rattle.timetable.specs.Names.{stop_named, station_named}
-use Rattle.timetable.proofs.NameFacts.{position_from_below}
+use Rattle.feed_timetable.specs.Groups.{group}
+use Rattle.feed_timetable.specs.NameLists.{NameLists}
+use Rattle.feed_timetable.specs.Names.{stop_named, station_named}
+use Rattle.feed_timetable.proofs.NameFacts.{position_from_below}
 use Rattle.planner.specs.Places.{AreNames, one_or, stops_at}
 use Rattle.planner.proofs.PlaceFacts.{children_known}
 

@@ -8,9 +8,9 @@ use Rattle.gtfs_tables.specs.Feed.{Feed, feed_tests, values_of}
 use Rattle.gtfs_tables.specs.Tables.{TableValues}
 use Rattle.service_days.specs.Answers.{IsCoverOf}
 use Rattle.service_days.specs.Cover.{CoverDays}
-use Rattle.timetable.specs.Answers.{IsTimetable}
-use Rattle.timetable.specs.Names.{AreNamesOf}
-use Rattle.timetable.specs.NameLists.{NameLists}
+use Rattle.feed_timetable.specs.Answers.{IsTimetable}
+use Rattle.feed_timetable.specs.Names.{AreNamesOf}
+use Rattle.feed_timetable.specs.NameLists.{NameLists}
 use Rattle.timetable.specs.Table.{Table, IsTable, stops_of}
 use Rattle.planner.specs.Places.{AreNames}
 use Rattle.program_inputs.specs.declared.settings.Settings.{Settings}

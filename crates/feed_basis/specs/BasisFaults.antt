@@ -6,7 +6,7 @@ use Rattle.gtfs_rows.specs.declared.fault.FeedFault.{FeedFault}
 use Rattle.gtfs_tables.specs.Feed.{Feed, feed_tests, values_of}
 use Rattle.service_days.specs.Answers.{IsCoverAnswer}
 use Rattle.service_days.specs.Cover.{CoverDays}
-use Rattle.timetable.specs.Answers.{IsFault}
+use Rattle.feed_timetable.specs.Answers.{IsFault}
 use Rattle.program_inputs.specs.declared.fault.Fault.{Fault}
 use Rattle.program_inputs.specs.declared.fault.Fault.TheVariants as faults
 use Rattle.program_inputs.specs.declared.settings.Settings.{Settings}

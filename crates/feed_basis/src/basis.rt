@@ -12,6 +12,7 @@ ghost use Rattle.timetable.specs.Table.{IsTable, stops_of};
 
 use answer_lines::{DayTime, day_time};
 use direct_connections::Network;
+use feed_timetable::{Names, assemble};
 use gtfs_tables::{Files, Tables, read_tables};
 use jiff::civil::Date;
 use program_inputs::{Fault, Settings};
@@ -21,7 +22,7 @@ use std::hash::RandomState;
 use std::io::Read;
 use std::marker::Model;
 use std::sync::Arc;
-use timetable::{Names, StopId, Timetable, assemble};
+use timetable::{StopId, Timetable};
 
 /// A feed's timetable on the covered days, with the ids of its stops, stations and trips.
 #[derive(Drop)]

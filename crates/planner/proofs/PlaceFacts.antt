@@ -5,12 +5,12 @@ use Rattle.std.specs.Str.{bytes_eq}
 use Rattle.std.proofs.lemmas.List.{length-map}
 use Rattle.std.proofs.lemmas.List.Elements.{All-filter}
 use Rattle.std.proofs.lemmas.List.FromFn.{length-range_with_len, get_or-range_with_len}
-use Rattle.timetable.specs.declared.names.Place.{Place}
-use Rattle.timetable.specs.declared.names.Place.TheVariants.{Stop, Station}
-use Rattle.timetable.specs.Groups.{group, is_child}
-use Rattle.timetable.specs.NameLists.{NameLists}
-use Rattle.timetable.specs.Names.{stop_named, station_named, IsPlaceOf}
-use Rattle.timetable.proofs.NameFacts.{position_from_below}
+use Rattle.feed_timetable.specs.declared.names.Place.{Place}
+use Rattle.feed_timetable.specs.declared.names.Place.TheVariants.{Stop, Station}
+use Rattle.feed_timetable.specs.Groups.{group, is_child}
+use Rattle.feed_timetable.specs.NameLists.{NameLists}
+use Rattle.feed_timetable.specs.Names.{stop_named, station_named, IsPlaceOf}
+use Rattle.feed_timetable.proofs.NameFacts.{position_from_below}
 use Rattle.planner.specs.Places.{one_or, stops_at, AreNames, stops_in}
 
 pub place_is : (names : NameLists) (id : List ℕ) (place : Place) → IsPlaceOf names id (Some place) → stops_at names id ≡ Some (stops_in place)

@@ -3,11 +3,11 @@
 use Rattle.std.specs.Prelude.{ℕ, List, [], ◌∷◌, Option, None, Some}
 use Rattle.std.specs.Option.{option_map}
 use Rattle.gtfs_tables.specs.Tables.{TableValues}
-use Rattle.timetable.specs.declared.names.Place.{Place}
-use Rattle.timetable.specs.declared.names.Place.TheVariants as places
-use Rattle.timetable.specs.Groups.{group}
-use Rattle.timetable.specs.NameLists.{NameLists}
-use Rattle.timetable.specs.Names.{AreNamesOf, stop_named, station_named}
+use Rattle.feed_timetable.specs.declared.names.Place.{Place}
+use Rattle.feed_timetable.specs.declared.names.Place.TheVariants as places
+use Rattle.feed_timetable.specs.Groups.{group}
+use Rattle.feed_timetable.specs.NameLists.{NameLists}
+use Rattle.feed_timetable.specs.Names.{AreNamesOf, stop_named, station_named}
 
 -- the stop alone, where there is one, else the others
 abbrev pub one_or : Option ℕ → Option (List ℕ) → Option (List ℕ)

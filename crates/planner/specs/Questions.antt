@@ -4,7 +4,7 @@ use Rattle.std.specs.List.{All, Contains}
 use Rattle.timetable.specs.declared.parts.Numbers.{Numbers}
 use Rattle.timetable.specs.Table.{Table}
 use Rattle.timetable.specs.Journeys.{Reaches}
-use Rattle.timetable.specs.NameLists.{NameLists}
+use Rattle.feed_timetable.specs.NameLists.{NameLists}
 use Rattle.pattern_tree.specs.Content.{Content, longest}
 use Rattle.pattern_tree.specs.Completeness.{Complete}
 use Rattle.pattern_query.specs.Answer.{PointData, numbers, TreeReaches, IsPoint, AreBest}

@@ -9,8 +9,9 @@ use crate::fault::AskFault;
 use crate::places::stops_of;
 use crate::trees::Trees;
 use direct_connections::Network;
+use feed_timetable::Names;
 use pattern_query::{Answer, BestSoFar, Patterns};
-use timetable::{LATEST_MOMENT, Names, StopId};
+use timetable::{LATEST_MOMENT, StopId};
 
 // Puts in the journeys of the patterns to each of the stops.
 fn search_to(

@@ -4,8 +4,9 @@ ghost use Rattle.std.specs.Prelude.{◌≡◌};
 ghost use Rattle.std.specs.Option.{option_map};
 ghost use Rattle.planner.specs.Places.{stops_at, stops_in};
 
+use feed_timetable::{Names, Place};
 use std::slice;
-use timetable::{Names, Place, StopId};
+use timetable::StopId;
 
 /// The place of an id: its stop, else its station; none where the id names nothing.
 pub fn place_named<'a>(names: &'a Names, id: &str) -> Option<Place<'a>>

@@ -3,12 +3,13 @@
 ghost use Rattle.std.specs.Prelude.{◌≡◌, IfOk};
 ghost use Rattle.timetable.specs.Table.{stops_of};
 
+use feed_timetable::assemble;
 use gtfs_tables::{Files, Tables, read_tables};
 use jiff::civil::Date;
 use service_days::Cover;
 use std::hash::RandomState;
 use std::test::Fail;
-use timetable::{Timetable, assemble};
+use timetable::Timetable;
 
 /// Five stops: A, B, C, D and E are 0 to 4.
 pub const STOPS: &str = "stop_id\nA\nB\nC\nD\nE\n";

@@ -2,7 +2,7 @@
 use Rattle.std.proofs.Common.{ℕ, ◌<◌, List, length, Contains, All, subst, subst₂, sym}
 use Rattle.std.proofs.lemmas.List.Elements.{All-weaker, at_from_Contains}
 use Rattle.timetable.specs.Journeys.{Journey}
-use Rattle.timetable.specs.NameLists.{NameLists}
+use Rattle.feed_timetable.specs.NameLists.{NameLists}
 use Rattle.timetable.specs.Table.{Table}
 use Rattle.pattern_query.specs.Answer.{PointData}
 use Rattle.planner.specs.Questions.{Held, IsAnswer, IsAskedPoint}

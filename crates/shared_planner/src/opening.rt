@@ -17,11 +17,12 @@ use crate::plan::Planner;
 use board::{Reader, open as open_board};
 use direct_connections::Network;
 use disk_model::Disk;
+use feed_timetable::Names;
 use recovery::{RecoverFault, Recovered, recover};
 use section_store::Step;
 use std::alloc::Global;
 use std::sync::{Arc, Wait};
-use timetable::{Names, Rides};
+use timetable::Rides;
 
 /// A planner, the desk at which its trees are built and stored, and the readers of its board, who ask.
 pub struct Opened<D: Disk> {

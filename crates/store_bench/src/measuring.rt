@@ -6,6 +6,7 @@ ghost use Rattle.timetable.specs.Table.{stops_of};
 
 use crate::clock::{now, tell};
 use disk_model::{Disk, FileDisk};
+use feed_timetable::assemble;
 use gtfs_tables::{Tables, read_tables};
 use gtfs_text::date;
 use pattern_building::finish;
@@ -18,7 +19,7 @@ use std::alloc::Global;
 use std::hash::RandomState;
 use std::sync::Arc;
 use thiserror::Error;
-use timetable::{Rides, StopId, Timetable, assemble};
+use timetable::{Rides, StopId, Timetable};
 use tree_codec::encode;
 
 /// Why nothing was measured.

@@ -4,15 +4,5 @@ pub mod Legs
 pub mod Front
 pub mod Laws
 pub mod Hops
-pub mod Groups
-pub mod Index
-pub mod Winners
-pub mod Instances
-pub mod Running
-pub mod Transfers
-pub mod Answers
-pub mod Limits
-pub mod NameLists
-pub mod Names
 pub mod Canonical
 pub mod Writing

@@ -2,9 +2,9 @@ use Rattle.std.proofs.Common.{subst, subst₂, sym, inr}
 use Rattle.std.proofs.lemmas.Result.{err_from_is_err_and}
 use Rattle.gtfs_tables.specs.Feed.{values_of}
 use Rattle.gtfs_tables.specs.Tables.{TableValues}
-use Rattle.timetable.specs.Answers.{IsFault, IsTimetable}
-use Rattle.timetable.specs.NameLists.{NameLists}
-use Rattle.timetable.specs.Names.{AreNamesOf}
+use Rattle.feed_timetable.specs.Answers.{IsFault, IsTimetable}
+use Rattle.feed_timetable.specs.NameLists.{NameLists}
+use Rattle.feed_timetable.specs.Names.{AreNamesOf}
 use Rattle.timetable.specs.Table.{Table, IsTable}
 use Rattle.feed_basis.specs.Basis.{AreDays}
 use Rattle.feed_basis.proofs.FaultFacts.{of_cover, of_rows}

@@ -1,0 +1,12 @@
+pub mod Growing
+pub mod Listing
+pub mod GroupSteps
+pub mod WalkRows
+pub mod WinnerSteps
+pub mod Ranking
+pub mod Winning
+pub mod RowSteps
+pub mod Instancing
+pub mod Assembling
+pub mod Shifting
+pub mod NameFacts

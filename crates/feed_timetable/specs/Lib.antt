@@ -1,0 +1,10 @@
+pub mod Groups
+pub mod Index
+pub mod Winners
+pub mod Instances
+pub mod Running
+pub mod Transfers
+pub mod Answers
+pub mod Limits
+pub mod NameLists
+pub mod Names
