@@ -6,6 +6,7 @@ mod building;
 mod clock;
 mod measuring;
 mod questions;
+mod storing;
 mod texts;
 mod total;
 mod words;

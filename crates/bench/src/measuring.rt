@@ -9,6 +9,7 @@ ghost use Rattle.program_inputs.specs.declared.fault.Fault.TheVariants.{BadDate}
 use crate::asking::{ask_direct, ask_plain, ask_rounds, ask_trees};
 use crate::building::{Trees, build_tree};
 use crate::clock::{now, tell};
+use crate::storing::measure_store;
 use crate::texts::{Rewritten, read_texts, write_texts};
 use crate::total::times_faster;
 use crate::words::Measure;
@@ -249,5 +250,12 @@ pub fn measure(rt: &HostRuntime, job: &Measure<'_>) -> Result<(), Fault<'static>
     let timetable = measure_making(rt, first, &job.settings)?;
     let network = measure_network(rt, timetable)?;
     measure_rides(rt, &network, job);
-    measure_searches(rt, &network, job)
+    measure_searches(rt, &network, job)?;
+    match job.store {
+        Some(path) => {
+            let rides = Rides::new(job.settings.rides);
+            measure_store(rt, network.shared(), rides, job.sources, path)
+        }
+        None => Ok(()),
+    }
 }

@@ -8,7 +8,7 @@ ghost use Rattle.program_inputs.specs.Statuses.{IsStatus};
 ghost use Rattle.bench.specs.CommandLine.{bench_app, IsMeasure, NamesNothing};
 
 use clap::{ArgMatches, Command, Error};
-use program_inputs::{Settings, common, number, number_of, refuse, settings_of};
+use program_inputs::{Settings, common, number, number_of, optional, refuse, settings_of, text_of};
 use std::alloc::Global;
 use std::io::Write;
 
@@ -29,6 +29,8 @@ const SEED: &str = "Where the random numbers begin: the same seed asks the same 
 const SOURCES: &str =
     "The trees of how many sources are built and asked, from the first stop on, up to 65534";
 
+const STORE: &str = "The file of a store, to which the trees of the sources are put";
+
 /// What to measure.
 #[derive(Clone, Copy, Debug)]
 pub struct Measure<'a> {
@@ -43,6 +45,8 @@ pub struct Measure<'a> {
     pub seed: u32,
     /// The trees of how many sources are built.
     pub sources: u32,
+    /// The file of a store, where one is measured.
+    pub store: Option<&'a str>,
 }
 
 // The benchmark's command line.
@@ -56,7 +60,8 @@ fn command<'a>(alloc: Global) -> Result<Command<'a>, Error>
         .arg(number(alloc, "plain", "N", "100", 0, 1_000_000, PLAIN))?
         .arg(number(alloc, "queries", "N", "1000", 0, 1_000_000, QUERIES))?
         .arg(number(alloc, "seed", "S", "1", 0, u32::MAX, SEED))?
-        .arg(number(alloc, "sources", "N", "0", 0, 65_534, SOURCES))?;
+        .arg(number(alloc, "sources", "N", "0", 0, 65_534, SOURCES))?
+        .arg(optional(alloc, "store", "FILE", STORE))?;
     Ok(command)
 }
 
@@ -86,6 +91,7 @@ fn measure_of<'a>(found: &ArgMatches<'a>) -> Option<Measure<'a>>
         queries,
         seed,
         sources,
+        store: text_of(found, "store"),
     })
 }
 

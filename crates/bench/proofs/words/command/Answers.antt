@@ -4,7 +4,9 @@ use Rattle.bench.proofs.words.command.Goals as goal
 
 pub returns-clause-shape : goal.returns-clause-shape
 returns-clause-shape c =
-    c.in_ok-command.ensures.shape c.number-5.ensures.local
+    c.in_ok-command.ensures.shape c.optional.ensures.local
+    ∙ ap₂ with_rule (
+    c.in_ok-arg-5.ensures.shape c.number-5.ensures.local
     ∙ ap₂ with_rule (
     c.in_ok-arg-4.ensures.shape c.number-4.ensures.local
     ∙ ap₂ with_rule (
@@ -17,4 +19,5 @@ returns-clause-shape c =
     c.number-2.ensures.rule)
     c.number-3.ensures.rule)
     c.number-4.ensures.rule)
-    c.number-5.ensures.rule
+    c.number-5.ensures.rule)
+    c.optional.ensures.rule
