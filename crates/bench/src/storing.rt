@@ -5,13 +5,13 @@ ghost use Rattle.std.specs.Arc.{arc_value};
 ghost use Rattle.rounds.specs.Scratch.{IsMadeFor, rides_of};
 
 use crate::clock::{now, tell};
-use disk_model::{Disk, DiskFault, FileDisk};
+use disk_model::{Disk, DiskFault, FileDisk, FileFault};
 use pattern_building::finish;
 use pattern_tree::{Arena, Finished};
 use program_inputs::Fault;
 use recovery::{RecoverFault, Recovered, recover};
 use rounds::{Rides, Scratch};
-use section_store::SectionStore;
+use section_store::{PutFault, SectionStore};
 use std::alloc::{AllocError, Global};
 use std::sync::Arc;
 use timetable::{StopId, Timetable};
@@ -24,7 +24,8 @@ const PIECE: usize = 65_536;
 fn open_disk(rt: &HostRuntime, path: &str) -> Result<FileDisk, Fault<'static>> {
     match FileDisk::open(rt, path) {
         Ok(disk) => Ok(disk),
-        Err(_) => Err(Fault::Store(RecoverFault::Device)),
+        Err(FileFault::InUse) => Err(Fault::StoreInUse),
+        Err(FileFault::Failed) => Err(Fault::Store(RecoverFault::Device)),
     }
 }
 
@@ -89,7 +90,7 @@ fn trees_of(
     Ok(trees)
 }
 
-// Measures the puts of the trees that the store doesn't have.
+// Measures the puts of the trees. One that the store has is refused.
 fn measure_puts(
     rt: &HostRuntime,
     store: &mut SectionStore<FileDisk>,
@@ -98,8 +99,9 @@ fn measure_puts(
     let before = store.stored().len();
     let start = now(rt);
     for tree in trees {
-        if !store.stored().contains(&tree.tree().source()) && store.put(tree).is_err() {
-            return Err(Fault::PutFailed);
+        match store.put(tree) {
+            Ok(_) | Err(PutFault::AlreadyStored) => {}
+            Err(_) => return Err(Fault::PutFailed),
         }
     }
     let puts = store.stored().len().saturating_sub(before);
