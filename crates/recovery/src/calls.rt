@@ -10,7 +10,7 @@ ghost use Rattle.section_store.specs.Lasting.{LosesNothing, StaysTrusted, IsTrus
 ghost use Rattle.section_store.specs.Sections.{IsFresh, Stands, form_of, sources};
 ghost use Rattle.section_store.specs.Store.{Holds};
 ghost use Rattle.recovery.specs.Excerpts.{IsExcerpt};
-ghost use Rattle.recovery.specs.Recovery.{IsOutside, StandsAsBefore, StandsForNoList, CauseOf};
+ghost use Rattle.recovery.specs.Recovery.{IsLeftAlone, IsOutside, StandsAsBefore, StandsForNoList, CauseOf};
 
 use crate::fault::RecoverFault;
 use crate::opening::open;
@@ -55,6 +55,7 @@ pub fn recover<D: Disk>(
     ensures written { D.honest disk → ¬ IsFresh (D.state disk).read → MatchResult result
         (λ r. D.state r.store.disk ≡ after_sync (D.state disk))
         (λ e. (D.state e.1 ≡ D.state disk) ⊎ (D.state e.1 ≡ after_sync (D.state disk))) }
+    ensures alone { D.honest disk → IfErr result (λ e. IsOutside e.0 ⊎ IsLeftAlone (D.state disk) (D.state e.1)) }
     ensures honest { MatchResult result (λ r. D.honest disk ↔ D.honest r.store.disk) (λ e. D.honest disk ↔ D.honest e.1) }
     ensures ready { IfOk result (λ r. (r.store.next ≡ Step.WriteBody) × (r.store.form ≡ form_of (arc_value table.now) rides)) }
     ensures stored { IfOk result (λ r. r.store.stored.items ≡ sources r.trees.items) }
@@ -93,6 +94,7 @@ pub fn recover_trees_of<D: Disk>(
     ensures written { D.honest disk → ¬ IsFresh (D.state disk).read → MatchResult result
         (λ r. D.state r.store.disk ≡ after_sync (D.state disk))
         (λ e. (D.state e.1 ≡ D.state disk) ⊎ (D.state e.1 ≡ after_sync (D.state disk))) }
+    ensures alone { D.honest disk → IfErr result (λ e. IsOutside e.0 ⊎ IsLeftAlone (D.state disk) (D.state e.1)) }
     ensures honest { MatchResult result (λ r. D.honest disk ↔ D.honest r.store.disk) (λ e. D.honest disk ↔ D.honest e.1) }
     ensures ready { IfOk result (λ r. (r.store.next ≡ Step.WriteBody) × (r.store.form ≡ form_of (arc_value table.now) rides)) }
 {

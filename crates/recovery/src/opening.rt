@@ -11,7 +11,7 @@ ghost use Rattle.section_store.specs.Sections.{IsFresh, Stands, form_of, sources
 ghost use Rattle.section_store.specs.Sources.{IsSetOf};
 ghost use Rattle.section_store.specs.Store.{Holds};
 ghost use Rattle.recovery.specs.Reading.{OnlyCounted, IsRead, IsSoFar, IsShut, IsRefusal};
-ghost use Rattle.recovery.specs.Recovery.{IsOutside, StandsAsBefore, StandsForNoList, CauseOf};
+ghost use Rattle.recovery.specs.Recovery.{IsLeftAlone, IsOutside, StandsAsBefore, StandsForNoList, CauseOf};
 
 use crate::fault::RecoverFault;
 use crate::header::first_gate;
@@ -105,6 +105,7 @@ pub(crate) fn open<D: Disk>(
     ensures written { D.honest disk → ¬ IsFresh (D.state disk).read → MatchResult result
         (λ r. D.state r.store.disk ≡ after_sync (D.state disk))
         (λ e. (D.state e.1 ≡ D.state disk) ⊎ (D.state e.1 ≡ after_sync (D.state disk))) }
+    ensures alone { D.honest disk → IfErr result (λ e. IsOutside e.0 ⊎ IsLeftAlone (D.state disk) (D.state e.1)) }
     ensures honest { MatchResult result (λ r. D.honest disk ↔ D.honest r.store.disk) (λ e. D.honest disk ↔ D.honest e.1) }
     ensures ready { IfOk result (λ r. (r.store.next ≡ Step.WriteBody) × (r.store.form ≡ form_of (arc_value table.now) rides)) }
 {

@@ -32,6 +32,11 @@ pub record IsOpening (form : Form) (old new : State) : Type 0 where
   pub loses : LosesNothing form old new
   pub trusts : StaysTrusted form old new
 
+-- the fault is the device's or memory's, and says nothing of the bytes
+abbrev pub IsNotTheBytes : OpenFault → Type 0
+IsNotTheBytes (faults.Recover fault) = IsOutside fault
+IsNotTheBytes faults.Memory = Unit {0}
+
 -- why a planner isn't opened over a file of these bytes: by the bytes, which stand for no list then, or for the device or memory
 abbrev pub IsUnopened : Form → List ℕ → OpenFault → Type 0
 IsUnopened form bytes (faults.Recover fault) = CauseOf form bytes fault × (IsOutside fault ⊎ StandsForNoList form bytes)

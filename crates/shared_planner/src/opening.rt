@@ -1,15 +1,16 @@
 //! Opens a planner.
 
-ghost use Rattle.std.specs.Prelude.{◌≡◌, ◌↔◌, ◌<◌, ◌≤◌, IfOk, IfErr, MatchResult, length};
+ghost use Rattle.std.specs.Prelude.{◌≡◌, ◌↔◌, ◌⊎◌, ◌<◌, ◌≤◌, IfOk, IfErr, MatchResult, length};
 ghost use Rattle.std.specs.Arc.{arc_value};
 ghost use Rattle.std.specs.List.{All};
 ghost use Rattle.disk_model.specs.Disk.{Grew};
 ghost use Rattle.planner.specs.Places.{AreNames};
+ghost use Rattle.recovery.specs.Recovery.{IsLeftAlone};
 ghost use Rattle.section_store.specs.Lasting.{IsTrusted};
 ghost use Rattle.section_store.specs.Sections.{form_of};
 ghost use Rattle.board.specs.Trees.{IsRight};
 ghost use Rattle.shared_planner.specs.Desk.{IsSound};
-ghost use Rattle.shared_planner.specs.Opening.{HoldsList, IsOpened, IsOpening, IsUnopened};
+ghost use Rattle.shared_planner.specs.Opening.{HoldsList, IsNotTheBytes, IsOpened, IsOpening, IsUnopened};
 
 use crate::desk::Desk;
 use crate::fault::OpenFault;
@@ -66,6 +67,7 @@ impl Planner {
         ensures moments { D.honest disk → MatchResult result
             (λ o. IsOpening (form_of network rides) (D.state disk) (D.state o.desk.disk))
             (λ e. IsOpening (form_of network rides) (D.state disk) (D.state e.1)) }
+        ensures alone { D.honest disk → IfErr result (λ e. IsNotTheBytes e.0 ⊎ IsLeftAlone (D.state disk) (D.state e.1)) }
         ensures honest { MatchResult result (λ o. D.honest disk ↔ D.honest o.desk.disk) (λ e. D.honest disk ↔ D.honest e.1) }
     {
         let table = network.shared();

@@ -3,7 +3,7 @@
 ghost use Rattle.std.specs.Prelude.{◌≡◌, ◌↔◌, ◌⊎◌, MatchResult, IfOk, IfErr};
 ghost use Rattle.disk_model.specs.Disk.{Grew};
 ghost use Rattle.planner_life.specs.Desk.{IsOpening, StandsForSources};
-ghost use Rattle.recovery.specs.Recovery.{CauseOf, IsOutside, StandsForNoList};
+ghost use Rattle.recovery.specs.Recovery.{CauseOf, IsLeftAlone, IsOutside, StandsForNoList};
 ghost use Rattle.shared_planner.specs.Desk.{IsSound};
 ghost use Rattle.store_answers.specs.Replies.{IsOpenedReader};
 ghost use Rattle.store_answers.specs.Stores.{cause_of, form_over, planner_over};
@@ -61,6 +61,7 @@ pub fn open<D: Disk, T: Wait>(
     ensures moments { D.honest disk → MatchResult result
         (λ o. IsOpening (form_over basis.now rides) (D.state disk) (D.state o.desk.disk))
         (λ e. IsOpening (form_over basis.now rides) (D.state disk) (D.state e.1)) }
+    ensures alone { D.honest disk → IfErr result (λ e. IsOutside e.0 ⊎ IsLeftAlone (D.state disk) (D.state e.1)) }
     ensures honest { MatchResult result (λ o. D.honest disk ↔ D.honest o.desk.disk) (λ e. D.honest disk ↔ D.honest e.1) }
 {
     goes_on();

@@ -10,7 +10,7 @@ pub returns-in-Err-clause-built : goal.returns-in-Err-clause-built
 returns-in-Err-clause-built g c = λ honest.
     let e = c.in-Err.ensures in
     inl (unopened_over (form_over c.args.basis.now c.args.rides) (g.D.Disk.state c.args.disk) (g.D.Disk.state c.in-Err.disk) c.in-Err.fault
-    c.from.result (e.cause honest) (e.refused honest) c.from.ensures (e.moments honest))
+    c.from.result (e.cause honest) (e.refused honest) (e.alone honest) c.from.ensures (e.moments honest))
 
 pub returns-in-Err-clause-device : goal.returns-in-Err-clause-device
 returns-in-Err-clause-device g c =
