@@ -43,6 +43,7 @@ IsUnanswered stops Missing table moment question faults.NoRandomness = ⊥
 IsUnanswered stops Missing table moment question (faults.Feed f) = ⊥
 IsUnanswered stops Missing table moment question (faults.Days f) = ⊥
 IsUnanswered stops Missing table moment question (faults.Store f) = ⊥
+IsUnanswered stops Missing table moment question faults.GateDamaged = ⊥
 IsUnanswered stops Missing table moment question faults.StoreInUse = ⊥
 IsUnanswered stops Missing table moment question faults.PutFailed = ⊥
 IsUnanswered stops Missing table moment question faults.TooLarge = ⊥

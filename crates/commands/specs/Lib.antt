@@ -1,6 +1,7 @@
 pub mod Words
 pub mod Errands
 pub mod Feeds
+pub mod Files
 pub mod Prints
 pub mod Tellings
 pub mod Runs

@@ -11,7 +11,8 @@ use Rattle.command_line.specs.declared.job.Job.TheVariants as jobs
 use Rattle.feed_report.specs.Reports.{Names}
 use Rattle.program_inputs.specs.Statuses.{IsShown, IsStatus}
 use Rattle.program_inputs.specs.declared.fault.Fault.TheVariants.{Memory}
-use Rattle.commands.specs.Runs.{IsCheckRun, IsRun, Opening, Run, Tells}
+use Rattle.commands.specs.Files.{Opening}
+use Rattle.commands.specs.Runs.{IsCheckRun, IsRun, Run, Tells}
 use Rattle.commands.specs.Tellings.{IsStopsText, Telling}
 
 -- the words give no job: help was asked for and is shown, or there is a fault of words, or memory ran out, and nothing is printed

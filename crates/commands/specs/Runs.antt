@@ -1,10 +1,9 @@
 -- What a run of the program over a feed and the disk of a store leaves.
 use Rattle.std.specs.Prelude.{◌≡◌, ◌↔◌, ◌⊎◌, ℕ, List, Option, None, Some, Result, Ok, Err, IfErr, Bool, true, false}
 use Rattle.disk_model.specs.Disk.{State}
-use Rattle.disk_model.specs.declared.fault.FileFault.{FileFault}
-use Rattle.disk_model.specs.declared.fault.FileFault.TheVariants as files
 use Rattle.gtfs_tables.specs.Feed.{Feed}
-use Rattle.recovery.specs.declared.fault.RecoverFault.TheVariants.{Device}
+use Rattle.recovery.specs.Kinds.{CanOpen}
+use Rattle.section_store.specs.Sections.{Form}
 use Rattle.command_line.specs.declared.format.Style.{Style}
 use Rattle.command_line.specs.declared.format.Style.TheVariants as styles
 use Rattle.command_line.specs.declared.job.Command.{Command}
@@ -32,6 +31,7 @@ use Rattle.store_answers.specs.Replies.{IsServing}
 use Rattle.store_answers.specs.Stores.{IsUnopened, OnlyFailing, form_over}
 use Rattle.store_answers.specs.declared.served.Served.{Served}
 use Rattle.commands.specs.Feeds.{IsGround, IsGroundFault, LeavesAt}
+use Rattle.commands.specs.Files.{IsKeptOut, Opening}
 use Rattle.commands.specs.Prints.{AreReportLines, IsFaulted, IsPrint, served_status}
 use Rattle.commands.specs.Tellings.{IsAnswerPrint, IsReportPrint, Telling, tells_legs, tells_reply}
 
@@ -52,45 +52,28 @@ Prints Lines Faults run = IsPrint Lines Faults run.before run.after run.status
 abbrev pub Tells : (Fault → Type 0) → Run → Type 0
 Tells Faults run = IsFaulted Faults run.before run.after run.status
 
--- why the file of a store can't be opened: another process has it, or the system refused
-abbrev pub of_file : FileFault → Fault
-of_file files.InUse = faults.StoreInUse
-of_file files.Failed = faults.Store Device
-
--- How a run opens the file of a store: what that may give for a path, whether calls of the disk can be believed, its states, and how many
--- of its calls failed.
-pub record Opening (D : Type 0) : Type 1 where
-  pub opens : List ℕ → Result D FileFault → Type 0
-  pub honest : D → Type 0
-  pub state : D → State
-  pub failures : D → ℕ
-
-abbrev pub opening_of : {D : Type 0} → (List ℕ → Result D FileFault → Type 0) → (D → Type 0) → (D → State) → (D → ℕ) → Opening D
-opening_of opens honest state failures = record { opens = opens; honest = honest; state = state; failures = failures }
-
--- the file wasn't opened, which the run told
-pub record IsRefusedFile {D : Type 0} (o : Opening D) (path : List ℕ) (run : Run) (disk : Option D) : Type 0 where
-  pub fault : FileFault
-  pub opened : o.opens path (Err fault)
-  pub none : disk ≡ None
-  pub told : Tells (λ f. f ≡ of_file fault) run
+-- there was no file in which the store may be opened, which the run told
+abbrev pub IsKeptOutRun : {D : Type 0} → Opening D → Form → List ℕ → Run → Option D → Type 0
+IsKeptOutRun o form path run disk = (fault : Fault) × IsKeptOut o form path fault disk × Tells (λ f. f ≡ fault) run
 
 -- what a run does to a disk, of its states before and after, where only such faults may be told
 abbrev pub Use : Type 1
 Use = State → State → (Fault → Type 0) → Run → Type 0
 
--- The file was opened, and the run used its disk. A fault that says that a call of the disk failed is told only where one did.
-pub record IsOverDisk {D : Type 0} (o : Opening D) (path : List ℕ) (Uses : Use) (run : Run) (disk : Option D) : Type 0 where
+-- The file was opened, it is one in which the store may be opened, and the run used its disk. A fault that says that a call of the disk
+-- failed is told only where one did.
+pub record IsOverDisk {D : Type 0} (o : Opening D) (form : Form) (path : List ℕ) (Uses : Use) (run : Run) (disk : Option D) : Type 0 where
   pub first : D
   pub last : D
   pub opened : o.opens path (Ok first)
+  pub may : o.honest first → CanOpen form (o.state first).read
   pub given_back : disk ≡ Some last
   pub honest : o.honest first ↔ o.honest last
   pub uses : o.honest first → Uses (o.state first) (o.state last) (OnlyFailing (o.failures first) (o.failures last)) run
 
 -- a run over the file of that path
-abbrev pub IsOverStore : {D : Type 0} → Opening D → List ℕ → Use → Run → Option D → Type 0
-IsOverStore o path Uses run disk = IsRefusedFile o path run disk ⊎ IsOverDisk o path Uses run disk
+abbrev pub IsOverStore : {D : Type 0} → Opening D → Form → List ℕ → Use → Run → Option D → Type 0
+IsOverStore o form path Uses run disk = IsKeptOutRun o form path run disk ⊎ IsOverDisk o form path Uses run disk
 
 -- an answer of the basis in a style, as the telling has it
 abbrev pub PrintsAnswer : Telling → Style → BasisData → (Answer → Type 0) → (Fault → Type 0) → Run → Type 0
@@ -142,7 +125,7 @@ IsNoLookup (styles.Told format) run disk = Tells (λ fault. fault ≡ faults.Mem
 abbrev pub IsServeIn : {D : Type 0} → Opening D → Telling → Style → BasisData → ℕ → Option (List ℕ) → List ℕ → Run → Option D → Type 0
 IsServeIn o t style basis k input path run disk =
     IsNoLookup style run disk
-    ⊎ IsOverStore o path
+    ⊎ IsOverStore o (form_over basis k) path
     (IsServeRun (λ question reply text. tells_reply t style basis question reply text) (tells_legs style false) basis k input) run disk
 
 -- a question, over the timetable, at the moment of its words
@@ -152,16 +135,16 @@ IsTaskRun o t style basis k moment (tasks.Direct question) run disk =
 IsTaskRun o t style basis k moment (tasks.Scan question legs) run disk =
     IsStopRun t style basis moment question (ArePoints basis k (tells_legs style legs)) run × (disk ≡ None)
 IsTaskRun o t style basis k moment (tasks.Ask question on legs store) run disk =
-    IsOverStore o store.now (IsAskRun t style basis k moment question legs) run disk
+    IsOverStore o (form_over basis k) store.now (IsAskRun t style basis k moment question legs) run disk
 
 -- a command, over the timetable, and over the bytes of standard input where they are known
 abbrev pub IsCommandRun : {D : Type 0} → Opening D → Telling → Option (List ℕ) → Style → Settings → BasisData → Command → Run → Option D → Type 0
 IsCommandRun o t input style settings basis (commands.Answer task) run disk =
     (moment : Option ℕ) × LeavesAt settings task basis moment × IsTaskRun o t style basis settings.rides moment task run disk
 IsCommandRun o t input style settings basis (commands.Build store workers progress) run disk =
-    IsOverStore o store.now (IsBuildRun basis settings.rides) run disk
+    IsOverStore o (form_over basis settings.rides) store.now (IsBuildRun basis settings.rides) run disk
 IsCommandRun o t input style settings basis (commands.List store) run disk =
-    IsOverStore o store.now (IsListRun t style basis settings.rides) run disk
+    IsOverStore o (form_over basis settings.rides) store.now (IsListRun t style basis settings.rides) run disk
 IsCommandRun o t input style settings basis (commands.Serve store workers) run disk =
     IsServeIn o t style basis settings.rides input store.now run disk
 

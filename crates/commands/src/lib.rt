@@ -4,6 +4,7 @@
 
 mod checking;
 mod errand;
+mod opening;
 mod printing;
 mod program;
 mod replies;

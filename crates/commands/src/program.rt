@@ -3,8 +3,9 @@
 ghost use Rattle.std.specs.Prelude.{is_some, map};
 ghost use Rattle.std.specs.Fn.{FnOnceReturnsAt};
 ghost use Rattle.gtfs_tables.specs.Feed.{AreReaders};
+ghost use Rattle.commands.specs.Files.{opening_of};
 ghost use Rattle.commands.specs.Programs.{IsProgramRun};
-ghost use Rattle.commands.specs.Runs.{opening_of, run_of};
+ghost use Rattle.commands.specs.Runs.{run_of};
 ghost use Rattle.commands.specs.Tellings.{telling_of};
 
 use crate::checking::run_check;

@@ -6,9 +6,10 @@ ghost use Rattle.std.specs.List.{Contains};
 ghost use Rattle.gtfs_tables.specs.Feed.{Feed, AreReaders};
 ghost use Rattle.commands.specs.Errands.{IsErrand};
 ghost use Rattle.commands.specs.Feeds.{IsGround, IsGroundFault};
+ghost use Rattle.commands.specs.Files.{opening_of};
 ghost use Rattle.commands.specs.Prints.{statuses};
 ghost use Rattle.commands.specs.Tellings.{telling_of};
-ghost use Rattle.commands.specs.Runs.{IsRun, IsTaskRun, opening_of, run_of};
+ghost use Rattle.commands.specs.Runs.{IsRun, IsTaskRun, run_of};
 
 use crate::errand::{Errand, words_of};
 use crate::storing::{run_ask, run_build, run_list, run_serve};

@@ -1,12 +1,14 @@
 //! Commands over the file of a store.
 
-ghost use Rattle.std.specs.Prelude.{◌≡◌};
 ghost use Rattle.std.specs.Fn.{FnOnceReturnsAt};
 ghost use Rattle.std.specs.List.{Contains};
+ghost use Rattle.commands.specs.Files.{opening_of};
 ghost use Rattle.commands.specs.Prints.{statuses};
 ghost use Rattle.commands.specs.Tellings.{telling_of};
-ghost use Rattle.commands.specs.Runs.{IsAskRun, IsBuildRun, IsListRun, IsOverStore, IsServeIn, IsServeRun, of_file, opening_of, run_of};
+ghost use Rattle.commands.specs.Runs.{IsAskRun, IsBuildRun, IsListRun, IsOverStore, IsServeIn, IsServeRun, run_of};
+ghost use Rattle.store_answers.specs.Stores.{form_over};
 
+use crate::opening::{Ready, open_ready, tell_new};
 use crate::printing::{print_report, tell_fault};
 use crate::replies::FormatReplies;
 use crate::served::tell_serving;
@@ -18,7 +20,6 @@ use disk_model::{Disk, FileFault};
 use feed_basis::Basis;
 use precomputing::Progress;
 use program_inputs::Fault;
-use recovery::RecoverFault;
 use serving::{Lines, ReplyTeller};
 use std::alloc::Global;
 use std::io::{BufRead, Write};
@@ -26,16 +27,6 @@ use std::sync::Wait;
 use std::thread::Threads;
 use store_answers::{ask_stored, build, list, serve};
 use timetable::Rides;
-
-// Why a file isn't opened, as the program tells it.
-fn file_fault<'a>(fault: FileFault) -> Fault<'a>
-    ensures { result ≡ of_file fault }
-{
-    match fault {
-        FileFault::InUse => Fault::StoreInUse,
-        FileFault::Failed => Fault::Store(RecoverFault::Device),
-    }
-}
 
 /// Prints the ids of the stops whose trees the file of that path has, as the plan's style has them.
 pub fn run_list<D: Disk, S: FnOnce(&str) -> Result<D, FileFault>, T: Teller, W: Write, E: Write>(
@@ -50,17 +41,17 @@ pub fn run_list<D: Disk, S: FnOnce(&str) -> Result<D, FileFault>, T: Teller, W: 
     err: &mut E,
 ) -> (u8, Option<D>)
     requires { S.IsAlwaysCallable open_store }
-    ensures run { IsOverStore (opening_of (FnOnceReturnsAt S.FnOnce open_store) D.honest D.state D.failures) path.now
+    ensures run { IsOverStore (opening_of (FnOnceReturnsAt S.FnOnce open_store) D.honest D.state D.failures)
+        (form_over basis.now rides) path.now
         (IsListRun (telling_of T.tells T.reports T.finds T.replies) plan.now.style basis.now rides)
         (run_of (W.contents out.old) (W.contents out.new) result.0) result.1 }
     ensures statuses { Contains statuses result.0 }
 {
-    match open_store(path) {
-        Err(fault) => {
-            let fault = file_fault(fault);
-            (tell_plan_fault(alloc, teller, plan, &fault, err), None)
-        }
-        Ok(disk) => {
+    match open_ready(alloc, basis, rides, path, open_store) {
+        Err((fault, disk)) => (tell_plan_fault(alloc, teller, plan, &fault, err), disk),
+        Ok(ready) => {
+            let Ready { disk, is_new } = ready;
+            tell_new(path, is_new, err);
             let (report, disk) = list(alloc, basis, rides, disk);
             let status = print_report_as(alloc, teller, plan, report, out, err);
             (status, Some(disk))
@@ -89,14 +80,16 @@ pub fn run_build<
     err: &mut E,
 ) -> (u8, Option<D>)
     requires { S.IsAlwaysCallable open_store }
-    ensures run { IsOverStore (opening_of (FnOnceReturnsAt S.FnOnce open_store) D.honest D.state D.failures) path.now
+    ensures run { IsOverStore (opening_of (FnOnceReturnsAt S.FnOnce open_store) D.honest D.state D.failures)
+        (form_over basis.now rides) path.now
         (IsBuildRun basis.now rides)
         (run_of (W.contents out.old) (W.contents out.new) result.0) result.1 }
     ensures statuses { Contains statuses result.0 }
 {
-    match open_store(path) {
-        Err(fault) => (tell_fault(&file_fault(fault), err), None),
-        Ok(disk) => {
+    match open_ready(alloc, basis, rides, path, open_store) {
+        Err((fault, disk)) => (tell_fault(&fault, err), disk),
+        Ok(ready) => {
+            let Ready { disk, is_new: _ } = ready;
             let (report, disk) = build(alloc, rt, basis, rides, disk, workers, progress);
             (print_report(alloc, report, out, err), Some(disk))
         }
@@ -129,18 +122,18 @@ fn serve_by<
     err: &mut E,
 ) -> (u8, Option<D>, W)
     requires { S.IsAlwaysCallable open_store }
-    ensures run { IsOverStore (opening_of (FnOnceReturnsAt S.FnOnce open_store) D.honest D.state D.failures) path.now
+    ensures run { IsOverStore (opening_of (FnOnceReturnsAt S.FnOnce open_store) D.honest D.state D.failures)
+        (form_over basis.now rides) path.now
         (IsServeRun (λ question reply text. R.tells replies.now basis.now question reply text) (R.tells_legs replies.now)
         basis.now rides (I.remaining input.old))
         (run_of (W.contents out) (W.contents result.2) result.0) result.1 }
     ensures statuses { Contains statuses result.0 }
 {
-    match open_store(path) {
-        Err(fault) => {
-            let fault = file_fault(fault);
-            (tell_plan_fault(alloc, teller, plan, &fault, err), None, out)
-        }
-        Ok(disk) => {
+    match open_ready(alloc, basis, rides, path, open_store) {
+        Err((fault, disk)) => (tell_plan_fault(alloc, teller, plan, &fault, err), disk, out),
+        Ok(ready) => {
+            let Ready { disk, is_new } = ready;
+            tell_new(path, is_new, err);
             let (served, disk, out) = serve(
                 alloc, rt, basis, rides, disk, workers, replies, input, out,
             );
@@ -220,20 +213,20 @@ pub fn run_ask<D: Disk, S: FnOnce(&str) -> Result<D, FileFault>, T: Teller, W: W
     err: &mut E,
 ) -> (u8, Option<D>)
     requires { S.IsAlwaysCallable open_store }
-    ensures run { IsOverStore (opening_of (FnOnceReturnsAt S.FnOnce open_store) D.honest D.state D.failures) path.now
+    ensures run { IsOverStore (opening_of (FnOnceReturnsAt S.FnOnce open_store) D.honest D.state D.failures)
+        (form_over basis.now rides) path.now
         (IsAskRun (telling_of T.tells T.reports T.finds T.replies) asked.now.plan.style basis.now rides moment question.now legs)
         (run_of (W.contents out.old) (W.contents out.new) result.0) result.1 }
     ensures statuses { Contains statuses result.0 }
 {
-    match open_store(path) {
-        Err(fault) => {
-            let fault = file_fault(fault);
-            (
-                tell_plan_fault(alloc, teller, &asked.plan, &fault, err),
-                None,
-            )
-        }
-        Ok(disk) => {
+    match open_ready(alloc, basis, rides, path, open_store) {
+        Err((fault, disk)) => (
+            tell_plan_fault(alloc, teller, &asked.plan, &fault, err),
+            disk,
+        ),
+        Ok(ready) => {
+            let Ready { disk, is_new } = ready;
+            tell_new(path, is_new, err);
             let legs = tells_legs(asked.plan.style, legs);
             let (answer, disk) = ask_stored(alloc, basis, rides, disk, question, moment, legs);
             let status = print_answer_as(alloc, teller, asked, basis, answer, out, err);

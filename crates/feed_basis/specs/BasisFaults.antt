@@ -32,6 +32,7 @@ IsKeyedFault feed settings first (faults.UnknownStop id) = ⊥
 IsKeyedFault feed settings first faults.NotCovered = ⊥
 IsKeyedFault feed settings first faults.TooLarge = ⊥
 IsKeyedFault feed settings first (faults.Store f) = ⊥
+IsKeyedFault feed settings first faults.GateDamaged = ⊥
 IsKeyedFault feed settings first faults.StoreInUse = ⊥
 IsKeyedFault feed settings first faults.PutFailed = ⊥
 IsKeyedFault feed settings first (faults.NotStored id) = ⊥

@@ -49,6 +49,7 @@ IsReadingFault feed (faults.UnknownStop id) = ⊥
 IsReadingFault feed faults.NotCovered = ⊥
 IsReadingFault feed faults.TooLarge = ⊥
 IsReadingFault feed (faults.Store f) = ⊥
+IsReadingFault feed faults.GateDamaged = ⊥
 IsReadingFault feed faults.StoreInUse = ⊥
 IsReadingFault feed faults.PutFailed = ⊥
 IsReadingFault feed (faults.NotStored id) = ⊥

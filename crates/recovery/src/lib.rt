@@ -5,6 +5,7 @@ mod calls;
 mod canonical;
 mod fault;
 mod header;
+mod kind;
 mod opening;
 mod reading;
 mod recovered;
@@ -14,4 +15,5 @@ mod wanted;
 
 pub use calls::{recover, recover_trees_of};
 pub use fault::RecoverFault;
+pub use kind::{FileKind, file_kind};
 pub use recovered::Recovered;

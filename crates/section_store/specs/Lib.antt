@@ -1,3 +1,4 @@
+pub mod Beginnings
 pub mod Fault
 pub mod Going
 pub mod GoingLaws

@@ -103,9 +103,9 @@ fn begin_file<D: Disk>(disk: &mut D, rest: &[u8]) -> Result<(), DiskFault>
     open_header(disk)
 }
 
-// The header's bytes behind its gate, and a closed gate.
+/// The bytes of a store without trees after its first gate: the rest of its header, and a closed gate.
 #[tactic(auto, unfolding(crate::specs::Sections::header_tail))]
-fn rest_of_header(alloc: Global, table: &Timetable, rides: Rides) -> Result<Vec<u8>, AllocError>
+pub fn rest_of_header(alloc: Global, table: &Timetable, rides: Rides) -> Result<Vec<u8>, AllocError>
     ensures { IfOk result (λ bytes. bytes.items ≡ header_tail (form_of table.now rides) ++ 0 ∷ []) }
 {
     let mut bytes = vec![in alloc; 84, 80, 83, 84, 79, 82, 69, 1, rides.number()]?;

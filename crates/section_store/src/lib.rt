@@ -17,7 +17,7 @@ mod store;
 
 pub use fault::PutFault;
 pub use form::Form;
-pub use header::begin;
+pub use header::{begin, rest_of_header};
 pub use step::Step;
 pub use stop_set::StopSet;
 pub use store::{Receipt, SectionStore};

@@ -1,9 +1,11 @@
 use Rattle.std.proofs.Common.{ℕ, inr, subst}
 use Rattle.std.specs.Fn.{FnOnceReturnsAt}
 use Rattle.commands.specs.Errands.{IsErrand}
-use Rattle.commands.specs.Runs.{IsBuildRun, IsListRun, IsOverStore, IsServeIn, IsTaskRun, opening_of, run_of}
+use Rattle.commands.specs.Files.{opening_of}
+use Rattle.commands.specs.Runs.{IsBuildRun, IsListRun, IsOverStore, IsServeIn, IsTaskRun, run_of}
 use Rattle.commands.specs.Tellings.{telling_of}
 use Rattle.commands.specs.declared.errand.Errand.{Errand}
+use Rattle.store_answers.specs.Stores.{form_over}
 use Rattle.commands.proofs.RunFacts.{question_run, build_run, list_run, serve_run}
 use Rattle.commands.proofs.running.run.Goals as goal
 
@@ -30,7 +32,7 @@ returns-in-Build-clause-run g c = λ feed h.
     let t = telling_of g.T.Teller.tells g.T.Teller.reports g.T.Teller.finds g.T.Teller.replies in
     let run = run_of (g.W.Write.contents c.args.out) (g.W.Write.contents c.run_build-status.new.out) c.run_build-status.result.0 in
     let errand = subst (λ (e : Errand). IsErrand plan.settings.date.now plan.command e) c.in-Build.is c.in-Ok.ensures.errand in
-    let done = subst (λ (k : ℕ). IsOverStore o c.in-Build.path.now (IsBuildRun basis k) run c.run_build-status.result.1) c.new-rides.ensures c.run_build-status.ensures.run in
+    let done = subst (λ (k : ℕ). IsOverStore o (form_over basis k) c.in-Build.path.now (IsBuildRun basis k) run c.run_build-status.result.1) c.new-rides.ensures c.run_build-status.ensures.run in
     inr (basis, c.in-Ok.ensures.ground feed h, build_run o t (g.I.Read.remaining c.args.input.now) plan.style plan.settings basis run c.run_build-status.result.1 plan.command c.in-Build.path c.in-Build.workers errand done)
 
 pub returns-in-List-clause-run : goal.returns-in-List-clause-run
@@ -41,7 +43,7 @@ returns-in-List-clause-run g c = λ feed h.
     let t = telling_of g.T.Teller.tells g.T.Teller.reports g.T.Teller.finds g.T.Teller.replies in
     let run = run_of (g.W.Write.contents c.args.out) (g.W.Write.contents c.run_list-status.new.out) c.run_list-status.result.0 in
     let errand = subst (λ (e : Errand). IsErrand plan.settings.date.now plan.command e) c.in-List.is c.in-Ok.ensures.errand in
-    let done = subst (λ (k : ℕ). IsOverStore o c.in-List.path.now (IsListRun t plan.style basis k) run c.run_list-status.result.1) c.new-rides.ensures c.run_list-status.ensures.run in
+    let done = subst (λ (k : ℕ). IsOverStore o (form_over basis k) c.in-List.path.now (IsListRun t plan.style basis k) run c.run_list-status.result.1) c.new-rides.ensures c.run_list-status.ensures.run in
     inr (basis, c.in-Ok.ensures.ground feed h, list_run o t (g.I.Read.remaining c.args.input.now) plan.style plan.settings basis run c.run_list-status.result.1 plan.command c.in-List.path errand done)
 
 pub returns-clause-run : goal.returns-clause-run

@@ -1,0 +1,22 @@
+-- What a file is to a store that is to be opened in it.
+use Rattle.std.specs.Prelude.{◌≡◌, ◌≢◌, ◌⊎◌, ℕ, List, take, drop, get_or}
+use Rattle.disk_model.specs.Disk.{State, after_sync}
+use Rattle.section_store.specs.Beginnings.{CanBegin}
+use Rattle.section_store.specs.Sections.{Form, IsFresh, open_gate}
+use Rattle.recovery.specs.Recovery.{store_name}
+use Rattle.recovery.specs.declared.kind.FileKind.{FileKind}
+use Rattle.recovery.specs.declared.kind.FileKind.TheVariants as kinds
+
+-- the name and the version of a store, after a gate that isn't open
+abbrev pub IsNamedBehindGate : List ℕ → Type 0
+IsNamedBehindGate bytes = (take 8 (drop 1 bytes) ≡ store_name) × (get_or bytes 0 0 ≢ open_gate)
+
+-- A store of that form may be opened in a file of these bytes: one may be begun there, or the bytes begin with an open gate.
+abbrev pub CanOpen : Form → List ℕ → Type 0
+CanOpen form bytes = CanBegin form bytes ⊎ (¬ IsFresh bytes)
+
+abbrev pub IsOfKind : Form → List ℕ → FileKind → Type 0
+IsOfKind form bytes kinds.New = CanBegin form bytes
+IsOfKind form bytes kinds.Old = ¬ IsFresh bytes
+IsOfKind form bytes kinds.GateDamaged = (¬ CanOpen form bytes) × IsNamedBehindGate bytes
+IsOfKind form bytes kinds.Foreign = (¬ CanOpen form bytes) × (¬ IsNamedBehindGate bytes)
