@@ -1,0 +1,47 @@
+# Completions of tp for bash. tests/words compares the commands and options with the help of the program.
+
+_tp() {
+    local word=${COMP_WORDS[COMP_CWORD]} before=${COMP_WORDS[COMP_CWORD - 1]} command= choices= at
+    for ((at = 1; at < COMP_CWORD; at++)); do
+        if [[ ${COMP_WORDS[at]} != -* ]]; then
+            command=${COMP_WORDS[at]}
+            break
+        fi
+    done
+    case $before in
+        --feed)
+            compopt -o filenames
+            mapfile -t COMPREPLY < <(compgen -d -- "$word")
+            return
+            ;;
+        --store)
+            compopt -o filenames
+            mapfile -t COMPREPLY < <(compgen -f -- "$word")
+            return
+            ;;
+        --format) choices="lines json geojson" ;;
+        --days) choices="1 2 3 4 5 6 7 8 9 10 11 12 13 14" ;;
+        --rides) choices="1 2 3 4 5 6 7 8" ;;
+        --date | --on | --from | --to | --at | --zone | --default-walk | --workers) return ;;
+        *)
+            case $command in
+                "") choices="check stops direct scan build list ask serve help --help --version" ;;
+                check) choices="--feed --help" ;;
+                stops) choices="--feed --all --help" ;;
+                direct) choices="--feed --date --from --to --at --format --days --zone --rides --default-walk --help" ;;
+                scan) choices="--feed --date --from --to --at --legs --names --format --days --zone --rides --default-walk --help" ;;
+                build) choices="--feed --date --store --workers --progress --days --zone --rides --default-walk --help" ;;
+                list) choices="--feed --date --store --format --days --zone --rides --default-walk --help" ;;
+                ask)
+                    choices="--feed --date --store --from --to --at --on --legs --names --format"
+                    choices+=" --days --zone --rides --default-walk --help"
+                    ;;
+                serve) choices="--feed --date --store --workers --format --days --zone --rides --default-walk --help" ;;
+                help) choices="check stops direct scan build list ask serve help" ;;
+            esac
+            ;;
+    esac
+    mapfile -t COMPREPLY < <(compgen -W "$choices" -- "$word")
+}
+
+complete -F _tp tp

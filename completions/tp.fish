@@ -1,0 +1,35 @@
+# Completions of tp for fish. tests/words compares the commands and options with the help of the program.
+
+complete -c tp -f
+
+complete -c tp -n __fish_use_subcommand -a check -d 'What the feed has, or its first fault'
+complete -c tp -n __fish_use_subcommand -a stops -d 'The stops whose id or name contains a text'
+complete -c tp -n __fish_use_subcommand -a direct -d 'The soonest arrival by one ride'
+complete -c tp -n __fish_use_subcommand -a scan -d 'The best journeys between two stops'
+complete -c tp -n __fish_use_subcommand -a build -d 'Store the best journeys from each stop'
+complete -c tp -n __fish_use_subcommand -a list -d 'The stops that are stored'
+complete -c tp -n __fish_use_subcommand -a ask -d 'The best journeys between two places, from the store'
+complete -c tp -n __fish_use_subcommand -a serve -d 'Reply to questions line by line'
+complete -c tp -n __fish_use_subcommand -a help -d 'The help of the program or of a command'
+complete -c tp -n __fish_use_subcommand -s V -l version -d 'Print the version'
+complete -c tp -s h -l help -d 'Print help'
+complete -c tp -n '__fish_seen_subcommand_from help' -a 'check stops direct scan build list ask serve help'
+
+complete -c tp -n '__fish_seen_subcommand_from check stops direct scan build list ask serve' -l feed -xa '(__fish_complete_directories)' \
+    -d 'The folder of the feed'
+complete -c tp -n '__fish_seen_subcommand_from direct scan build list ask serve' -l date -x -d 'The first covered day, YYYYMMDD'
+complete -c tp -n '__fish_seen_subcommand_from build list ask serve' -l store -rF -d 'The file of the store'
+complete -c tp -n '__fish_seen_subcommand_from direct scan ask' -l from -x -d 'The stop to leave from'
+complete -c tp -n '__fish_seen_subcommand_from direct scan ask' -l to -x -d 'The stop to go to'
+complete -c tp -n '__fish_seen_subcommand_from direct scan ask' -l at -x -d 'The time to leave at, HH:MM:SS'
+complete -c tp -n '__fish_seen_subcommand_from ask' -l on -x -d 'The covered day to leave on, YYYYMMDD'
+complete -c tp -n '__fish_seen_subcommand_from direct scan build list ask serve' -l days -xa '(seq 14)' -d 'The number of covered days'
+complete -c tp -n '__fish_seen_subcommand_from direct scan build list ask serve' -l zone -x -d 'The time zone as a POSIX rule'
+complete -c tp -n '__fish_seen_subcommand_from direct scan build list ask serve' -l rides -xa '(seq 8)' -d 'The most rides of a journey'
+complete -c tp -n '__fish_seen_subcommand_from direct scan build list ask serve' -l default-walk -x -d 'Seconds of a walk that has none'
+complete -c tp -n '__fish_seen_subcommand_from build serve' -l workers -x -d 'The number of workers'
+complete -c tp -n '__fish_seen_subcommand_from build' -l progress -d 'Report progress'
+complete -c tp -n '__fish_seen_subcommand_from scan ask' -l legs -d 'Print rides and walks'
+complete -c tp -n '__fish_seen_subcommand_from scan ask' -l names -d 'Print names, for people'
+complete -c tp -n '__fish_seen_subcommand_from direct scan list ask serve' -l format -xa 'lines json geojson' -d 'The format of the answer'
+complete -c tp -n '__fish_seen_subcommand_from stops' -l all -d 'Print all stops'
