@@ -20,7 +20,15 @@ use timetable::{MOST_STOPS, StopId};
 const MOST_LEVELS: u8 = 8;
 
 /// For how many siblings memory is reserved at most before they are read.
-const RESERVED_NODES: u32 = 64;
+const RESERVED_NODES: usize = 64;
+
+/// How many siblings memory is reserved for before they are read: no more than there are bytes for. A node has two stops, a number of ends
+/// and a number of children, and at least one end or child.
+fn reserved(input: &Input, form: StopForm, count: u32) -> usize {
+    let stop = form.width.byte_count();
+    let there = input.bytes.len() / (4 * stop + Width::Four.byte_count());
+    there.min(count as usize).min(RESERVED_NODES)
+}
 
 /// How many nodes and ends may still come.
 #[derive(Drop)]
@@ -136,7 +144,7 @@ fn level<A: Allocator + Clone>(
     ensures { Gives (λ nodes. (forest (branches nodes.items), remaining input.new.bytes.now room.new.nodes room.new.ends)) result
         (level_at (byte_count form.width) form.stops levels count None (remaining input.old.bytes.now room.old.nodes room.old.ends)) }
 {
-    let mut nodes = Vec::with_capacity(alloc.clone()?, count.min(RESERVED_NODES) as usize)?;
+    let mut nodes = Vec::with_capacity(alloc.clone()?, reserved(input, form, count))?;
     let mut last = None;
     for _ in 0..count {
         if levels == 0 {

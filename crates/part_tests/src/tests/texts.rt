@@ -99,9 +99,10 @@ const COUNTS: [&[u8]; 2] = [
     &[0, 0, 0, 0, 0, 1, 0, 0, 0, 1, 255, 255],
 ];
 
-// Whether the text is refused, and nothing of the heap is taken.
+// Whether the text is refused since it ends too early, and nothing of the heap is taken.
 fn reserves_nothing(heap: &LocalHeap, bytes: &[u8]) -> bool {
-    decode(heap, bytes, 5).is_err() && heap.used() == 0
+    let fault = decode(heap, bytes, 5).err();
+    fault == Some(CodecFault::Truncated) && heap.used() == 0
 }
 
 #[test]
