@@ -1,4 +1,4 @@
-pub mod Groups
+pub mod Children
 pub mod Index
 pub mod Winners
 pub mod Instances
@@ -6,5 +6,4 @@ pub mod Running
 pub mod Transfers
 pub mod Answers
 pub mod Limits
-pub mod NameLists
 pub mod Names

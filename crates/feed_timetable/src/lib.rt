@@ -1,8 +1,7 @@
-//! The timetable of a feed over the covered days, and the names that the feed gives to its stops, stations and trips.
+//! The timetable of a feed over the covered days, and the ids of its stops, stations and trips.
 #![tactic(auto)]
 
 mod assembly;
-mod groups;
 mod instances;
 mod names;
 mod running;
@@ -10,4 +9,4 @@ mod transfers;
 mod walks;
 
 pub use assembly::{MOST_CALLS, MOST_INSTANCES, MOST_WALKS, assemble};
-pub use names::{Names, Place};
+pub use names::names_of;

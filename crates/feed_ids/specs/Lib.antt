@@ -1,0 +1,3 @@
+pub mod Groups
+pub mod NameLists
+pub mod Names
