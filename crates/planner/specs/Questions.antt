@@ -4,13 +4,13 @@ use Rattle.std.specs.List.{All, Contains}
 use Rattle.timetable.specs.declared.parts.Numbers.{Numbers}
 use Rattle.timetable.specs.Table.{Table}
 use Rattle.timetable.specs.Journeys.{Reaches}
-use Rattle.feed_timetable.specs.NameLists.{NameLists}
+use Rattle.feed_ids.specs.NameLists.{NameLists}
 use Rattle.pattern_tree.specs.Content.{Content, longest}
 use Rattle.pattern_tree.specs.Completeness.{Complete}
 use Rattle.pattern_query.specs.Answer.{PointData, numbers, TreeReaches, IsPoint, AreBest}
 use Rattle.planner.specs.declared.fault.AskFault.{AskFault}
 use Rattle.planner.specs.declared.fault.AskFault.TheVariants as faults
-use Rattle.planner.specs.Places.{stops_at}
+use Rattle.feed_ids.specs.Names.{stops_at}
 
 -- the tree of a source, where it is there
 abbrev pub Held : Type 0

@@ -1,7 +1,7 @@
 //! Answers to questions between two places.
 
 ghost use Rattle.std.specs.Prelude.{◌≡◌, ◌≤◌, MatchResult};
-ghost use Rattle.planner.specs.Places.{stops_in, AreNames};
+ghost use Rattle.feed_ids.specs.Names.{stops_in};
 ghost use Rattle.planner.specs.Questions.{IsAnswer, IsRefusal};
 ghost use Rattle.planner.specs.Gathered.{IsTo, AddsAsked};
 
@@ -9,7 +9,7 @@ use crate::fault::AskFault;
 use crate::places::stops_of;
 use crate::trees::Trees;
 use direct_connections::Network;
-use feed_timetable::Names;
+use feed_ids::Names;
 use pattern_query::{Answer, BestSoFar, Patterns};
 use timetable::{LATEST_MOMENT, StopId};
 
@@ -44,7 +44,6 @@ pub fn ask_on<'a, T: Trees>(
     to: &'a str,
     depart: u32,
 ) -> Result<Answer, AskFault<'a>>
-    requires names { AreNames names.now }
     ensures { MatchResult result (IsAnswer network.now names.now (T.held trees.now) from.now to.now depart)
         (IsRefusal network.now names.now (T.held trees.now) from.now to.now depart) }
 {

@@ -2,9 +2,9 @@
 
 ghost use Rattle.std.specs.Prelude.{◌≡◌};
 ghost use Rattle.std.specs.Option.{option_map};
-ghost use Rattle.planner.specs.Places.{stops_at, stops_in};
+ghost use Rattle.feed_ids.specs.Names.{stops_at, stops_in};
 
-use feed_timetable::{Names, Place};
+use feed_ids::{Names, Place};
 use std::slice;
 use timetable::StopId;
 

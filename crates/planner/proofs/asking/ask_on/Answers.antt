@@ -3,24 +3,24 @@ use Rattle.std.proofs.lemmas.Bool.{cases_lt}
 use Rattle.std.proofs.lemmas.List.{take_all}
 use Rattle.timetable.specs.Table.{Table}
 use Rattle.pattern_tree.specs.Content.{Content}
-use Rattle.planner.specs.Places.{stops_in}
+use Rattle.feed_ids.specs.Names.{stops_in}
 use Rattle.planner.specs.Questions.{Held, IsStored, IsAsked}
 use Rattle.planner.specs.Gathered.{IsTo, AddsAsked}
-use Rattle.planner.proofs.PlaceFacts.{place_is, no_place, stops_known}
+use Rattle.planner.proofs.PlaceFacts.{place_is, no_place}
 use Rattle.planner.proofs.GatherSteps.{source_more}
 use Rattle.planner.proofs.AnswerSteps.{stored_more, points_are, best_are, exact_are}
 use Rattle.planner.proofs.asking.ask_on.Goals as goal
 
 pub returns-in_default-place : goal.returns-in_default-place
 returns-in_default-place g c = (
-  no_place c.args.names.now c.args.to.now c.in_default-place.ensures,
-  inr ((stops_in c.in-Some.start, place_is c.args.names.now c.args.from.now c.in-Some.start c.in-Some.ensures), refl),
+  no_place c.args.names.now c.args.to.now c.in_default-place.ensures.value,
+  inr ((stops_in c.in-Some.start, place_is c.args.names.now c.args.from.now c.in-Some.start c.in-Some.ensures.value), refl),
 )
 
 pub returns-then-not-covers : goal.returns-then-not-covers
 returns-then-not-covers g c = (
-  (stops_in c.in-Some.start, place_is c.args.names.now c.args.from.now c.in-Some.start c.in-Some.ensures),
-  (stops_in c.in-Some-place.end, place_is c.args.names.now c.args.to.now c.in-Some-place.end c.in-Some-place.ensures),
+  (stops_in c.in-Some.start, place_is c.args.names.now c.args.from.now c.in-Some.start c.in-Some.ensures.value),
+  (stops_in c.in-Some-place.end, place_is c.args.names.now c.args.to.now c.in-Some-place.end c.in-Some-place.ensures.value),
   elim (cases_lt c.args.network.now.horizon c.args.depart) [
     | inl lt ↦ lt
     | inr le ↦ absurd (true≢false (sym (c.covers.ensures.1 (subst (λ (t : Table). c.args.depart ≤ t.horizon) (sym c.timetable.ensures.value) le)) ∙ c.if-not-covers.true))
@@ -33,14 +33,14 @@ stop-requires g c =
     let items = c.stops_of-source-items.result.now in
     let known : All (λ s. s < length names.stops) items =
     subst (λ l. All (λ s. s < length names.stops) l) (sym c.stops_of-source-items.ensures)
-    (stops_known names c.args.from.now c.in-Some.start c.requires.names c.in-Some.ensures) in
+    c.in-Some.ensures.known in
     subst (λ x. x < length names.stops) (sym c.source-item.is) (known c.loop-source.source-index c.source-item.result c.loop-source-test.true)
 
 pub returns-in_default-patterns : goal.returns-in_default-patterns
 returns-in_default-patterns g c =
     let items = c.stops_of-source-items.result.now in
-    let froms = place_is c.args.names.now c.args.from.now c.in-Some.start c.in-Some.ensures ∙ ap (λ (l : List ℕ). Some l) (sym c.stops_of-source-items.ensures) in (
-      (stops_in c.in-Some-place.end, place_is c.args.names.now c.args.to.now c.in-Some-place.end c.in-Some-place.ensures),
+    let froms = place_is c.args.names.now c.args.from.now c.in-Some.start c.in-Some.ensures.value ∙ ap (λ (l : List ℕ). Some l) (sym c.stops_of-source-items.ensures) in (
+      (stops_in c.in-Some-place.end, place_is c.args.names.now c.args.to.now c.in-Some-place.end c.in-Some-place.ensures.value),
       subst (λ (t : Table). c.args.depart ≤ t.horizon) c.timetable.ensures.value (c.covers.ensures.0 c.if-not-covers.false),
       items,
       c.source-item.result,
@@ -87,8 +87,8 @@ returns g c =
     record {
       froms = items;
       tos = tos;
-      leaves = place_is c.args.names.now c.args.from.now c.in-Some.start c.in-Some.ensures ∙ ap (λ (l : List ℕ). Some l) (sym c.stops_of-source-items.ensures);
-      arrives = place_is c.args.names.now c.args.to.now c.in-Some-place.end c.in-Some-place.ensures;
+      leaves = place_is c.args.names.now c.args.from.now c.in-Some.start c.in-Some.ensures.value ∙ ap (λ (l : List ℕ). Some l) (sym c.stops_of-source-items.ensures);
+      arrives = place_is c.args.names.now c.args.to.now c.in-Some-place.end c.in-Some-place.ensures.value;
       covered = subst (λ (t : Table). c.args.depart ≤ t.horizon) c.timetable.ensures.value (c.covers.ensures.0 c.if-not-covers.false);
       stored = stored;
       points_are = points_are table held items tos c.args.depart c.new-best.result c.loop-source.best c.answer.result c.new-best.ensures added c.answer.ensures;

@@ -1,6 +1,6 @@
 use Rattle.std.proofs.Common.{take}
 use Rattle.std.specs.List.{All}
-use Rattle.planner.specs.Places.{stops_in}
+use Rattle.feed_ids.specs.Names.{stops_in}
 use Rattle.planner.specs.Questions.{IsStored, IsAsked}
 use Rattle.planner.specs.Gathered.{AddsAsked}
 use Rattle.planner.proofs.asking.ask_on.Given as goal
