@@ -4,7 +4,6 @@ ghost use Rattle.std.specs.Prelude.{◌≡◌, ◌↔◌, ◌⊎◌, ◌<◌, �
 ghost use Rattle.std.specs.Arc.{arc_value};
 ghost use Rattle.std.specs.List.{All};
 ghost use Rattle.disk_model.specs.Disk.{Grew};
-ghost use Rattle.planner.specs.Places.{AreNames};
 ghost use Rattle.recovery.specs.Recovery.{IsLeftAlone};
 ghost use Rattle.section_store.specs.Lasting.{IsTrusted};
 ghost use Rattle.section_store.specs.Sections.{form_of};
@@ -18,7 +17,7 @@ use crate::plan::Planner;
 use board::{Reader, open as open_board};
 use direct_connections::Network;
 use disk_model::Disk;
-use feed_timetable::Names;
+use feed_ids::Names;
 use recovery::{RecoverFault, Recovered, recover};
 use section_store::Step;
 use std::alloc::Global;
@@ -47,7 +46,6 @@ impl Planner {
         rides: Rides,
         readers: usize,
     ) -> Result<Opened<D>, (OpenFault, D)>
-        requires names { AreNames (arc_value names) }
         requires readers { (0 < readers) × (readers ≤ 64) }
         ensures planner { IfOk result (λ o. o.planner ≡ record { form = form_of network rides; names = arc_value names }) }
         ensures form { IfOk result (λ o. o.desk.form ≡ form_of network rides) }
