@@ -2,7 +2,7 @@
 use Rattle.std.proofs.Common.{Option, ◌≡◌, ℕ, ◌<◌, ◌≤◌, None, Some, arith, sym, ◌∙◌, ap}
 use Rattle.std.specs.Option.{unwrap_or}
 use Rattle.timetable.specs.Table.{Table}
-use Rattle.planner.specs.Places.{stops_at}
+use Rattle.feed_ids.specs.Names.{stops_at}
 use Rattle.planner.specs.Questions as planner
 use Rattle.planner.specs.declared.fault.AskFault.{AskFault}
 use Rattle.planner.specs.declared.fault.AskFault.TheVariants as faults

@@ -3,7 +3,7 @@ use Rattle.std.specs.Prelude.{◌≡◌, ℕ, List, map, Some}
 use Rattle.std.specs.List.{All}
 use Rattle.timetable.specs.Table.{Table}
 use Rattle.pattern_query.specs.Answer.{PointData, AreBest, numbers}
-use Rattle.planner.specs.Places.{stops_at}
+use Rattle.feed_ids.specs.Names.{stops_at}
 use Rattle.planner.specs.Questions.{AreComplete, Held, IsStored, ReachesBetween}
 use Rattle.command_line.specs.declared.job.Question.{Question}
 use Rattle.feed_basis.specs.Basis.{BasisData}

@@ -1,7 +1,7 @@
 -- Why a question has no answer.
 use Rattle.std.specs.Prelude.{◌≡◌, ℕ, ◌≤◌, ◌⊎◌, List, [], Option, None, Some, slice_index_or}
 use Rattle.timetable.specs.Table.{Table}
-use Rattle.planner.specs.Places.{stops_at}
+use Rattle.feed_ids.specs.Names.{stops_at}
 use Rattle.planner.specs.Questions.{Held, IsFirstMissing}
 use Rattle.planner.specs.declared.fault.AskFault.{AskFault}
 use Rattle.planner.specs.declared.fault.AskFault.TheVariants as asked

@@ -1,7 +1,7 @@
 //! Answers to questions.
 
 ghost use Rattle.std.specs.Prelude.{◌≡◌, ◌≤◌, ◌<◌, [], ◌∷◌, Some, IfOk, IfErr, IfSome, IfNone, true, false};
-ghost use Rattle.planner.specs.Places.{stops_at};
+ghost use Rattle.feed_ids.specs.Names.{stops_at};
 ghost use Rattle.timetable.specs.Table.{stops_of};
 ghost use Rattle.answering.specs.Answers.{ArePoints, AreTreePoints, IsAnswered, IsAsked, IsDirect};
 ghost use Rattle.answering.specs.Found.{AreFound};

@@ -1,3 +1,2 @@
 pub mod BasisFacts
 pub mod FaultFacts
-pub mod NameFacts

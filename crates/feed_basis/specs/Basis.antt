@@ -10,9 +10,9 @@ use Rattle.service_days.specs.Answers.{IsCoverOf}
 use Rattle.service_days.specs.Cover.{CoverDays}
 use Rattle.feed_timetable.specs.Answers.{IsTimetable}
 use Rattle.feed_timetable.specs.Names.{AreNamesOf}
-use Rattle.feed_timetable.specs.NameLists.{NameLists}
+use Rattle.feed_ids.specs.NameLists.{NameLists}
+use Rattle.feed_ids.specs.Names.{KnowsStops}
 use Rattle.timetable.specs.Table.{Table, IsTable, stops_of}
-use Rattle.planner.specs.Places.{AreNames}
 use Rattle.program_inputs.specs.declared.settings.Settings.{Settings}
 
 -- a timetable on the covered days, the ids of its stops, stations and trips, and the days
@@ -38,9 +38,9 @@ pub record IsBasis (feed : Feed) (settings : Settings) (first : Date) (basis : B
   pub timetable : IsTimetable (values_of feed) basis.cover settings.default_walk basis.timetable
   pub named : AreNamesOf (values_of feed) basis.names
 
--- a timetable, and names of some feed that know its stops and trips
+-- a timetable, and names that know its stops and trips
 pub record IsSound (basis : BasisData) : Type 0 where
   pub valid : IsTable basis.timetable
-  pub names : AreNames basis.names
+  pub names : KnowsStops basis.names
   pub stops : length basis.names.stops ≡ stops_of basis.timetable
   pub trips : All (λ run. run.trip < length basis.names.trips) basis.timetable.instances

@@ -1,8 +1,8 @@
 -- Which stops an id stands for.
 use Rattle.std.specs.Prelude.{◌≡◌, ℕ, List, [], ◌∷◌, Option, Some}
 use Rattle.std.specs.Option.{option_map}
-use Rattle.feed_timetable.specs.NameLists.{NameLists}
-use Rattle.feed_timetable.specs.Names.{stop_named}
+use Rattle.feed_ids.specs.NameLists.{NameLists}
+use Rattle.feed_ids.specs.Names.{stop_named}
 
 -- the stop of the id alone
 abbrev pub stop_alone : NameLists → List ℕ → Option (List ℕ)

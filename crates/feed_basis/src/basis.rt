@@ -12,7 +12,8 @@ ghost use Rattle.timetable.specs.Table.{IsTable, stops_of};
 
 use answer_lines::{DayTime, day_time};
 use direct_connections::Network;
-use feed_timetable::{Names, assemble};
+use feed_ids::Names;
+use feed_timetable::{assemble, names_of};
 use gtfs_tables::{Files, Tables, read_tables};
 use jiff::civil::Date;
 use program_inputs::{Fault, Settings};
@@ -128,7 +129,8 @@ fn basis_over<'a>(
 {
     let cover = Cover::new(first, settings.days, settings.zone)?;
     let timetable = assemble(alloc, tables, &cover, settings.default_walk)?;
-    let names = Names::of(alloc, hash_keys, tables)?;
+    let names = names_of(alloc, hash_keys, tables)?;
+    names.know_their_stops();
     let Ok(timetable) = Arc::new(alloc, timetable) else {
         return Err(Fault::Memory);
     };

@@ -2,12 +2,11 @@
 use Rattle.std.proofs.Common.{ℕ, ◌<◌, List, length, Contains, All, subst, subst₂, sym}
 use Rattle.std.proofs.lemmas.List.Elements.{All-weaker, at_from_Contains}
 use Rattle.timetable.specs.Journeys.{Journey}
-use Rattle.feed_timetable.specs.NameLists.{NameLists}
+use Rattle.feed_ids.specs.NameLists.{NameLists}
 use Rattle.timetable.specs.Table.{Table}
 use Rattle.pattern_query.specs.Answer.{PointData}
 use Rattle.planner.specs.Questions.{Held, IsAnswer, IsAskedPoint}
 use Rattle.feed_basis.specs.Basis.{BasisData, IsSound}
-use Rattle.feed_basis.proofs.NameFacts.{stops_known}
 use Rattle.told_journeys.specs.Points.{IsKnownJourney}
 use Rattle.told_journeys.proofs.StageFacts.{journey_known}
 use Rattle.shared_planner.specs.PlannerView.{PlannerView}
@@ -26,8 +25,8 @@ module _ (basis : BasisData) (p : PlannerView) (held : Held) (from to : List ℕ
   known =
       let is = over_basis in
       let Known = λ (s : ℕ). s < length basis.names.stops in
-      let froms_known = stops_known basis.names from is.froms sound.names is.leaves in
-      let tos_known = stops_known basis.names to is.tos sound.names is.arrives in
+      let froms_known = sound.names from is.froms is.leaves in
+      let tos_known = sound.names to is.tos is.arrives in
       All-weaker (IsAskedPoint basis.timetable held is.froms is.tos d) (IsKnownJourney basis d)
       (λ point h.
       journey_known basis sound.valid sound point.from d point.legs point.to point.arrival

@@ -5,7 +5,7 @@ use Rattle.std.specs.Option.{option_map, unwrap_or}
 use Rattle.timetable.specs.declared.parts.Leg.{Leg}
 use Rattle.timetable.specs.Table.{Table, walk}
 use Rattle.timetable.specs.Journeys.{from, to, departs, arrives}
-use Rattle.feed_timetable.specs.NameLists.{NameLists}
+use Rattle.feed_ids.specs.NameLists.{NameLists}
 use Rattle.feed_basis.specs.Basis.{BasisData}
 use Rattle.answer_lines.specs.Moments.{TellsMoment}
 use Rattle.told_journeys.specs.declared.numbered.NumberedStage.{NumberedStage}

@@ -6,7 +6,6 @@ use Rattle.answering.specs.Found.{IsJourneyBetween}
 use Rattle.told_journeys.specs.Points.{IsKnownJourney, Tells}
 use Rattle.told_journeys.proofs.StageFacts.{journey_known}
 use Rattle.answering.proofs.AnswerFacts.{are_reached, one_of_all, shown_journeys}
-use Rattle.feed_basis.proofs.NameFacts.{stops_known}
 use Rattle.answering.proofs.asking.ask.Goals as goal
 
 pub told-requires-clause-known : goal.told-requires-clause-known
@@ -15,8 +14,8 @@ told-requires-clause-known g c =
     let d = c.in_ok-found.depart in
     let found = c.in_ok-found.ensures.found in
     let sound = c.in_ok-found.ensures.sound in
-    let from_known = stops_known basis.names c.args.question.now.from.now found.froms sound.names found.leaves in
-    let to_known = stops_known basis.names c.args.question.now.to.now found.tos sound.names found.reaches in
+    let from_known = sound.names c.args.question.now.from.now found.froms found.leaves in
+    let to_known = sound.names c.args.question.now.to.now found.tos found.reaches in
     subst (λ l. All (IsKnownJourney basis d) l) (sym c.points.ensures)
     (All-weaker (IsJourneyBetween basis.timetable found.froms found.tos d) (IsKnownJourney basis d)
     (λ p h. journey_known basis sound.valid sound p.from d p.legs p.to p.arrival

@@ -1,6 +1,6 @@
 use Rattle.std.proofs.Common.{ℕ, Option, subst₂}
 use Rattle.std.proofs.lemmas.List.Elements.{All-weaker}
-use Rattle.feed_timetable.specs.NameLists.{NameLists}
+use Rattle.feed_ids.specs.NameLists.{NameLists}
 use Rattle.timetable.specs.Table.{Table}
 use Rattle.pattern_tree.specs.Content.{Content}
 use Rattle.planner.specs.Questions as planner

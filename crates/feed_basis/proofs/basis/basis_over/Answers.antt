@@ -3,7 +3,8 @@ use Rattle.std.proofs.lemmas.Result.{err_from_is_err_and}
 use Rattle.gtfs_tables.specs.Feed.{values_of}
 use Rattle.gtfs_tables.specs.Tables.{TableValues}
 use Rattle.feed_timetable.specs.Answers.{IsFault, IsTimetable}
-use Rattle.feed_timetable.specs.NameLists.{NameLists}
+use Rattle.feed_ids.specs.NameLists.{NameLists}
+use Rattle.feed_ids.specs.Names.{KnowsStops}
 use Rattle.feed_timetable.specs.Names.{AreNamesOf}
 use Rattle.timetable.specs.Table.{Table, IsTable}
 use Rattle.feed_basis.specs.Basis.{AreDays}
@@ -53,3 +54,4 @@ invariant_of-result c =
     is_sound c.args.tables.now cover walk _ (subst IsTable (sym is) valid)
     (subst (λ (table : Table). IsTimetable c.args.tables.now cover walk table) (sym is) c.in_ok-timetable.ensures.ok)
     (subst (λ (names : NameLists). AreNamesOf c.args.tables.now names) (sym c.in-Ok-new.ensures.ok) c.in_ok-names.ensures)
+    (subst (λ (names : NameLists). KnowsStops names) (sym c.in-Ok-new.ensures.ok) c.know_their_stops.ensures)
