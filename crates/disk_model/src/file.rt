@@ -17,10 +17,10 @@ use std::rt::Files;
 /// a read says no more bytes than its buffer has. What a store over it promises rests on the file doing as an honest disk
 /// does: a read gives what was written last, and after `sync` the bytes and the length stand through a crash.
 ///
-/// A second process that writes the file would break that, so a disk holds the system's exclusive lock of its file, and
-/// who opens it as a disk meanwhile, to write or only to read, is refused. The system drops the lock when the disk is
-/// dropped and when its process ends, in whatever way: a crash leaves no lock behind. The lock binds only those that ask
-/// for it. A file on a network share may break the premise too, and so may a drive that answers before it has written.
+/// A second process that writes the file would break that. So a disk that writes holds the system's exclusive lock of its
+/// file, and disks that only read share one: no disk writes while another has the file open. The system drops the lock
+/// when the disk is dropped and when its process ends, in whatever way: a crash leaves no lock behind. The lock binds only
+/// those that ask for it. A file on a network share may break the premise too, and so may a drive that answers before it has written.
 /// On a full disk a write fails and may have been done in part, as any write that fails.
 ///
 /// Opening a file brings its name to the disk too, so that a crash can't lose a file that was just made. Where the path is
@@ -45,6 +45,14 @@ fn sync_name<R: Files<File = File>>(rt: &R, path: &str) -> io::Result<()> {
     File::open(rt, folder_of(path))?.sync_all()
 }
 
+// Why a lock wasn't given.
+fn lock_fault(error: &TryLockError) -> FileFault {
+    match error {
+        TryLockError::WouldBlock => FileFault::InUse,
+        TryLockError::Error(_) => FileFault::Failed,
+    }
+}
+
 // Opens the file, locks it, and brings its name to the disk.
 fn open_file<R: Files<File = File>>(rt: &R, path: &str) -> Result<File, FileFault> {
     let mut options = OpenOptions::new();
@@ -57,19 +65,39 @@ fn open_file<R: Files<File = File>>(rt: &R, path: &str) -> Result<File, FileFaul
             Ok(()) => Ok(file),
             Err(_) => Err(FileFault::Failed),
         },
-        Err(TryLockError::WouldBlock) => Err(FileFault::InUse),
-        Err(TryLockError::Error(_)) => Err(FileFault::Failed),
+        Err(error) => Err(lock_fault(&error)),
+    }
+}
+
+// Opens the file to read it, and shares its lock with others that read.
+fn open_shared<R: Files<File = File>>(rt: &R, path: &str) -> Result<File, FileFault> {
+    let Ok(file) = File::open(rt, path) else {
+        return Err(FileFault::Failed);
+    };
+    match file.try_lock_shared() {
+        Ok(()) => Ok(file),
+        Err(error) => Err(lock_fault(&error)),
     }
 }
 
 impl FileDisk {
-    /// Opens a file for reading and writing, and makes it empty where it isn't there. The file is locked as long as the
-    /// disk lives: `InUse` comes where it is open as a disk already, in this process or another. `Failed` comes where the
+    /// Opens a file for reading and writing, and makes it empty if it isn't there. The file is locked as long as the
+    /// disk lives: `InUse` comes if it is open as a disk already, in this process or another. `Failed` comes where the
     /// system refuses, as for a folder, without leave to write, or where the folder that the file lies in can't be synced.
     pub fn open<R: Files<File = File>>(rt: &R, path: &str) -> Result<FileDisk, FileFault>
         ensures { IfOk result (λ disk. failures_in disk ≡ 0) }
     {
         let file = open_file(rt, path)?;
+        Ok(FileDisk { file, failures: 0 })
+    }
+
+    /// Opens a file to read it only, which takes no leave to write it. Any number of disks may read a file at once. Each
+    /// write and each cut fails. `InUse` comes if a disk that writes has the file open; `Failed` comes if there is no such
+    /// file, or the system refuses.
+    pub fn open_to_read<R: Files<File = File>>(rt: &R, path: &str) -> Result<FileDisk, FileFault>
+        ensures { IfOk result (λ disk. failures_in disk ≡ 0) }
+    {
+        let file = open_shared(rt, path)?;
         Ok(FileDisk { file, failures: 0 })
     }
 

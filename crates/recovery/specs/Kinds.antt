@@ -1,6 +1,5 @@
 -- What a file is to a store that is to be opened in it.
 use Rattle.std.specs.Prelude.{◌≡◌, ◌≢◌, ◌⊎◌, ℕ, List, take, drop, get_or}
-use Rattle.disk_model.specs.Disk.{State, after_sync}
 use Rattle.section_store.specs.Beginnings.{CanBegin}
 use Rattle.section_store.specs.Sections.{Form, IsFresh, open_gate}
 use Rattle.recovery.specs.Recovery.{store_name}

@@ -1,9 +1,9 @@
 //! What a file is, before it is opened as a store.
 
-ghost use Rattle.std.specs.Prelude.{◌≡◌, ◌↔◌, ◌≢◌, ◌⊎◌, ◌≤◌, ◌<◌, ◌++◌, [], ◌∷◌, IsTrue, IfOk, IfErr, length, take, drop, get_or};
+ghost use Rattle.std.specs.Prelude.{◌≡◌, ◌↔◌, ◌≢◌, ◌⊎◌, ◌≤◌, ◌<◌, ◌++◌, [], ◌∷◌, IsTrue, IfOk, IfErr, MatchBool, length, take, drop, get_or};
 ghost use Rattle.std.specs.Arc.{arc_value};
 ghost use Rattle.section_store.specs.Beginnings.{CanBegin, IsLeftOf, IsUnfinished};
-ghost use Rattle.section_store.specs.Sections.{form_of, open_gate};
+ghost use Rattle.section_store.specs.Sections.{IsFresh, form_of, open_gate};
 ghost use Rattle.recovery.specs.Kinds.{IsNamedBehindGate, IsOfKind};
 ghost use Rattle.recovery.specs.Reading.{OnlyOutside};
 
@@ -97,6 +97,29 @@ fn can_begin<D: Disk>(
     }
 }
 
+// Whether these first bytes are those of a file that isn't fresh.
+fn is_old(head: &[u8]) -> bool
+    ensures { MatchBool result ((15 ≤ length head.now) × (get_or head.now 0 0 ≡ open_gate))
+        ((length head.now < 15) ⊎ (get_or head.now 0 0 ≢ open_gate)) }
+{
+    head.len() >= SHORTEST && head[0] == OPEN
+}
+
+/// Whether the file of a disk begins with an open gate and is no shorter than a store. Opening it as a store writes nothing then, so a disk
+/// that only reads will do.
+pub fn is_begun<D: Disk>(alloc: Global, disk: &mut D) -> Result<bool, RecoverFault>
+    ensures honest { D.honest disk.old ↔ D.honest disk.new }
+    ensures same { D.honest disk.old → D.state disk.new ≡ D.state disk.old }
+    ensures begun { D.honest disk.old → IfOk result (λ begun. IsTrue begun ↔ ¬ IsFresh (D.state disk.old).read) }
+    ensures outside { OnlyOutside result (D.failures disk.old) (D.failures disk.new) }
+{
+    let mut head = Vec::new(alloc);
+    match read_bytes(disk, 0, SHORTEST as u64, &mut head) {
+        Err(fault) => Err(fault),
+        Ok(()) => Ok(is_old(&head)),
+    }
+}
+
 /// What the file of a disk is to a store of that timetable, and of journeys of at most `rides` rides, that is to be opened in it. Nothing
 /// is written: whoever opens the store only in a file that is `New` or `Old` spoils no file of another program. Memory is taken for the
 /// bytes of a store without trees.
@@ -119,7 +142,7 @@ pub fn file_kind<D: Disk>(
         Err(fault) => return Err(fault),
         Ok(()) => {}
     }
-    if piece.len() >= SHORTEST && piece[0] == OPEN {
+    if is_old(&piece) {
         return Ok(FileKind::Old);
     }
     let named = is_named(&piece);

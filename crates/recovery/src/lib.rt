@@ -15,5 +15,5 @@ mod wanted;
 
 pub use calls::{recover, recover_trees_of};
 pub use fault::RecoverFault;
-pub use kind::{FileKind, file_kind};
+pub use kind::{FileKind, file_kind, is_begun};
 pub use recovered::Recovered;

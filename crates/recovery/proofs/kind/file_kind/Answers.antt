@@ -1,11 +1,10 @@
-use Rattle.std.proofs.Common.{rules, arith, ◌≡◌, ◌≢◌, ◌⊎◌, ◌<◌, length, take, get_or, inl, inr, sym, ◌∙◌, ap, subst}
+use Rattle.std.proofs.Common.{rules, ◌≡◌, ◌≢◌, ◌⊎◌, ◌<◌, length, take, get_or, sym, ◌∙◌, ap, subst}
 use Rattle.std.proofs.lemmas.Bool.{false≢true}
 use Rattle.disk_model.specs.Disk.{State}
 use Rattle.section_store.specs.Beginnings.{CanBegin}
 use Rattle.section_store.specs.Sections.{form_of, open_gate}
 use Rattle.recovery.specs.Kinds.{IsNamedBehindGate}
 use Rattle.recovery.proofs.FirstBytes.{kept_out, named_read, named_head}
-use Rattle.recovery.proofs.kind.file_kind.Goals.{else-len-ge-SHORTEST-via-then-len-ge-SHORTEST+else-index, else-len-ge-SHORTEST-via-else-len-ge-SHORTEST}
 use Rattle.recovery.proofs.kind.file_kind.Goals as goal
 
 pub returns-in-Ok-false-clause-kind : goal.returns-in-Ok-false-clause-kind
@@ -16,13 +15,10 @@ returns-in-Ok-false-clause-kind g c = λ honest.
     let there = c.in-Ok.ensures.honest.0 honest in
     let seen = c.in-Ok-read_bytes.ensures.same there ∙ c.in-Ok.ensures.same honest in
     let is : head ≡ take 15 read = c.in-Ok-read_bytes.ensures.bytes there ∙ ap (λ (s : State). take 15 s.read) (c.in-Ok.ensures.same honest) in
-    let shut : (length head < 15) ⊎ (get_or head 0 0 ≢ open_gate) = elim c.else-len-ge-SHORTEST.branch [
-      | else-len-ge-SHORTEST-via-then-len-ge-SHORTEST+else-index w ↦ inr (search rules)
-      | else-len-ge-SHORTEST-via-else-len-ge-SHORTEST w ↦ inl (omega (arith, w.if-len-ge-SHORTEST.false, c.len-2.ensures))
-    ] in
+    let shut : (length head < 15) ⊎ (get_or head 0 0 ≢ open_gate) = search rules in
     let none : CanBegin form read → ⊥ = λ can.
     false≢true (sym c.in-Ok-false.field-0-test ∙ (c.in-Ok-false.ensures.can (c.in-Ok-read_bytes.ensures.honest.0 there)).1 (subst (λ (s : State). CanBegin form s.read) (sym seen) can)) in
-    (kept_out read head is form shut none, named_read read head is (subst IsNamedBehindGate c.deref.ensures.value (c.is_named-named.ensures.0 c.if-named.true)))
+    (kept_out read head is form shut none, named_read read head is (subst IsNamedBehindGate c.deref-2.ensures.value (c.is_named-named.ensures.0 c.if-named.true)))
 
 pub returns-clause-kind : goal.returns-clause-kind
 returns-clause-kind g c = λ honest.
@@ -32,13 +28,10 @@ returns-clause-kind g c = λ honest.
     let there = c.in-Ok.ensures.honest.0 honest in
     let seen = c.in-Ok-read_bytes.ensures.same there ∙ c.in-Ok.ensures.same honest in
     let is : head ≡ take 15 read = c.in-Ok-read_bytes.ensures.bytes there ∙ ap (λ (s : State). take 15 s.read) (c.in-Ok.ensures.same honest) in
-    let shut : (length head < 15) ⊎ (get_or head 0 0 ≢ open_gate) = elim c.else-len-ge-SHORTEST.branch [
-      | else-len-ge-SHORTEST-via-then-len-ge-SHORTEST+else-index w ↦ inr (search rules)
-      | else-len-ge-SHORTEST-via-else-len-ge-SHORTEST w ↦ inl (omega (arith, w.if-len-ge-SHORTEST.false, c.len-2.ensures))
-    ] in
+    let shut : (length head < 15) ⊎ (get_or head 0 0 ≢ open_gate) = search rules in
     let none : CanBegin form read → ⊥ = λ can.
     false≢true (sym c.in-Ok-false.field-0-test ∙ (c.in-Ok-false.ensures.can (c.in-Ok-read_bytes.ensures.honest.0 there)).1 (subst (λ (s : State). CanBegin form s.read) (sym seen) can)) in (
       kept_out read head is form shut none,
       λ named.
-          false≢true (sym c.if-named.false ∙ c.is_named-named.ensures.1 (subst IsNamedBehindGate (sym c.deref.ensures.value) (named_head read head is named))),
+          false≢true (sym c.if-named.false ∙ c.is_named-named.ensures.1 (subst IsNamedBehindGate (sym c.deref-2.ensures.value) (named_head read head is named))),
     )
