@@ -8,8 +8,9 @@ mod teller;
 use crate::progress::Meter;
 use crate::teller::FolderTeller;
 use commands::run_words;
-use disk_model::FileDisk;
+use disk_model::{FileDisk, FileFault};
 use program_inputs::{given_words, list_folder, open_feed, out_of_memory, texts, unread};
+use recovery::is_begun;
 use std::fs::File;
 use std::hash::RandomState;
 use std::io;
@@ -31,6 +32,30 @@ fn stream_places(rt: &HostRuntime) -> [io::Result<File>; 3] {
     ]
 }
 
+// Whether the words name a command that only reads its store.
+fn only_reads(words: &[&str]) -> bool {
+    match words.get(1) {
+        Some(command) => *command == "ask" || *command == "list",
+        None => false,
+    }
+}
+
+// Opens the file of a store. To read only, it is opened beside others that read, if it begins as a store does: then nothing is written.
+fn open_store(rt: &HostRuntime, path: &str, only_reads: bool) -> Result<FileDisk, FileFault> {
+    if only_reads {
+        match FileDisk::open_to_read(rt, path) {
+            Ok(mut disk) => {
+                if let Ok(true) = is_begun(rt.alloc(), &mut disk) {
+                    return Ok(disk);
+                }
+            }
+            Err(FileFault::InUse) => return Err(FileFault::InUse),
+            Err(FileFault::Failed) => {}
+        }
+    }
+    FileDisk::open(rt, path)
+}
+
 // Does what the words say, with workers in such threads, and gives the status.
 fn status<T: Threads + Wait + Sync>(rt: &HostRuntime, threads: &T) -> u8 {
     let alloc = rt.alloc();
@@ -45,6 +70,7 @@ fn status<T: Threads + Wait + Sync>(rt: &HostRuntime, threads: &T) -> u8 {
     let Ok(mut input) = BufReader::new(alloc, rt.stdin()) else {
         return out_of_memory("tp", &mut err);
     };
+    let reads = only_reads(texts.as_slice());
     let hash_keys = RandomState::new(rt).ok();
     let (status, _disk, _out) = run_words(
         alloc,
@@ -54,7 +80,7 @@ fn status<T: Threads + Wait + Sync>(rt: &HostRuntime, threads: &T) -> u8 {
         texts.as_slice(),
         |folder| open_feed(rt, alloc, folder),
         |folder| list_folder(rt, folder),
-        |path| FileDisk::open(rt, path),
+        |path| open_store(rt, path, reads),
         |asked| Meter::new(rt, asked),
         &mut input,
         out,
