@@ -31,8 +31,8 @@ pub struct Ready<D: Disk> {
     pub is_new: bool,
 }
 
-/// Opens the file of that path as a disk, and looks at it: a store of the basis's timetable, and of journeys of at most `rides` rides, may
-/// be opened there. Nothing is done to a file in which none may be. The disk comes back with each fault, if there is one.
+/// Opens the file of that path as a disk, and looks at it. It gives the disk if a store of the basis's timetable, and of journeys of at
+/// most `rides` rides, may be opened there. Any other file is left as it is. The disk comes back with each fault, if there is one.
 pub fn open_ready<D: Disk, S: FnOnce(&str) -> Result<D, FileFault>>(
     alloc: Global,
     basis: &Basis,

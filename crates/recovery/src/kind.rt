@@ -25,7 +25,7 @@ pub enum FileKind {
     New,
     /// It begins with an open gate, and is no shorter than a store: `recover` says what it is.
     Old,
-    /// A store's name stands after a gate that isn't open, where no beginning has left it: the first byte was damaged.
+    /// A store's name stands after a gate that isn't open, and no beginning has left it so: the first byte was damaged.
     GateDamaged,
     /// It is something else, which was never a store.
     Foreign,
@@ -120,8 +120,8 @@ pub fn is_begun<D: Disk>(alloc: Global, disk: &mut D) -> Result<bool, RecoverFau
     }
 }
 
-/// What the file of a disk is to a store of that timetable, and of journeys of at most `rides` rides, that is to be opened in it. Nothing
-/// is written: whoever opens the store only in a file that is `New` or `Old` spoils no file of another program. Memory is taken for the
+/// What the file of a disk is to a store of that timetable, and of journeys of at most `rides` rides. Nothing is written. A program that
+/// opens a store only in a file that is `New` or `Old` spoils no file of another program. If the file isn't `Old`, memory is taken for the
 /// bytes of a store without trees.
 pub fn file_kind<D: Disk>(
     alloc: Global,
