@@ -8,10 +8,11 @@ ghost use Rattle.timetable.specs.Table.{stops_of};
 ghost use Rattle.section_store.specs.Lasting.{IsTrusted};
 ghost use Rattle.section_store.specs.Sections.{Form, IsFresh, form_of, sources};
 ghost use Rattle.recovery.specs.Recovery.{CauseOf, IsOutside, StandsForNoList};
-ghost use Rattle.planner_life.specs.Board.{IsBoardOf, AreRight, AreWholeAmong, IsRight, IsWholeAmong};
-ghost use Rattle.planner_life.specs.Desk.{StandsForSources, ShowsWhole, IsSound, IsOpening, disk_after};
+ghost use Rattle.store_excerpt.specs.Board.{IsBoardOf, AreRight, AreWholeAmong, IsRight, IsWholeAmong};
+ghost use Rattle.recovery.specs.Opening.{StandsForSources, IsOpening};
+ghost use Rattle.store_excerpt.specs.Excerpt.{ShowsWhole, disk_after};
+ghost use Rattle.planner_life.specs.Desk.{IsSound};
 
-use crate::board::Board;
 use crate::desk::Desk;
 use crate::tools::Tools;
 use disk_model::Disk;
@@ -21,6 +22,7 @@ use section_store::Step;
 use section_store::laws::trust_lasts;
 use std::alloc::{AllocError, Global};
 use std::sync::Arc;
+use store_excerpt::Board;
 use timetable::{Rides, Timetable};
 
 // Makes the tools, and the board of the trees. Each tree is let go as soon as its patterns are made.

@@ -1,4 +1,4 @@
--- What an opening gives, and what it leaves on the disk.
+-- What an opening gives.
 use Rattle.std.specs.Prelude.{◌≡◌, ◌⊎◌, ℕ, List, false}
 use Rattle.std.specs.List.{AllZip}
 use Rattle.disk_model.specs.Disk.{State}
@@ -24,13 +24,6 @@ pub record HoldsList {D : Type 0} (bytes : List ℕ) (desk : DeskView D) : Type 
 pub record IsOpened (board : WriterData) : Type 0 where
   pub opened : board.origin.opened ≡ board.told
   pub going : board.halted ≡ false
-
--- Each outcome at each moment of an opening stands for what some outcome on entry stood for, no source that was held was lost, and a
--- trusted disk has stayed trusted.
-pub record IsOpening (form : Form) (old new : State) : Type 0 where
-  pub leaves : LeavesOnly old new (StandsAsBefore form old)
-  pub loses : LosesNothing form old new
-  pub trusts : StaysTrusted form old new
 
 -- the fault is the device's or memory's, and says nothing of the bytes
 abbrev pub IsNotTheBytes : OpenFault → Type 0

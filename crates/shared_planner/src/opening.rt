@@ -9,7 +9,8 @@ ghost use Rattle.section_store.specs.Lasting.{IsTrusted};
 ghost use Rattle.section_store.specs.Sections.{form_of};
 ghost use Rattle.board.specs.Trees.{IsRight};
 ghost use Rattle.shared_planner.specs.Desk.{IsSound};
-ghost use Rattle.shared_planner.specs.Opening.{HoldsList, IsNotTheBytes, IsOpened, IsOpening, IsUnopened};
+ghost use Rattle.shared_planner.specs.Opening.{HoldsList, IsNotTheBytes, IsOpened, IsUnopened};
+ghost use Rattle.recovery.specs.Opening.{IsOpening};
 
 use crate::desk::Desk;
 use crate::fault::OpenFault;

@@ -2,7 +2,7 @@
 
 ghost use Rattle.std.specs.Prelude.{◌≡◌, ◌↔◌, ◌⊎◌, MatchResult, IfOk, IfErr};
 ghost use Rattle.disk_model.specs.Disk.{Grew};
-ghost use Rattle.planner_life.specs.Desk.{IsOpening, StandsForSources};
+ghost use Rattle.recovery.specs.Opening.{IsOpening, StandsForSources};
 ghost use Rattle.recovery.specs.Recovery.{CauseOf, IsLeftAlone, IsOutside, StandsForNoList};
 ghost use Rattle.shared_planner.specs.Desk.{IsSound};
 ghost use Rattle.store_answers.specs.Replies.{IsOpenedReader};

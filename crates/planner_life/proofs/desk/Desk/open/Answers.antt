@@ -2,9 +2,11 @@ use Rattle.std.proofs.Common.{ℕ, List, inr, sym, subst}
 use Rattle.std.specs.Arc.{arc_value}
 use Rattle.timetable.specs.Table.{stops_of}
 use Rattle.section_store.specs.Sections.{Form, form_of, sources}
-use Rattle.planner_life.specs.Board.{IsDesk, AreRight}
-use Rattle.planner_life.specs.Desk.{IsOpening, ShowsWhole}
-use Rattle.planner_life.proofs.BoardFacts.{right_all, whole_all}
+use Rattle.planner_life.specs.Desk.{IsDesk}
+use Rattle.store_excerpt.specs.Board.{AreRight}
+use Rattle.recovery.specs.Opening.{IsOpening}
+use Rattle.store_excerpt.specs.Excerpt.{ShowsWhole}
+use Rattle.store_excerpt.proofs.BoardFacts.{right_all, whole_all}
 use Rattle.planner_life.proofs.DeskFacts.{sources_known}
 use Rattle.planner_life.proofs.desk.Desk.open.Goals as goal
 

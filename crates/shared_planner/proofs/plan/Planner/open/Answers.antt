@@ -4,7 +4,8 @@ use Rattle.timetable.specs.Table.{Table, stops_of}
 use Rattle.section_store.specs.Sections.{Form, form_of}
 use Rattle.board.specs.Trees.{IsRight}
 use Rattle.shared_planner.specs.Desk.{DeskView}
-use Rattle.shared_planner.specs.Opening.{IsOpening, IsUnopened}
+use Rattle.recovery.specs.Opening.{IsOpening}
+use Rattle.shared_planner.specs.Opening.{IsUnopened}
 use Rattle.shared_planner.specs.declared.fault.OpenFault.TheVariants.{Recover}
 use Rattle.shared_planner.proofs.ListFacts.{shows_stored, sources_known, shown_right}
 use Rattle.shared_planner.proofs.plan.Planner.open.Goals as goal

@@ -4,7 +4,7 @@ ghost use Rattle.std.specs.Prelude.{◌≡◌, ℕ, None, Some, IfOk, List, slic
 ghost use Rattle.std.specs.Option.{option_copied};
 ghost use Rattle.std.specs.List.{All};
 ghost use Rattle.section_store.specs.Sections.{Form, sources};
-ghost use Rattle.planner_life.specs.Board.{IsBoardOf, AreRight, AreWholeAmong, IsRight, IsWholeAmong};
+ghost use Rattle.store_excerpt.specs.Board.{IsBoardOf, AreRight, AreWholeAmong, IsRight, IsWholeAmong};
 
 use pattern_query::Patterns;
 use pattern_tree::PatternTree;

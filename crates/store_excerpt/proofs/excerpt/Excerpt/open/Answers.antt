@@ -3,11 +3,12 @@ use Rattle.std.specs.Arc.{arc_value}
 use Rattle.timetable.specs.Table.{stops_of}
 use Rattle.pattern_tree.specs.Content.{Content}
 use Rattle.section_store.specs.Sections.{Form, form_of, sources}
-use Rattle.planner_life.specs.Board.{IsBoardOf, IsWholeAmong, ShowsAmong}
-use Rattle.planner_life.specs.Desk.{IsOpening, ShowsWhole}
-use Rattle.planner_life.proofs.BoardFacts.{whole_all}
-use Rattle.planner_life.proofs.ExcerptFacts.{board_own, kept_whole, shows_among}
-use Rattle.planner_life.proofs.excerpt.Excerpt.open.Goals as goal
+use Rattle.store_excerpt.specs.Board.{IsBoardOf, IsWholeAmong, ShowsAmong}
+use Rattle.recovery.specs.Opening.{IsOpening}
+use Rattle.store_excerpt.specs.Excerpt.{ShowsWhole}
+use Rattle.store_excerpt.proofs.BoardFacts.{whole_all}
+use Rattle.store_excerpt.proofs.ExcerptFacts.{board_own, kept_whole, shows_among}
+use Rattle.store_excerpt.proofs.excerpt.Excerpt.open.Goals as goal
 
 pub returns-in-Err-clause-moments : goal.returns-in-Err-clause-moments
 returns-in-Err-clause-moments g c = λ honest. record {

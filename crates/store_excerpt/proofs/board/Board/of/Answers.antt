@@ -4,9 +4,9 @@ use Rattle.std.proofs.lemmas.List.{length-set, map-append}
 use Rattle.std.proofs.lemmas.List.Elements.{All-pop}
 use Rattle.pattern_tree.specs.Content.{Content}
 use Rattle.section_store.specs.Sections.{sources}
-use Rattle.planner_life.specs.Board.{IsBoardOf, IsRight, AreRight, IsWholeAmong, AreWholeAmong}
-use Rattle.planner_life.proofs.BoardFacts.{board_none, board_more, right_none, right_more, right_still, whole_none, whole_more, whole_still}
-use Rattle.planner_life.proofs.board.Board.of.Goals as goal
+use Rattle.store_excerpt.specs.Board.{IsBoardOf, IsRight, AreRight, IsWholeAmong, AreWholeAmong}
+use Rattle.store_excerpt.proofs.BoardFacts.{board_none, board_more, right_none, right_more, right_still, whole_none, whole_more, whole_still}
+use Rattle.store_excerpt.proofs.board.Board.of.Goals as goal
 
 nothing_left : {X : Type 0} (l : List X) → length l ≡ 0 → l ≡ []
 nothing_left [] h = refl

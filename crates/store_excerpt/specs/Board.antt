@@ -1,7 +1,6 @@
--- The trees that a desk shows.
-use Rattle.std.specs.Prelude.{◌≡◌, ◌<◌, ◌≤◌, ◌↔◌, ℕ, Option, Some, None, List, length, slice_index_or, is_some}
-use Rattle.std.specs.List.{All, Contains}
-use Rattle.timetable.specs.Table.{stops_of}
+-- The trees that an open store shows.
+use Rattle.std.specs.Prelude.{◌≡◌, ◌<◌, ◌≤◌, ◌↔◌, ℕ, Option, Some, None, List, slice_index_or, is_some}
+use Rattle.std.specs.List.{Contains}
 use Rattle.pattern_tree.specs.Content.{Content, longest}
 use Rattle.pattern_tree.specs.Completeness.{Complete, IsTreeOf}
 use Rattle.planner.specs.Questions.{IsStored}
@@ -25,19 +24,7 @@ IsBoardOf stops list board = (s : ℕ) → s < stops → IsSlotOf list s (shown 
 abbrev pub AreOwn : List (Option Content) → Type 0
 AreOwn board = (s : ℕ) (tree : Content) → shown board s ≡ Some tree → tree.source ≡ s
 
--- the board of the trees of these sources, all of them stops of the timetable that the tools are for
-pub record IsDesk (tools form : Form) (list : List ℕ) (board : List (Option Content)) : Type 0 where
-  pub same : tools ≡ form
-  pub long : length board ≡ stops_of form.table
-  pub shows : IsBoardOf (stops_of form.table) list board
-  pub known : All (λ s. s < stops_of form.table) list
-
--- of each stop of the timetable, the board has its tree exactly where the list has the stop
-pub record ShowsList (stops : ℕ) (list : List ℕ) (board : List (Option Content)) : Type 0 where
-  pub held : (s : ℕ) → s < stops → IsStored (shown board) s ↔ Contains list s
-  pub missing : (s : ℕ) → s < stops → (shown board s ≡ None) ↔ IsNew s list
-
--- so it does of each of these stops
+-- of each of these stops, the board has its tree exactly where the list has the stop
 pub record ShowsAmong (stops : ℕ) (froms list : List ℕ) (board : List (Option Content)) : Type 0 where
   pub held : (s : ℕ) → s < stops → Contains froms s → IsStored (shown board) s ↔ Contains list s
   pub missing : (s : ℕ) → s < stops → Contains froms s → (shown board s ≡ None) ↔ IsNew s list

@@ -11,9 +11,8 @@ use Rattle.pattern_tree.specs.Content.{Content}
 use Rattle.section_store.specs.Sections.{Form, sources}
 use Rattle.section_store.specs.Sources.{is_among}
 use Rattle.recovery.specs.Excerpts.{trees_of}
-use Rattle.planner_life.specs.Board.{AreOwn, IsBoardOf, IsSlotOf, IsWholeAmong, ShowsAmong, shown}
-use Rattle.planner_life.proofs.BoardFacts.{among_is, none_some}
-use Rattle.planner_life.proofs.DeskFacts.{slot_held, slot_missing}
+use Rattle.store_excerpt.specs.Board.{AreOwn, IsBoardOf, IsSlotOf, IsWholeAmong, ShowsAmong, shown}
+use Rattle.store_excerpt.proofs.BoardFacts.{among_is, none_some, slot_held, slot_missing}
 
 -- the sources of trees, looked at one by one
 among_sources : (s : ℕ) (trees : List Content) → is_among s (sources trees) ≡ list_any (λ (t : Content). nat_eq t.source s) trees

@@ -1,5 +1,5 @@
 -- What stands on a board once one tree more is shown.
-use Rattle.std.proofs.Common.{◌≡◌, ◌≢◌, ◌≤◌, ◌||◌, Bool, true, false, is_some, nat_eq, Bor, ℕ, zero, suc, Option, Some, None, List, [], ◌∷◌, ◌++◌, length, slice_set, arith, refl, get_or, sym, ◌∙◌, ap, subst, inl, inr, ◌⊎◌, All}
+use Rattle.std.proofs.Common.{◌≡◌, ◌≢◌, ◌≤◌, ◌↔◌, ◌||◌, Bool, true, false, is_some, nat_eq, Bor, ℕ, zero, suc, Option, Some, None, List, [], ◌∷◌, ◌++◌, length, slice_set, arith, refl, get_or, sym, ◌∙◌, ap, subst, inl, inr, ◌⊎◌, All, IsSomeAnd}
 use Rattle.std.specs.List.{Contains}
 use Rattle.std.specs.Option.{option_copied}
 use Rattle.std.specs.List.Sorted.{IsPermutation}
@@ -15,7 +15,7 @@ use Rattle.pattern_tree.proofs.OrderFacts.{longest_still, tree_still}
 use Rattle.section_store.specs.Lasting.{IsExact}
 use Rattle.section_store.specs.Sections.{Form, IsNew, Stands, AreTexts}
 use Rattle.section_store.specs.Sources.{is_among}
-use Rattle.planner_life.specs.Board.{shown, IsSlotOf, IsBoardOf, IsRight, AreRight, IsWhole, IsWholeAmong, AreWholeAmong}
+use Rattle.store_excerpt.specs.Board.{shown, IsSlotOf, IsBoardOf, IsRight, AreRight, IsWhole, IsWholeAmong, AreWholeAmong}
 
 pub in_one : (m s : ℕ) → Contains (m ∷ []) s → s ≡ m
 in_one m s (k, below, is) = let zero' : k ≡ 0 = omega (arith, below) in sym (subst (λ (i : ℕ). get_or (m ∷ []) i s ≡ s) zero' is)
@@ -35,6 +35,17 @@ among_has s (m ∷ list) some = elim (cases_eq m s) [
   | inr other ↦
       let later = among_has s list (let rest : is_among s list ≡ true = grind (arith, nat_tests) in rest) in
       Contains-append_right (m ∷ []) list s later
+]
+
+in_none : (s : ℕ) → Contains [] s → ⊥
+in_none s has = let k = at_from_Contains [] s has in let b : ⊥ = omega (arith, k.1) in b
+
+-- what is new isn't there
+pub new_lacks : (s : ℕ) (list : List ℕ) → IsNew s list → Contains list s → ⊥
+new_lacks s [] new has = in_none s has
+new_lacks s (m ∷ list) new has = elim (Contains-append_cases (m ∷ []) list s has) [
+  | inl here ↦ new.0 (in_one m s here)
+  | inr later ↦ new_lacks s list new.1 later
 ]
 
 pub among_is : (s : ℕ) (list : List ℕ) → Contains list s → is_among s list ≡ true
@@ -94,6 +105,14 @@ slot_none list s slot is at = among_new s list (sym is.there ∙ ap (λ (p : Opt
 
 pub slot_some : (list : List ℕ) (s : ℕ) (slot : Option Content) (tree : Content) → IsSlotOf list s slot → Some tree ≡ slot → Contains list s × (tree.source ≡ s)
 slot_some list s slot tree is at = (among_has s list (sym is.there ∙ ap (λ (p : Option Content). is_some p) (sym at)), is.own tree (sym at))
+
+pub slot_held : (list : List ℕ) (s : ℕ) (slot : Option Content) → IsSlotOf list s slot → IsSomeAnd slot (λ tree. tree.source ≡ s) ↔ Contains list s
+slot_held list s None is = (λ held. absurd held, λ has. absurd (new_lacks s list (among_new s list (sym is.there)) has))
+slot_held list s (Some tree) is = (λ held. among_has s list (sym is.there), λ has. is.own tree refl)
+
+pub slot_missing : (list : List ℕ) (s : ℕ) (slot : Option Content) → IsSlotOf list s slot → (slot ≡ None) ↔ IsNew s list
+slot_missing list s None is = (λ none. among_new s list (sym is.there), λ new. refl)
+slot_missing list s (Some tree) is = (λ none. absurd cc, λ new. absurd (new_lacks s list new (among_has s list (sym is.there))))
 
 copied_some : (found : Option (Bor Content)) → is_some (option_copied found) ≡ is_some found
 copied_some None = refl

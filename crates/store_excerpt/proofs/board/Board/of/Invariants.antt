@@ -1,8 +1,8 @@
 use Rattle.std.proofs.Common.{◌≡◌, ◌++◌, ℕ, List, length, All}
 use Rattle.std.specs.Vec.Iter.{into_iter_items, into_iter_len}
 use Rattle.section_store.specs.Sections.{Form, sources}
-use Rattle.planner_life.specs.Board.{IsBoardOf, AreRight, AreWholeAmong, IsRight, IsWholeAmong}
-use Rattle.planner_life.proofs.board.Board.of.Given as goal
+use Rattle.store_excerpt.specs.Board.{IsBoardOf, AreRight, AreWholeAmong, IsRight, IsWholeAmong}
+use Rattle.store_excerpt.proofs.board.Board.of.Given as goal
 
 abbrev pub invariant-loop-tree : goal.invariant-loop-tree
 invariant-loop-tree l = record {

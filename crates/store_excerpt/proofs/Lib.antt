@@ -1,0 +1,2 @@
+pub mod BoardFacts
+mod ExcerptFacts

@@ -1,0 +1,4 @@
+pub mod Board
+pub mod Excerpt
+pub mod Laws
+pub mod StoreView
