@@ -5,10 +5,10 @@ ghost use Rattle.timetable.specs.Table.{stops_of};
 ghost use Rattle.section_store.specs.Sections.{form_of};
 ghost use Rattle.section_store.specs.Sources.{IsSetOf};
 ghost use Rattle.precomputing.specs.Missing.{missing_of};
-ghost use Rattle.precomputing.specs.Outcome.{IsLeft, IsPrecomputed};
+ghost use Rattle.precomputing.specs.Outcome.{IsDoneAtOnce, IsLeft, IsPrecomputed};
 
 use crate::gate::Gate;
-use crate::missing::{mark, missing_stops};
+use crate::missing::{has_each, mark, missing_stops};
 use crate::outcome::Outcome;
 use crate::progress::{Progress, Silent};
 use crate::stop::Stop;
@@ -28,13 +28,11 @@ use work_ledger::Ledger;
 // How many finished trees wait to be stored at most.
 const ROOM: usize = 64;
 
-// What is made before anything is started: the ledger, the set of the stored stops, and the stops that lack a tree, with room for
-// those that lack one at the end.
+// What is made before anything is started: the ledger, the set of the stored stops, and room for those that lack a tree at the end.
 #[derive(Drop)]
 struct Prepared {
     ledger: Ledger,
     set: StopSet,
-    missing: Vec<StopId>,
     room: Vec<StopId>,
 }
 
@@ -47,7 +45,6 @@ fn prepare<D: Disk>(
     requires own { desk.now.form ≡ planner.now.form }
     ensures ledger { IfOk result (λ p. form_of p.ledger.table p.ledger.rides ≡ desk.now.form) }
     ensures set { IfOk result (λ p. IsSetOf (stops_of desk.now.form.table) p.set desk.now.stored) }
-    ensures missing { IfOk result (λ p. p.missing.items ≡ missing_of (stops_of desk.now.form.table) desk.now.stored) }
     ensures bare { IfOk result (λ p. p.room.items ≡ []) }
     ensures room { IfOk result (λ p. stops_of desk.now.form.table ≤ vec_capacity p.room) }
 {
@@ -55,14 +52,8 @@ fn prepare<D: Disk>(
     let stored = desk.stored();
     let ledger = Ledger::new(alloc, planner.network().shared(), planner.k(), stored, ROOM)?;
     let set = StopSet::of(alloc, stops, stored)?;
-    let missing = missing_stops(&set, stops, Vec::with_capacity(alloc, stops)?);
     let room = Vec::with_capacity(alloc, stops)?;
-    Ok(Prepared {
-        ledger,
-        set,
-        missing,
-        room,
-    })
+    Ok(Prepared { ledger, set, room })
 }
 
 // What is left, where the set has those that were stored before.
@@ -87,7 +78,7 @@ fn left(set: StopSet, stored: &[StopId], before: usize, stops: usize, room: Vec<
 /// All threads have ended when this returns. The gate is told of each build, by the thread that makes it; `progress` of how many are stored
 /// as it begins, and after each put, by the calling thread. Once the flag is set no source is claimed any more, and what is in hand ends.
 ///
-/// A source whose tree is too large, or for which memory is refused, stays missing. A thread that can't be made is left out. After
+/// Where each stop has its tree, nothing is started, and no memory is taken. A source whose tree is too large, or for which memory is refused, stays missing. A thread that can't be made is left out. After
 /// `DeviceFailed` the store has to be opened again.
 ///
 /// Of an honest disk: at each moment since, each outcome of a crash stands for a front of the new list that holds the old one; where the
@@ -105,24 +96,20 @@ pub fn precompute_telling<D: Disk + Drop, R: Threads + Wait + Sync, G: Gate + Sy
     requires own { desk.form ≡ planner.now.form }
     requires workers { (0 < workers) × (workers ≤ 64) }
     requires ready { desk.next ≡ Step.WriteBody }
-    ensures { IsPrecomputed D.honest D.state D.failures desk result.0 result.1 }
+    ensures precomputed { IsPrecomputed D.honest D.state D.failures desk result.0 result.1 }
+    ensures at_once { IsDoneAtOnce desk result.0 result.1 }
 {
     goes_on();
     let stops = planner.network().timetable().stops();
     let before = desk.stored().len();
     progress.stored(before, stops);
+    if has_each(desk.stored(), stops) {
+        return (desk, Outcome::Done);
+    }
     let Ok(prepared) = prepare(alloc, planner, &desk) else {
         return (desk, Outcome::NoMemory);
     };
-    let Prepared {
-        ledger,
-        set,
-        missing,
-        room,
-    } = prepared;
-    if missing.len() == 0 {
-        return (desk, Outcome::Done);
-    }
+    let Prepared { ledger, set, room } = prepared;
     let (desk, end) = run_over::<Brand, D, R, G, P>(
         rt, alloc, planner, ledger, workers, gate, stop, progress, desk,
     );
@@ -149,7 +136,8 @@ pub fn precompute_until<D: Disk + Drop, R: Threads + Wait + Sync, G: Gate + Sync
     requires own { desk.form ≡ planner.now.form }
     requires workers { (0 < workers) × (workers ≤ 64) }
     requires ready { desk.next ≡ Step.WriteBody }
-    ensures { IsPrecomputed D.honest D.state D.failures desk result.0 result.1 }
+    ensures precomputed { IsPrecomputed D.honest D.state D.failures desk result.0 result.1 }
+    ensures at_once { IsDoneAtOnce desk result.0 result.1 }
 {
     precompute_telling(alloc, rt, desk, planner, workers, gate, stop, &mut Silent)
 }
@@ -166,7 +154,8 @@ pub fn precompute<D: Disk + Drop, R: Threads + Wait + Sync, G: Gate + Sync>(
     requires own { desk.form ≡ planner.now.form }
     requires workers { (0 < workers) × (workers ≤ 64) }
     requires ready { desk.next ≡ Step.WriteBody }
-    ensures { IsPrecomputed D.honest D.state D.failures desk result.0 result.1 }
+    ensures precomputed { IsPrecomputed D.honest D.state D.failures desk result.0 result.1 }
+    ensures at_once { IsDoneAtOnce desk result.0 result.1 }
 {
     let stop = Stop::new();
     precompute_until(alloc, rt, desk, planner, workers, gate, &stop)

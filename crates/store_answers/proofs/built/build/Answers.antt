@@ -25,7 +25,7 @@ returns-clause-built g c = λ honest.
     let first = c.in-Ok.opened.desk in
     let last = c.precompute_telling-desk.result.0 in
     let outcome = c.precompute_telling-desk.result.1 in
-    let p = c.precompute_telling-desk.ensures in
+    let p = c.precompute_telling-desk.ensures.precomputed in
     let e = c.in-Ok.ensures in
     let laws : Laws = record {
       front = c.goes_on.ensures.front;
@@ -49,7 +49,7 @@ told-report-requires g c =
     let outcome = c.precompute_telling-desk.result.1 in
     subst (λ (l : List ℕ). CountsLeft (stops_of c.args.basis.now.timetable) l outcome) (sym c.stored.ensures.stored)
     (left_of g.D.Disk.honest g.D.Disk.state g.D.Disk.failures c.in-Ok.opened.desk last (form_over c.args.basis.now c.args.rides) outcome
-    c.in-Ok.ensures.form c.precompute_telling-desk.ensures)
+    c.in-Ok.ensures.form c.precompute_telling-desk.ensures.precomputed)
 
 pub returns-clause-device : goal.returns-clause-device
 returns-clause-device g c =
@@ -60,7 +60,7 @@ returns-clause-device g c =
     subst (λ d. IfErr c.told-report.result (OnlyFailing (failures c.args.disk) (failures d))) (sym c.into_disk.ensures)
     (subst (λ n. IfErr c.told-report.result (OnlyFailing n (failures last.disk))) c.in-Ok.ensures.device
     (of_refusal c.told-report.result (IsEndOf outcome) (OnlyFailing (failures first.disk) (failures last.disk))
-    (λ fault is. end_fails g.D.Disk.honest g.D.Disk.state failures first last outcome fault is c.precompute_telling-desk.ensures)
+    (λ fault is. end_fails g.D.Disk.honest g.D.Disk.state failures first last outcome fault is c.precompute_telling-desk.ensures.precomputed)
     c.told-report.ensures.ended))
 
 pub returns-clause-honest : goal.returns-clause-honest
@@ -69,5 +69,5 @@ returns-clause-honest g c =
     let first = c.in-Ok.opened.desk in
     let last = c.precompute_telling-desk.result.0 in
     let opened = c.in-Ok.ensures.honest in
-    let stays = stays_honest honest g.D.Disk.state g.D.Disk.failures first last c.precompute_telling-desk.result.1 c.precompute_telling-desk.ensures in
+    let stays = stays_honest honest g.D.Disk.state g.D.Disk.failures first last c.precompute_telling-desk.result.1 c.precompute_telling-desk.ensures.precomputed in
     subst (λ d. honest c.args.disk ↔ honest d) (sym c.into_disk.ensures) (λ h. stays.0 (opened.0 h), λ h. opened.1 (stays.1 h))

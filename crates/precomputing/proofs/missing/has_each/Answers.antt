@@ -1,0 +1,26 @@
+use Rattle.std.proofs.Common.{◌≡◌, ◌<◌, ◌+◌, ◌-◌, ℕ, true, false, List, [], sym, ◌∙◌, ap, subst, arith}
+use Rattle.section_store.specs.Sources.{is_among}
+use Rattle.precomputing.specs.Missing.{missing_of}
+use Rattle.precomputing.proofs.MissingFacts.{missing_same, one_missing}
+use Rattle.precomputing.proofs.missing.has_each.Goals as goal
+
+pub returns-then-not-contains : goal.returns-then-not-contains
+returns-then-not-contains c =
+    let n : ℕ = c.loop-number.number in
+    let stored : List ℕ = c.args.stored.now in
+    let same : c.new.result ≡ n = c.new.ensures in
+    let marked : c.contains.result ≡ is_among n stored = c.contains.ensures.value ∙ ap (λ (s : ℕ). is_among s stored) same in
+    let lacks : is_among n stored ≡ false = sym marked ∙ c.if-not-contains.true in
+    let whole : n + 1 + (c.args.stops - (n + 1)) ≡ c.args.stops = omega arith in
+    (
+      λ is. absurd cc,
+      λ none. absurd (one_missing stored n (c.args.stops - (n + 1)) lacks (ap (λ (k : ℕ). missing_of k stored) whole ∙ none)),
+    )
+
+pub loop-number-preserved : goal.loop-number-preserved
+loop-number-preserved c =
+    let n : ℕ = c.loop-number.number in
+    let stored : List ℕ = c.args.stored.now in
+    let same : c.new.result ≡ n = c.new.ensures in
+    let marked : c.contains.result ≡ is_among n stored = c.contains.ensures.value ∙ ap (λ (s : ℕ). is_among s stored) same in
+    missing_same stored n (sym marked ∙ c.if-not-contains.false) ∙ c.loop-number.invariant

@@ -1,0 +1,6 @@
+use Rattle.std.proofs.Common.{◌≡◌, []}
+use Rattle.precomputing.specs.Missing.{missing_of}
+use Rattle.precomputing.proofs.missing.has_each.Given as goal
+
+abbrev pub invariant-loop-number : goal.invariant-loop-number
+invariant-loop-number l = missing_of l.number l.stored ≡ []
