@@ -2,6 +2,7 @@ pub mod Starting
 pub mod Calling
 pub mod Files
 pub mod Hands
+pub mod Kept
 pub mod Lifts
 pub mod Runs
 pub mod Sound

@@ -2,7 +2,8 @@
 
 ghost use Rattle.std.specs.Prelude.{◌≡◌, ◌<◌, IfOk, IfErr, List, MatchResult};
 ghost use Rattle.std.specs.List.{All, AllZip, Contains};
-ghost use Rattle.disk_model.specs.MemDisk.{state_of};
+ghost use Rattle.disk_model.specs.Disk.{Grew};
+ghost use Rattle.disk_model.specs.MemDisk.{failures_of, state_of};
 ghost use Rattle.timetable.specs.Table.{stops_of};
 ghost use Rattle.pattern_tree.specs.Content.{Content};
 ghost use Rattle.section_store.specs.Lasting.{IsExact, IsTrusted};
@@ -10,6 +11,7 @@ ghost use Rattle.section_store.specs.Sections.{Stands, sources};
 ghost use Rattle.section_store.specs.Store.{Holds};
 ghost use Rattle.recovery.specs.Recovery.{IsOutside};
 ghost use Rattle.planner_core.specs.Cores.{running_of};
+ghost use Rattle.planner_core.specs.Opened.{IsGivenBack};
 ghost use Rattle.planner_core.specs.Running.{IsSoundRunning};
 ghost use Rattle.planner_core.specs.Steps.{Begins, IsNewLedger, Shows};
 
@@ -85,8 +87,7 @@ pub(crate) fn begin(
     }
 }
 
-/// What runs on a trusted disk: its file is recovered, and all that it has counts as acknowledged. No call of the disk is told to fail
-/// any more.
+/// What runs on a trusted disk: its file is recovered, and all that it has counts as acknowledged.
 pub(crate) fn open(
     alloc: Global,
     tools: &Tools,
@@ -97,11 +98,11 @@ pub(crate) fn open(
         × Begins tools.now trees (running_of running) × (running.archive.acknowledged ≡ sources trees)) }
     ensures sound { IfOk result (λ running. IsSoundRunning tools.now (running_of running)) }
     ensures fault { IfErr result (λ e. IsOutside e.0) }
+    ensures device { IfErr result (λ e. e.0 ≡ RecoverFault.Device → Grew (failures_of disk) (failures_of e.1)) }
+    ensures given_back { IfErr result (λ e. IsGivenBack tools.now.form (state_of disk) (state_of e.1)) }
     ensures trusted { IfErr result (λ e. IsTrusted tools.now.form (state_of e.1)) }
 {
     trust_lasts();
-    let mut disk = disk;
-    disk.fail_at(0);
     let Recovered { store, trees } = match recover(alloc, disk, tools.table(), tools.rides()) {
         Ok(recovered) => recovered,
         Err(refused) => return Err(refused),
