@@ -1,12 +1,12 @@
 //! From an answer to what is told of it.
 
-use crate::clock::{Clock, Time};
-use crate::itinerary::{Itinerary, Journey, Kind, Leg, Place, StopList};
-use crate::names::{NameSheets, Names};
 use crate::through::stops_between;
 use answer_lines::{Answer, DayTime, Point, Stage};
 use feed_basis::Basis;
+use itinerary_texts::{Itinerary, Journey, Kind, Leg, Place, Stay, StopList, Time, Trip};
 use std::alloc::{AllocError, Global};
+use told_names::{NameSheets, Names};
+use zone_clock::Clock;
 
 /// What was asked.
 #[derive(Clone, Copy)]
@@ -22,191 +22,34 @@ pub struct Asked<'a> {
     pub through: bool,
 }
 
-// What an answer is told by.
-#[derive(Clone, Copy)]
-struct Teller<'a> {
-    basis: &'a Basis,
-    clock: Clock,
-    names: &'a Names,
-    // Whether the stops that a ride calls at in between are told.
-    through: bool,
-}
-
-// The stops and trips whose names are wanted.
-#[derive(Drop)]
-struct Wanted<'a> {
-    stops: Vec<&'a str>,
-    trips: Vec<&'a str>,
-}
-
-impl<'a> Wanted<'a> {
-    // Those of a ride or a walk.
-    fn put(&mut self, stage: &'a Stage) -> Result<(), AllocError> {
-        match stage {
-            Stage::Ride { trip, from, to, .. } => {
-                self.trips.push(trip.as_str())?;
-                self.stops.push(from.as_str())?;
-                self.stops.push(to.as_str())?;
-            }
-            Stage::Walk { from, to, .. } => {
-                self.stops.push(from.as_str())?;
-                self.stops.push(to.as_str())?;
-            }
-        }
-        Ok(())
-    }
-
-    // The stops that a ride calls at in between.
-    fn put_through(
-        &mut self,
-        alloc: Global,
-        basis: &'a Basis,
-        stage: &Stage,
-    ) -> Result<(), AllocError> {
-        for stop in stops_between(alloc, basis, stage)? {
-            self.stops.push(stop)?;
-        }
-        Ok(())
+// How one gets on by a ride or a walk.
+fn kind_of(stage: &Stage) -> Kind {
+    match stage {
+        Stage::Ride { .. } => Kind::Ride,
+        Stage::Walk { .. } => Kind::Walk,
     }
 }
 
-// Those of an answer.
-fn wanted_of<'a>(
-    alloc: Global,
-    basis: &'a Basis,
-    asked: &Asked<'a>,
-    answer: &'a Answer,
-) -> Result<Wanted<'a>, AllocError> {
-    let mut wanted = Wanted {
-        stops: Vec::new(alloc),
-        trips: Vec::new(alloc),
-    };
-    wanted.stops.push(asked.from)?;
-    wanted.stops.push(asked.to)?;
-    if let Answer::Points(points) = answer {
-        for point in points {
-            for stage in &point.stages {
-                wanted.put(stage)?;
-                if asked.through {
-                    wanted.put_through(alloc, basis, stage)?;
-                }
-            }
-        }
+// The ids of the stops at which a ride or a walk begins and ends.
+fn ends_of(stage: &Stage) -> (&str, &str) {
+    match stage {
+        Stage::Ride { from, to, .. } | Stage::Walk { from, to, .. } => (from.as_str(), to.as_str()),
     }
-    Ok(wanted)
 }
 
-impl Teller<'_> {
-    // The seconds from one time to a later one.
-    fn seconds(&self, departs: DayTime, arrives: DayTime) -> Option<u32> {
-        let departs = self.basis.moment(departs.date, departs.seconds)?;
-        let arrives = self.basis.moment(arrives.date, arrives.seconds)?;
-        arrives.checked_sub(departs)
+// The trip of a ride.
+fn trip_of(stage: &Stage) -> Option<&str> {
+    match stage {
+        Stage::Ride { trip, .. } => Some(trip.as_str()),
+        Stage::Walk { .. } => None,
     }
+}
 
-    // The stops that a ride calls at in between, where they are told.
-    fn through(&self, alloc: Global, stage: &Stage) -> Result<Vec<Place>, AllocError> {
-        let mut places = Vec::new(alloc);
-        if !self.through {
-            return Ok(places);
-        }
-        for stop in stops_between(alloc, self.basis, stage)? {
-            places.push(self.names.place(alloc, stop)?)?;
-        }
-        Ok(places)
-    }
-
-    // A place and a time there.
-    fn stay(&self, alloc: Global, id: &str, at: DayTime) -> Result<(Place, Time), AllocError> {
-        let place = self.names.place(alloc, id)?;
-        Ok((place, self.clock.time(alloc, at)?))
-    }
-
-    // A ride or a walk, which begins at this time where it is a walk.
-    fn leg(&self, alloc: Global, begins: DayTime, stage: &Stage) -> Result<Leg, AllocError> {
-        let (trip, from, departs, to, arrives) = match stage {
-            Stage::Ride {
-                trip,
-                from,
-                departs,
-                to,
-                arrives,
-            } => (Some(trip.as_str()), from, *departs, to, *arrives),
-            Stage::Walk { from, to, arrives } => (None, from, begins, to, *arrives),
-        };
-        let (kind, trip) = match trip {
-            Some(trip) => (Kind::Ride, Some(self.names.trip(alloc, trip)?)),
-            None => (Kind::Walk, None),
-        };
-        let (from, departure) = self.stay(alloc, from.as_str(), departs)?;
-        let (to, arrival) = self.stay(alloc, to.as_str(), arrives)?;
-        Ok(Leg {
-            kind,
-            trip,
-            from,
-            departure,
-            to,
-            arrival,
-            seconds: self.seconds(departs, arrives),
-            through: self.through(alloc, stage)?,
-        })
-    }
-
-    // A journey of one who is there at this time.
-    fn journey(
-        &self,
-        alloc: Global,
-        begins: DayTime,
-        point: &Point,
-    ) -> Result<Journey, AllocError> {
-        let mut legs = Vec::with_capacity(alloc, point.stages.len())?;
-        let mut at = begins;
-        let mut departs = begins;
-        for (index, stage) in point.stages.iter().enumerate() {
-            if let Stage::Ride {
-                departs: leaves,
-                ..
-            } = stage
-                && index == 0
-            {
-                departs = *leaves;
-            }
-            legs.push(self.leg(alloc, at, stage)?)?;
-            at = arrival_of(stage);
-        }
-        Ok(Journey {
-            rides: point.rides,
-            departure: Some(self.clock.time(alloc, departs)?),
-            arrival: self.clock.time(alloc, point.at)?,
-            seconds: self.seconds(departs, point.at),
-            legs: Some(legs),
-        })
-    }
-
-    // The journeys of an answer. Of a single ride only the arrival is known.
-    fn journeys(
-        &self,
-        alloc: Global,
-        begins: DayTime,
-        answer: &Answer,
-    ) -> Result<Vec<Journey>, AllocError> {
-        let mut journeys = Vec::new(alloc);
-        match answer {
-            Answer::NoRide => {}
-            Answer::Arrive(at) => journeys.push(Journey {
-                rides: 1,
-                departure: None,
-                arrival: self.clock.time(alloc, *at)?,
-                seconds: None,
-                legs: None,
-            })?,
-            Answer::Points(points) => {
-                for point in points {
-                    journeys.push(self.journey(alloc, begins, point)?)?;
-                }
-            }
-        }
-        Ok(journeys)
+// When a ride departs, or a walk begins that follows on this time.
+fn departure_of(begins: DayTime, stage: &Stage) -> DayTime {
+    match stage {
+        Stage::Ride { departs, .. } => *departs,
+        Stage::Walk { .. } => begins,
     }
 }
 
@@ -217,23 +60,246 @@ fn arrival_of(stage: &Stage) -> DayTime {
     }
 }
 
-/// What is told of an answer, whose rides and walks are there, to what was asked over the basis, by the clock, with the names that the
-/// sheets have. It fails only where memory runs out.
-pub fn itinerary_of<'a>(
+// The stops and trips whose names are wanted.
+#[derive(Drop)]
+struct Wanted<'a> {
+    stops: Vec<&'a str>,
+    trips: Vec<&'a str>,
+}
+
+impl<'a> Wanted<'a> {
+    // Puts in those of a ride or a walk.
+    fn put(&mut self, stage: &'a Stage) -> Result<(), AllocError> {
+        let (from, to) = ends_of(stage);
+        self.stops.push(from)?;
+        self.stops.push(to)?;
+        if let Some(trip) = trip_of(stage) {
+            self.trips.push(trip)?;
+        }
+        Ok(())
+    }
+
+    // Puts in the stops that a ride calls at in between.
+    fn put_through(
+        &mut self,
+        alloc: Global,
+        basis: &'a Basis,
+        stage: &Stage,
+    ) -> Result<(), AllocError> {
+        self.stops
+            .extend_from_slice(&stops_between(alloc, basis, stage)?)
+    }
+
+    // Puts in those of a journey.
+    fn put_point(
+        &mut self,
+        alloc: Global,
+        basis: &'a Basis,
+        through: bool,
+        point: &'a Point,
+    ) -> Result<(), AllocError> {
+        for stage in &point.stages {
+            self.put(stage)?;
+            if through {
+                self.put_through(alloc, basis, stage)?;
+            }
+        }
+        Ok(())
+    }
+
+    // Puts in those of an answer to what was asked.
+    fn put_answer(
+        &mut self,
+        alloc: Global,
+        basis: &'a Basis,
+        asked: &'a Asked<'_>,
+        answer: &'a Answer,
+    ) -> Result<(), AllocError> {
+        self.stops.push(asked.from)?;
+        self.stops.push(asked.to)?;
+        if let Answer::Points(points) = answer {
+            for point in points {
+                self.put_point(alloc, basis, asked.through, point)?;
+            }
+        }
+        Ok(())
+    }
+}
+
+// The names that are wanted to tell an answer to what was asked.
+fn names_for<'a>(
     alloc: Global,
     basis: &'a Basis,
+    sheets: &NameSheets,
+    asked: &'a Asked<'_>,
+    answer: &'a Answer,
+) -> Result<Names, AllocError> {
+    let mut wanted = Wanted {
+        stops: Vec::new(alloc),
+        trips: Vec::new(alloc),
+    };
+    wanted.put_answer(alloc, basis, asked, answer)?;
+    Names::of(alloc, sheets, &wanted.stops, &wanted.trips)
+}
+
+// What an answer is told by.
+#[derive(Clone, Copy)]
+struct Teller<'a> {
+    basis: &'a Basis,
+    clock: Clock,
+    names: &'a Names,
+    // Whether the stops that a ride calls at in between are told.
+    through: bool,
+}
+
+impl Teller<'_> {
+    // A time by the clock.
+    fn time(&self, alloc: Global, at: DayTime) -> Result<Time, AllocError> {
+        self.clock.time(alloc, at.date, at.seconds)
+    }
+
+    // The seconds from one time to a later one.
+    fn seconds(&self, departs: DayTime, arrives: DayTime) -> Option<u32> {
+        let departs = self.basis.moment(departs.date, departs.seconds)?;
+        let arrives = self.basis.moment(arrives.date, arrives.seconds)?;
+        arrives.checked_sub(departs)
+    }
+
+    // The stops that a ride calls at in between, if they are told.
+    fn through(&self, alloc: Global, stage: &Stage) -> Result<Vec<Place>, AllocError> {
+        if !self.through {
+            return Ok(Vec::new(alloc));
+        }
+        self.names
+            .places(alloc, &stops_between(alloc, self.basis, stage)?)
+    }
+
+    // The trip of a ride.
+    fn trip(&self, alloc: Global, stage: &Stage) -> Result<Option<Trip>, AllocError> {
+        match trip_of(stage) {
+            Some(trip) => Ok(Some(self.names.trip(alloc, trip)?)),
+            None => Ok(None),
+        }
+    }
+
+    // A place and a time there.
+    fn stay(&self, alloc: Global, id: &str, at: DayTime) -> Result<Stay, AllocError> {
+        Ok(Stay {
+            place: self.names.place(alloc, id)?,
+            time: self.time(alloc, at)?,
+        })
+    }
+
+    // A ride or a walk, which begins at this time if it is a walk.
+    fn leg(&self, alloc: Global, begins: DayTime, stage: &Stage) -> Result<Leg, AllocError> {
+        let (from, to) = ends_of(stage);
+        let (departs, arrives) = (departure_of(begins, stage), arrival_of(stage));
+        Ok(Leg {
+            kind: kind_of(stage),
+            trip: self.trip(alloc, stage)?,
+            from: self.stay(alloc, from, departs)?,
+            to: self.stay(alloc, to, arrives)?,
+            seconds: self.seconds(departs, arrives),
+            through: self.through(alloc, stage)?,
+        })
+    }
+
+    // The rides and walks of one who is there at this time.
+    fn legs(
+        &self,
+        alloc: Global,
+        begins: DayTime,
+        stages: &[Stage],
+    ) -> Result<Vec<Leg>, AllocError> {
+        let mut legs = Vec::with_capacity(alloc, stages.len())?;
+        let mut at = begins;
+        for stage in stages {
+            legs.push(self.leg(alloc, at, stage)?)?;
+            at = arrival_of(stage);
+        }
+        Ok(legs)
+    }
+
+    // A journey of one who is there at this time.
+    fn journey(
+        &self,
+        alloc: Global,
+        begins: DayTime,
+        point: &Point,
+    ) -> Result<Journey, AllocError> {
+        let departs = match point.stages.first() {
+            Some(stage) => departure_of(begins, stage),
+            None => begins,
+        };
+        Ok(Journey {
+            rides: point.rides,
+            departure: Some(self.time(alloc, departs)?),
+            arrival: self.time(alloc, point.at)?,
+            seconds: self.seconds(departs, point.at),
+            legs: Some(self.legs(alloc, begins, &point.stages)?),
+        })
+    }
+
+    // A journey by a single ride, of which only the arrival is known.
+    fn arrival(&self, alloc: Global, at: DayTime) -> Result<Journey, AllocError> {
+        Ok(Journey {
+            rides: 1,
+            departure: None,
+            arrival: self.time(alloc, at)?,
+            seconds: None,
+            legs: None,
+        })
+    }
+
+    // Puts in the journeys of an answer.
+    fn put_journeys(
+        &self,
+        alloc: Global,
+        journeys: &mut Vec<Journey>,
+        begins: DayTime,
+        answer: &Answer,
+    ) -> Result<(), AllocError> {
+        match answer {
+            Answer::NoRide => {}
+            Answer::Arrive(at) => journeys.push(self.arrival(alloc, *at)?)?,
+            Answer::Points(points) => {
+                for point in points {
+                    journeys.push(self.journey(alloc, begins, point)?)?;
+                }
+            }
+        }
+        Ok(())
+    }
+
+    // The journeys of an answer.
+    fn journeys(
+        &self,
+        alloc: Global,
+        begins: DayTime,
+        answer: &Answer,
+    ) -> Result<Vec<Journey>, AllocError> {
+        let mut journeys = Vec::new(alloc);
+        self.put_journeys(alloc, &mut journeys, begins, answer)?;
+        Ok(journeys)
+    }
+}
+
+/// What is told of an answer, whose rides and walks are there, to what was asked over the basis, by the clock, with the names that the
+/// sheets have. It fails only if memory runs out.
+pub fn itinerary_of<'a>(
+    alloc: Global,
+    basis: &Basis,
     clock: Clock,
     sheets: &NameSheets,
     asked: &Asked<'a>,
-    answer: &'a Answer,
+    answer: &Answer,
 ) -> Result<Itinerary<'a>, AllocError> {
-    let wanted = wanted_of(alloc, basis, asked, answer)?;
-    let names = Names::of(alloc, sheets, &wanted.stops, &wanted.trips)?;
+    let names = names_for(alloc, basis, sheets, asked, answer)?;
     itinerary_by(alloc, basis, clock, &names, asked, answer)
 }
 
 /// What is told of an answer, whose rides and walks are there, to what was asked over the basis, by the clock, with these names. It fails
-/// only where memory runs out.
+/// only if memory runs out.
 pub fn itinerary_by<'a>(
     alloc: Global,
     basis: &Basis,
@@ -252,12 +318,12 @@ pub fn itinerary_by<'a>(
         command: asked.command,
         from: names.place(alloc, asked.from)?,
         to: names.place(alloc, asked.to)?,
-        departure: clock.time(alloc, asked.departs)?,
+        departure: teller.time(alloc, asked.departs)?,
         journeys: teller.journeys(alloc, asked.departs, answer)?,
     })
 }
 
-/// Stops with the names that the sheets have. It fails only where memory runs out.
+/// Stops with the names that the sheets have. It fails only if memory runs out.
 pub fn stop_list_of<'a>(
     alloc: Global,
     sheets: &NameSheets,
@@ -265,9 +331,6 @@ pub fn stop_list_of<'a>(
     ids: &[&str],
 ) -> Result<StopList<'a>, AllocError> {
     let names = Names::of(alloc, sheets, ids, &[])?;
-    let mut stops = Vec::with_capacity(alloc, ids.len())?;
-    for id in ids {
-        stops.push(names.place(alloc, id)?)?;
-    }
+    let stops = names.places(alloc, ids)?;
     Ok(StopList { command, stops })
 }

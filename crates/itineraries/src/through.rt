@@ -17,7 +17,7 @@ struct Ride<'a> {
     arrives: u32,
 }
 
-// The ride that is told, where it is one.
+// The ride that is told, if it is one.
 fn ride_of<'a>(basis: &Basis, stage: &'a Stage) -> Option<Ride<'a>> {
     match stage {
         Stage::Walk { .. } => None,
@@ -46,7 +46,7 @@ fn stop_at<'a>(basis: &'a Basis, call: &Call) -> &'a str {
     }
 }
 
-// The calls of the ride's trip, from the one at which it boards to the one at which it alights, where these are calls of it.
+// The calls of the ride's trip, from the one at which it boards to the one at which it alights, if these are calls of it.
 fn calls_of<'a>(basis: &Basis, ride: &Ride<'_>, calls: &'a [Call]) -> Option<&'a [Call]> {
     let boards = calls.iter().position(|call| call.departure == ride.departs
         && stop_at(basis, call) == ride.from)?;
@@ -66,25 +66,29 @@ fn is_of(basis: &Basis, instance: usize, trip: &str) -> bool
         == trip
 }
 
+// The calls of a ride's trip between the one where it boards and the one where it alights, on the day on which it is ridden.
+fn calls_between<'a>(basis: &'a Basis, ride: &Ride<'_>) -> &'a [Call] {
+    for (number, instance) in basis.timetable().instances().iter().enumerate() {
+        if is_of(basis, number, ride.trip)
+            && let Some(calls) = calls_of(basis, ride, instance.calls())
+        {
+            return calls;
+        }
+    }
+    &[]
+}
+
 /// The ids of the stops that a ride calls at between the one where it boards and the one where it alights; none of a walk. It fails only
-/// where memory runs out. The time grows with the timetable's trips on days.
-pub fn stops_between<'a>(
+/// if memory runs out. The time grows with the timetable's trips on days.
+pub(crate) fn stops_between<'a>(
     alloc: Global,
     basis: &'a Basis,
     stage: &Stage,
 ) -> Result<Vec<&'a str>, AllocError> {
     let mut stops = Vec::new(alloc);
-    let Some(ride) = ride_of(basis, stage) else {
-        return Ok(stops);
-    };
-    for (number, instance) in basis.timetable().instances().iter().enumerate() {
-        if is_of(basis, number, ride.trip)
-            && let Some(calls) = calls_of(basis, &ride, instance.calls())
-        {
-            for call in calls {
-                stops.push(stop_at(basis, call))?;
-            }
-            return Ok(stops);
+    if let Some(ride) = ride_of(basis, stage) {
+        for call in calls_between(basis, &ride) {
+            stops.push(stop_at(basis, call))?;
         }
     }
     Ok(stops)

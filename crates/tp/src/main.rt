@@ -1,6 +1,7 @@
 //! The journey planner's program.
 #![tactic(auto)]
 
+mod fault;
 mod progress;
 mod replies;
 mod teller;

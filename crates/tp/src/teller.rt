@@ -1,5 +1,6 @@
 //! Answers, reports and faults in formats beside lines, with the names that the feed's folder has.
 
+use crate::fault::fault_json;
 use crate::replies::{Lookup, MEMORY_REFUSED, reply_text};
 use answer_lines::{Answer, DayTime, Report};
 use command_line::{Format, Plan, Task};
@@ -8,16 +9,16 @@ use feed_basis::Basis;
 use feed_names::open_names;
 use gtfs_tables::{FaultKind, FeedFault, FeedFile};
 use gtfs_text::Sheet;
-use itineraries::{
-    Asked as AskedFor, Clock, NameSheets, Names, fault_json, geojson, itinerary_of, json,
-    people_text, stop_list_of, stops_geojson,
-};
+use itineraries::{Asked as AskedFor, itinerary_of, stop_list_of};
+use itinerary_texts::{geojson, itinerary_json, people_text, stops_geojson, stops_json};
 use program_inputs::Fault;
 use question_lines::Question;
 use serving::Reply;
 use std::alloc::{AllocError, Global};
 use std::format;
 use stop_search::{list_stops, near_stops};
+use told_names::{NameSheets, Names};
+use zone_clock::Clock;
 
 /// Tells answers with names from the files of a feed's folder, which are read for each answer, and once for all replies to lines.
 #[derive(Clone, Copy)]
@@ -122,7 +123,7 @@ impl Teller for FolderTeller<'_> {
         let itinerary = itinerary_of(alloc, basis, clock, &sheets, &asked, answer)?;
         match format {
             Format::Names => people_text(alloc, &itinerary),
-            Format::Json => line(json(alloc, &itinerary)?),
+            Format::Json => line(itinerary_json(alloc, &itinerary)?),
             Format::GeoJson => line(geojson(alloc, &itinerary)?),
         }
     }
@@ -141,7 +142,7 @@ impl Teller for FolderTeller<'_> {
         };
         match format {
             Format::GeoJson => line(stops_geojson(alloc, &list)?),
-            Format::Names | Format::Json => line(json(alloc, &list)?),
+            Format::Names | Format::Json => line(stops_json(alloc, &list)?),
         }
     }
 

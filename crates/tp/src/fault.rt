@@ -1,33 +1,9 @@
 //! Faults for machines.
 
-use crate::json;
+use itinerary_texts::{FaultText, fault_text_json};
 use program_inputs::Fault;
-use serde::Serialize;
 use std::alloc::{AllocError, Global};
 use std::format;
-
-// A fault, as it is told to machines.
-#[derive(Clone, Copy, Serialize)]
-struct FaultText<'a> {
-    // As `F3`; none where the fault has no code.
-    code: Option<&'a str>,
-    // As `BadField`.
-    name: &'a str,
-    // The feed's file that is at fault.
-    file: Option<&'a str>,
-    // Its row, from 1 behind the header; 0 for the header or the whole file.
-    row: Option<usize>,
-    // The id that the fault is about.
-    id: Option<&'a str>,
-    // The status that the program ends with.
-    status: u8,
-}
-
-// A fault under its name.
-#[derive(Clone, Copy, Serialize)]
-struct Told<'a> {
-    fault: FaultText<'a>,
-}
 
 // A text up to its first space.
 fn first_word(text: &str) -> &str {
@@ -37,17 +13,11 @@ fn first_word(text: &str) -> &str {
     }
 }
 
-// The code of a fault's text, which stands before its name where there is one.
-fn code_of(shown: &str) -> Option<&str> {
-    let (code, _) = shown.split_once(' ')?;
-    Some(code)
-}
-
-// The name in a fault's text.
-fn name_of(shown: &str) -> &str {
+// The code in a fault's text, if it has one, and the name, which comes next.
+fn words_of(shown: &str) -> (Option<&str>, &str) {
     match shown.split_once(' ') {
-        Some((_, rest)) => first_word(rest),
-        None => shown,
+        Some((code, rest)) => (Some(code), first_word(rest)),
+        None => (None, shown),
     }
 }
 
@@ -83,10 +53,10 @@ fn text_of<'a>(
     id: Option<&'a str>,
     status: u8,
 ) -> FaultText<'a> {
-    let code = code_of(shown);
+    let (code, name) = words_of(shown);
     FaultText {
         code,
-        name: name_of(shown),
+        name,
         file,
         row,
         id,
@@ -95,14 +65,17 @@ fn text_of<'a>(
 }
 
 /// A fault that is shown so, of no file and no id, with the status that it goes with, as an object of JSON, on one line, without a line's
-/// end. It fails only where memory runs out.
-pub fn named_fault_json(alloc: Global, shown: &str, status: u8) -> Result<String, AllocError> {
-    let text = text_of(shown, None, None, None, status);
-    json(alloc, &Told { fault: text })
+/// end. It fails only if memory runs out.
+pub(crate) fn named_fault_json(
+    alloc: Global,
+    shown: &str,
+    status: u8,
+) -> Result<String, AllocError> {
+    fault_text_json(alloc, &text_of(shown, None, None, None, status))
 }
 
-/// A fault as an object of JSON, on one line, without a line's end. It fails only where memory runs out.
-pub fn fault_json<'a>(alloc: Global, fault: &'a Fault<'a>) -> Result<String, AllocError> {
+/// A fault as an object of JSON, on one line, without a line's end. It fails only if memory runs out.
+pub(crate) fn fault_json<'a>(alloc: Global, fault: &'a Fault<'a>) -> Result<String, AllocError> {
     let shown = format!(in alloc; "{fault}")?;
     let file = file_of(alloc, fault)?;
     let name = file.as_ref().map(|name| name.as_str());
@@ -113,5 +86,5 @@ pub fn fault_json<'a>(alloc: Global, fault: &'a Fault<'a>) -> Result<String, All
         id_of(fault),
         fault.status(),
     );
-    json(alloc, &Told { fault: text })
+    fault_text_json(alloc, &text)
 }

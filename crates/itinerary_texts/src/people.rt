@@ -28,7 +28,7 @@ impl fmt::Display for PlaceText<'_> {
     }
 }
 
-// A trip by its route, its own name and where it goes: by its id where the feed has none of these.
+// A trip by its route, its own name and where it goes: by its id if the feed has none of these.
 #[derive(Clone, Copy)]
 struct TripText<'a>(&'a Trip);
 
@@ -61,22 +61,22 @@ impl fmt::Display for TripText<'_> {
 
 impl fmt::Display for Leg {
     fn fmt<W: fmt::Write>(&self, f: &mut fmt::Formatter<W>) -> fmt::Result {
-        let (departure, arrival) = (self.departure.clock.as_str(), self.arrival.clock.as_str());
+        let (departure, arrival) = (&self.from.time.clock, &self.to.time.clock);
         match (self.kind, &self.trip) {
             (Kind::Ride, Some(trip)) => {
                 writeln!(
                     f,
                     "  {departure} board {} at {}",
                     TripText(trip),
-                    PlaceText(&self.from)
+                    PlaceText(&self.from.place)
                 )?;
-                writeln!(f, "  {arrival} alight at {}", PlaceText(&self.to))
+                writeln!(f, "  {arrival} alight at {}", PlaceText(&self.to.place))
             }
             _ => writeln!(
                 f,
                 "  {departure} walk {} min to {}",
                 minutes(self.seconds.unwrap_or(0)),
-                PlaceText(&self.to)
+                PlaceText(&self.to.place)
             ),
         }
     }
@@ -123,7 +123,7 @@ impl fmt::Display for Itinerary<'_> {
 }
 
 /// The journeys for people, a block for each: when it departs and arrives, in how many minutes and by how many rides, and beneath that each
-/// ride and walk by its names. Times are those of the zone's clock, and minutes are rounded up. It fails only where memory runs out.
+/// ride and walk by its names. Times are those of the zone's clock, and minutes are rounded up. It fails only if memory runs out.
 pub fn people_text(alloc: Global, itinerary: &Itinerary<'_>) -> Result<String, AllocError> {
     format!(in alloc; "{itinerary}")
 }

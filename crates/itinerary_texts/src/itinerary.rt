@@ -1,10 +1,20 @@
 //! What is told of an answer.
 
-use crate::clock::Time;
-use serde::Serialize;
+/// A time of a service day, as the feed has it, and as ISO 8601 has it.
+#[derive(Drop)]
+pub struct Time {
+    /// The service day, as `20240102`.
+    pub date: String,
+    /// The time of the service day, as `25:10:00`.
+    pub time: String,
+    /// The same by the zone's clock, with its offset, as `2024-01-03T01:10:00+01:00`; none past the years that jiff knows.
+    pub iso: Option<String>,
+    /// What the zone's clock shows, as `2024-01-03 01:10`, for people alone.
+    pub clock: String,
+}
 
 /// A stop or a station, with what the feed tells people of it.
-#[derive(Drop, Serialize)]
+#[derive(Drop)]
 pub struct Place {
     pub id: String,
     pub name: Option<String>,
@@ -15,8 +25,15 @@ pub struct Place {
     pub longitude: Option<f64>,
 }
 
+/// A place and a time there.
+#[derive(Drop)]
+pub struct Stay {
+    pub place: Place,
+    pub time: Time,
+}
+
 /// A route, with what the feed tells people of it.
-#[derive(Drop, Serialize)]
+#[derive(Drop)]
 pub struct Route {
     pub id: String,
     pub short_name: Option<String>,
@@ -24,7 +41,7 @@ pub struct Route {
 }
 
 /// A trip, with what the feed tells people of it.
-#[derive(Drop, Serialize)]
+#[derive(Drop)]
 pub struct Trip {
     pub id: String,
     pub headsign: Option<String>,
@@ -33,46 +50,43 @@ pub struct Trip {
 }
 
 /// How one gets on.
-#[derive(Clone, Copy, Serialize)]
-#[serde(rename_all = "lowercase")]
+#[derive(Clone, Copy)]
 pub enum Kind {
     Ride,
     Walk,
 }
 
 /// A ride or a walk of a journey.
-#[derive(Drop, Serialize)]
+#[derive(Drop)]
 pub struct Leg {
     pub kind: Kind,
     /// The trip of a ride.
     pub trip: Option<Trip>,
-    pub from: Place,
-    /// When the ride departs, or the walk begins.
-    pub departure: Time,
-    pub to: Place,
-    pub arrival: Time,
+    /// Where and when the ride departs, or the walk begins.
+    pub from: Stay,
+    /// Where and when it arrives.
+    pub to: Stay,
     /// From the departure to the arrival.
     pub seconds: Option<u32>,
-    /// The stops that a ride calls at in between.
-    #[serde(skip)]
+    /// The stops that a ride calls at in between, for a map alone.
     pub through: Vec<Place>,
 }
 
 /// A best journey.
-#[derive(Drop, Serialize)]
+#[derive(Drop)]
 pub struct Journey {
     pub rides: u8,
-    /// When its first ride or walk begins; none where no legs are told.
+    /// When its first ride or walk begins; none if no legs are told.
     pub departure: Option<Time>,
     pub arrival: Time,
     /// From the departure to the arrival.
     pub seconds: Option<u32>,
-    /// Its rides and walks, where they are told.
+    /// Its rides and walks, if they are told.
     pub legs: Option<Vec<Leg>>,
 }
 
 /// A question with its answer: the best journeys, by rising rides.
-#[derive(Drop, Serialize)]
+#[derive(Drop)]
 pub struct Itinerary<'a> {
     pub command: &'a str,
     pub from: Place,
@@ -83,7 +97,7 @@ pub struct Itinerary<'a> {
 }
 
 /// The stops whose trees are stored.
-#[derive(Drop, Serialize)]
+#[derive(Drop)]
 pub struct StopList<'a> {
     pub command: &'a str,
     pub stops: Vec<Place>,

@@ -1,0 +1,18 @@
+//! Journeys with names as text for people, as JSON and as GeoJSON, and stops and faults beside them. What is told is given: no feed is
+//! read here.
+#![tactic(auto)]
+
+mod fault;
+mod geo;
+mod itinerary;
+mod json_writer;
+mod people;
+mod plain;
+mod stop_map;
+
+pub use fault::{FaultText, fault_text_json};
+pub use geo::geojson;
+pub use itinerary::{Itinerary, Journey, Kind, Leg, Place, Route, Stay, StopList, Time, Trip};
+pub use people::people_text;
+pub use plain::{itinerary_json, stops_json};
+pub use stop_map::stops_geojson;

@@ -1,0 +1,163 @@
+//! Answers and lists of stops as JSON.
+
+use crate::itinerary::{Itinerary, Journey, Kind, Leg, Place, Route, Stay, StopList, Time, Trip};
+use crate::json_writer::JsonWriter;
+use std::alloc::{AllocError, Global};
+
+/// Writes how one gets on.
+pub(crate) fn write_kind(out: &mut JsonWriter, kind: Kind) {
+    let kind = match kind {
+        Kind::Ride => "ride",
+        Kind::Walk => "walk",
+    };
+    out.member("kind", &kind);
+}
+
+// Writes a stop or a station.
+fn write_place(out: &mut JsonWriter, place: &Place) {
+    out.begin_object();
+    out.member("id", &place.id);
+    out.member("name", &place.name);
+    out.member("platform", &place.platform);
+    out.member("latitude", &place.latitude);
+    out.member("longitude", &place.longitude);
+    out.end_object();
+}
+
+// Writes a time.
+fn write_time(out: &mut JsonWriter, time: &Time) {
+    out.begin_object();
+    out.member("date", &time.date);
+    out.member("time", &time.time);
+    out.member("iso", &time.iso);
+    out.end_object();
+}
+
+// Writes a route, if there is one.
+fn write_route(out: &mut JsonWriter, route: &Option<Route>) {
+    let Some(route) = route else {
+        out.null();
+        return;
+    };
+    out.begin_object();
+    out.member("id", &route.id);
+    out.member("short_name", &route.short_name);
+    out.member("long_name", &route.long_name);
+    out.end_object();
+}
+
+// Writes a trip, if there is one.
+fn write_trip(out: &mut JsonWriter, trip: &Option<Trip>) {
+    let Some(trip) = trip else {
+        out.null();
+        return;
+    };
+    out.begin_object();
+    out.member("id", &trip.id);
+    out.member("headsign", &trip.headsign);
+    out.member("short_name", &trip.short_name);
+    out.name("route");
+    write_route(out, &trip.route);
+    out.end_object();
+}
+
+// Writes a place and the time there, under these names.
+fn write_stay(out: &mut JsonWriter, place: &str, time: &str, stay: &Stay) {
+    out.name(place);
+    write_place(out, &stay.place);
+    out.name(time);
+    write_time(out, &stay.time);
+}
+
+// Writes a ride or a walk.
+fn write_leg(out: &mut JsonWriter, leg: &Leg) {
+    out.begin_object();
+    write_kind(out, leg.kind);
+    out.name("trip");
+    write_trip(out, &leg.trip);
+    write_stay(out, "from", "departure", &leg.from);
+    write_stay(out, "to", "arrival", &leg.to);
+    out.member("seconds", &leg.seconds);
+    out.end_object();
+}
+
+// Writes the rides and walks of a journey, if they are told.
+fn write_legs(out: &mut JsonWriter, legs: &Option<Vec<Leg>>) {
+    let Some(legs) = legs else {
+        out.null();
+        return;
+    };
+    out.begin_list();
+    for leg in legs {
+        write_leg(out, leg);
+    }
+    out.end_list();
+}
+
+// Writes when a journey begins, if that is told.
+fn write_begin(out: &mut JsonWriter, departure: &Option<Time>) {
+    match departure {
+        Some(departure) => write_time(out, departure),
+        None => out.null(),
+    }
+}
+
+// Writes a journey.
+fn write_journey(out: &mut JsonWriter, journey: &Journey) {
+    out.begin_object();
+    out.member("rides", &journey.rides);
+    out.name("departure");
+    write_begin(out, &journey.departure);
+    out.name("arrival");
+    write_time(out, &journey.arrival);
+    out.member("seconds", &journey.seconds);
+    out.name("legs");
+    write_legs(out, &journey.legs);
+    out.end_object();
+}
+
+// Writes an answer.
+fn write_itinerary(out: &mut JsonWriter, itinerary: &Itinerary<'_>) {
+    out.begin_object();
+    out.member("command", &itinerary.command);
+    out.name("from");
+    write_place(out, &itinerary.from);
+    out.name("to");
+    write_place(out, &itinerary.to);
+    out.name("departure");
+    write_time(out, &itinerary.departure);
+    out.name("journeys");
+    out.begin_list();
+    for journey in &itinerary.journeys {
+        write_journey(out, journey);
+    }
+    out.end_list();
+    out.end_object();
+}
+
+// Writes a list of stops.
+fn write_stops(out: &mut JsonWriter, list: &StopList<'_>) {
+    out.begin_object();
+    out.member("command", &list.command);
+    out.name("stops");
+    out.begin_list();
+    for place in &list.stops {
+        write_place(out, place);
+    }
+    out.end_list();
+    out.end_object();
+}
+
+/// An answer as an object of JSON, on one line, without a line's end. It fails only if memory runs out.
+pub fn itinerary_json(alloc: Global, itinerary: &Itinerary<'_>) -> Result<String, AllocError> {
+    let mut out = JsonWriter::new(alloc);
+    write_itinerary(&mut out, itinerary);
+    out.into_text()
+}
+
+/// A list of stops as an object of JSON, on one line, without a line's end. It fails only if memory runs out.
+pub fn stops_json(alloc: Global, list: &StopList<'_>) -> Result<String, AllocError> {
+    let mut out = JsonWriter::new(alloc);
+    write_stops(&mut out, list);
+    out.into_text()
+}
