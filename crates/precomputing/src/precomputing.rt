@@ -78,8 +78,8 @@ fn left(set: StopSet, stored: &[StopId], before: usize, stops: usize, room: Vec<
 /// All threads have ended when this returns. The gate is told of each build, by the thread that makes it; `progress` of how many are stored
 /// as it begins, and after each put, by the calling thread. Once the flag is set no source is claimed any more, and what is in hand ends.
 ///
-/// Where each stop has its tree, nothing is started, and no memory is taken. A source whose tree is too large, or for which memory is refused, stays missing. A thread that can't be made is left out. After
-/// `DeviceFailed` the store has to be opened again.
+/// If each stop has its tree, nothing is started, and no memory is taken. A source whose tree is too large, or for which memory is refused,
+/// stays missing. A thread that can't be made is left out. After `DeviceFailed` the store has to be opened again.
 ///
 /// Of an honest disk: at each moment since, each outcome of a crash stands for a front of the new list that holds the old one; where the
 /// device failed, one source more may be there. What each outcome held each one holds, and a trusted disk stays trusted.
@@ -103,7 +103,7 @@ pub fn precompute_telling<D: Disk + Drop, R: Threads + Wait + Sync, G: Gate + Sy
     let stops = planner.network().timetable().stops();
     let before = desk.stored().len();
     progress.stored(before, stops);
-    if has_each(desk.stored(), stops) {
+    if has_each(&desk, stops) {
         return (desk, Outcome::Done);
     }
     let Ok(prepared) = prepare(alloc, planner, &desk) else {

@@ -3,7 +3,7 @@
 ghost use Rattle.std.specs.Prelude.{◌≡◌, ◌<◌, ◌≤◌, ◌+◌, ◌^◌, ◌==◌, ℕ, length, vec_len, vec_capacity};
 ghost use Rattle.disk_model.specs.MemDisk.{state_of, failures_of, is_told};
 ghost use Rattle.timetable.specs.Table.{stops_of};
-ghost use Rattle.section_store.specs.Sources.{IsSetOf};
+ghost use Rattle.section_store.specs.Sources.{IsSetOf, is_among};
 ghost use Rattle.section_store.specs.Step.{IsBegun};
 
 use crate::form::Form;
@@ -93,6 +93,13 @@ impl<D: Disk> SectionStore<D> {
         ensures { result.now ≡ self.now.stored.items }
     {
         &self.stored
+    }
+
+    /// Whether the tree of a stop of the timetable is stored, by one look.
+    pub fn has(&self, stop: StopId) -> bool
+        ensures { stop < stops_of self.now.form.table → result ≡ is_among stop self.now.stored.items }
+    {
+        self.present.contains(stop)
     }
 
     /// The disk.
