@@ -3,6 +3,7 @@
 #![tactic(auto)]
 
 mod bench;
+mod crew;
 mod flushing;
 mod gate;
 mod held;
@@ -16,7 +17,9 @@ mod stop;
 mod taking;
 mod threads;
 mod worker;
+mod workshop;
 
+pub use crew::Crew;
 pub use gate::{Free, Gate};
 pub use meanwhile::{Meanwhile, precompute_while};
 pub use outcome::Outcome;

@@ -7,6 +7,7 @@ ghost use Rattle.section_store.specs.Sources.{IsSetOf};
 ghost use Rattle.precomputing.specs.Missing.{missing_of};
 ghost use Rattle.precomputing.specs.Outcome.{IsDoneAtOnce, IsLeft, IsPrecomputed};
 
+use crate::crew::Crew;
 use crate::gate::Gate;
 use crate::missing::{has_each, mark, missing_stops};
 use crate::outcome::Outcome;
@@ -74,9 +75,10 @@ fn left(set: StopSet, stored: &[StopId], before: usize, stops: usize, room: Vec<
     Outcome::Partial(missing)
 }
 
-/// Builds the trees that the desk's store lacks, in so many threads, while the calling thread stores them and shows each once it is stored.
-/// All threads have ended when this returns. The gate is told of each build, by the thread that makes it; `progress` of how many are stored
-/// as it begins, and after each put, by the calling thread. Once the flag is set no source is claimed any more, and what is in hand ends.
+/// Builds the trees that the desk's store lacks, in the crew's threads, while the calling thread stores them and shows each once it is
+/// stored. All threads have ended when this returns. The gate is told of each build, by the thread that makes it. `progress` is told how
+/// many are stored as it begins, and after each put, by the calling thread. Once the flag is set no source is claimed any more, and what
+/// is in hand ends.
 ///
 /// If each stop has its tree, nothing is started, and no memory is taken. A source whose tree is too large, or for which memory is refused,
 /// stays missing. A thread that can't be made is left out. After `DeviceFailed` the store has to be opened again.
@@ -88,13 +90,10 @@ pub fn precompute_telling<D: Disk + Drop, R: Threads + Wait + Sync, G: Gate + Sy
     rt: &R,
     desk: Desk<D>,
     planner: &Planner,
-    workers: usize,
-    gate: &G,
-    stop: &Stop,
+    crew: &Crew<'_, G>,
     progress: &mut P,
 ) -> (Desk<D>, Outcome)
     requires own { desk.form ≡ planner.now.form }
-    requires workers { (0 < workers) × (workers ≤ 64) }
     requires ready { desk.next ≡ Step.WriteBody }
     ensures precomputed { IsPrecomputed D.honest D.state D.failures desk result.0 result.1 }
     ensures at_once { IsDoneAtOnce desk result.0 result.1 }
@@ -111,7 +110,7 @@ pub fn precompute_telling<D: Disk + Drop, R: Threads + Wait + Sync, G: Gate + Sy
     };
     let Prepared { ledger, set, room } = prepared;
     let (desk, end) = run_over::<Brand, D, R, G, P>(
-        rt, alloc, planner, ledger, workers, gate, stop, progress, desk,
+        rt, alloc, planner, ledger, crew, progress, desk,
     );
     match end {
         None => (desk, Outcome::NoMemory),
@@ -123,7 +122,7 @@ pub fn precompute_telling<D: Disk + Drop, R: Threads + Wait + Sync, G: Gate + Sy
     }
 }
 
-/// The same, where nobody is told how many are stored.
+/// The same by so many workers, where nobody is told how many are stored.
 pub fn precompute_until<D: Disk + Drop, R: Threads + Wait + Sync, G: Gate + Sync>(
     alloc: Global,
     rt: &R,
@@ -139,7 +138,12 @@ pub fn precompute_until<D: Disk + Drop, R: Threads + Wait + Sync, G: Gate + Sync
     ensures precomputed { IsPrecomputed D.honest D.state D.failures desk result.0 result.1 }
     ensures at_once { IsDoneAtOnce desk result.0 result.1 }
 {
-    precompute_telling(alloc, rt, desk, planner, workers, gate, stop, &mut Silent)
+    let crew = Crew {
+        workers,
+        gate,
+        stop,
+    };
+    precompute_telling(alloc, rt, desk, planner, &crew, &mut Silent)
 }
 
 /// The same, without a flag either.

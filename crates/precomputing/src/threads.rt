@@ -7,13 +7,14 @@ ghost use Rattle.timetable.specs.Table.{stops_of};
 ghost use Rattle.section_store.specs.Sections.{form_of};
 ghost use Rattle.precomputing.specs.Flushed.{Flushed};
 
+use crate::crew::Crew;
 use crate::flushing::flush_desk;
 use crate::gate::Gate;
 use crate::held::Held;
 use crate::progress::Progress;
-use crate::stop::Stop;
 use crate::taking::Taker;
 use crate::worker::work;
+use crate::workshop::Workshop;
 use disk_model::Disk;
 use flusher::FlushEnd;
 use section_store::Step;
@@ -26,13 +27,13 @@ use std::thread::Threads;
 use work_ledger::Ledger;
 
 // Leaves a seat at which nobody sits, since its thread couldn't be made.
-fn leave_one<B: Basis, R: Wait>(rt: &R, shared: &Shared<B>, seats: &Mutex<Vec<Seat>>) {
-    if let Some(seat) = seats.lock(rt).pop() {
-        shared.leave(rt, seat);
+fn leave_one<B: Basis, R: Wait, G: Gate>(workshop: &Workshop<'_, B, R, G>) {
+    if let Some(seat) = workshop.seats.lock(workshop.rt).pop() {
+        workshop.shared.leave(workshop.rt, seat);
     }
 }
 
-// Starts a worker at each of the seats, and stores what they hand in. They have all ended when this returns. None where no thread
+// Starts so many workers, and stores what they hand in, as the seat says. They have all ended when this returns. None where no thread
 // could be made, so that nothing was done.
 fn run<
     B: Basis + Send + Sync,
@@ -41,68 +42,54 @@ fn run<
     G: Gate + Sync,
     P: Progress,
 >(
-    rt: &R,
-    alloc: Global,
-    planner: &Planner,
-    shared: &Shared<B>,
+    workshop: &Workshop<'_, B, R, G>,
     workers: usize,
-    seats: &Mutex<Vec<Seat>>,
     seat: &Seat,
     taker: Taker<'_, B, R>,
-    gate: &G,
-    stop: &Stop,
     progress: &mut P,
     desk: Desk<D>,
 ) -> (Desk<D>, Option<FlushEnd>)
     requires ready { desk.next ≡ Step.WriteBody }
     requires fresh { (taker.taken.items ≡ []) × (taker.acked.items ≡ []) }
     requires form { form_of B.table B.rides ≡ desk.form }
-    requires own { planner.now.form ≡ form_of B.table B.rides }
     ensures { MatchOption result.1
         (result.0 ≡ desk)
         (λ end. Flushed D.honest D.state D.failures end desk result.0) }
 {
-    let network = planner.network();
-    let rides = &planner.k();
-    let heap = &alloc;
+    let rt = workshop.rt;
     let held = Held::new(rt, desk);
     thread::scope(
         thread::scope_env(),
         rt,
         move |scope| -> (Desk<D>, Option<FlushEnd>)
             requires { IsSync R.row × IsSync G.row × IsSend B.row × (held.desk.next ≡ Step.WriteBody) × (taker.taken.items ≡ [])
-                × (taker.acked.items ≡ []) × (form_of B.table B.rides ≡ held.desk.form)
-                × (form_of network.now rides.now ≡ form_of B.table B.rides) }
+                × (taker.acked.items ≡ []) × (form_of B.table B.rides ≡ held.desk.form) }
             ensures { MatchOption result.1
                 (result.0 ≡ held.entry.desk)
                 (λ end. Flushed D.honest D.state D.failures end held.entry.desk result.0) }
         {
             let mut started = false;
             for _ in 0..workers {
-                let thread = scope.spawn(
-                    move || -> ()
-                        requires { form_of network.now rides.now ≡ form_of B.table B.rides }
-                    { work(rt, heap, network, rides, shared, seats, gate, stop) },
-                );
+                let thread = scope.spawn(move || work(workshop));
                 if thread.is_ok() {
                     started = true;
                 } else {
-                    leave_one(rt, shared, seats);
+                    leave_one(workshop);
                 }
             }
             let desk = held.into_desk();
             if !started {
                 return (desk, None);
             }
-            let (desk, end) = flush_desk(rt, alloc, taker, desk, progress);
-            shared.close(rt, seat);
+            let (desk, end) = flush_desk(workshop.rt, workshop.alloc, taker, desk, progress);
+            workshop.shared.close(workshop.rt, seat);
             (desk, Some(end))
         },
     )
 }
 
-/// Builds trees in so many threads, as the ledger gives out their sources, and stores them. None where memory is refused or no thread could
-/// be made, and then nothing was done.
+/// Builds trees in the crew's threads, as the ledger gives out their sources, and stores them. None where memory is refused or no thread
+/// could be made, and then nothing was done.
 pub(crate) fn run_over<
     B: Basis + Send + Sync,
     D: Disk + Drop,
@@ -114,13 +101,10 @@ pub(crate) fn run_over<
     alloc: Global,
     planner: &Planner,
     ledger: Ledger,
-    workers: usize,
-    gate: &G,
-    stop: &Stop,
+    crew: &Crew<'_, G>,
     progress: &mut P,
     desk: Desk<D>,
 ) -> (Desk<D>, Option<FlushEnd>)
-    requires workers { (0 < workers) × (workers ≤ 64) }
     requires table { ledger.table ≡ B.table }
     requires rides { ledger.rides ≡ B.rides }
     requires form { form_of B.table B.rides ≡ desk.form }
@@ -131,7 +115,7 @@ pub(crate) fn run_over<
         (λ end. Flushed D.honest D.state D.failures end desk result.0) }
 {
     let stops = ledger.timetable().stops();
-    let Ok((shared, mut seats)) = Shared::<B>::open(alloc, ledger, workers + 1) else {
+    let Ok((shared, mut seats)) = Shared::<B>::open(alloc, ledger, crew.workers + 1) else {
         return (desk, None);
     };
     let Some(seat) = seats.pop() else {
@@ -141,7 +125,15 @@ pub(crate) fn run_over<
         return (desk, None);
     };
     let seats = Mutex::new(seats);
-    run(
-        rt, alloc, planner, &shared, workers, &seats, &seat, taker, gate, stop, progress, desk,
-    )
+    let workshop = Workshop {
+        rt,
+        alloc,
+        network: planner.network(),
+        rides: planner.k(),
+        shared: &shared,
+        seats: &seats,
+        gate: crew.gate,
+        stop: crew.stop,
+    };
+    run(&workshop, crew.workers, &seat, taker, progress, desk)
 }

@@ -12,7 +12,7 @@ use answer_lines::Report;
 use command_line::Workers;
 use disk_model::Disk;
 use feed_basis::Basis;
-use precomputing::{Free, Outcome, Progress, Stop, precompute_telling};
+use precomputing::{Crew, Free, Outcome, Progress, Stop, precompute_telling};
 use program_inputs::Fault;
 use section_store::going_laws::goes_on;
 use section_store::laws::loses_nothing_in_turn;
@@ -93,17 +93,13 @@ pub fn build<'a, D: Disk + Drop, T: Threads + Wait + Sync, P: Progress>(
         Ok(opened) => opened,
         Err((fault, disk)) => return (Err(Fault::from(fault)), disk),
     };
-    let workers = usize::from(workers.number);
-    let (desk, outcome) = precompute_telling(
-        alloc,
-        rt,
-        desk,
-        &planner,
-        workers,
-        &Free,
-        &Stop::new(),
-        progress,
-    );
+    let stop = Stop::new();
+    let crew = Crew {
+        workers: usize::from(workers.number),
+        gate: &Free,
+        stop: &stop,
+    };
+    let (desk, outcome) = precompute_telling(alloc, rt, desk, &planner, &crew, progress);
     progress.ended();
     let report = told(alloc, basis, desk.stored(), &outcome);
     (report, desk.into_disk(rt))
