@@ -1,15 +1,10 @@
 //! The journey planner's program.
 #![tactic(auto)]
 
-mod fault;
-mod progress;
-mod replies;
-mod teller;
-
-use crate::progress::Meter;
-use crate::teller::FolderTeller;
+use build_meter::Meter;
 use commands::run_words;
 use disk_model::{FileDisk, FileFault};
+use folder_teller::FolderTeller;
 use program_inputs::{given_words, list_folder, open_feed, out_of_memory, texts, unread};
 use recovery::is_begun;
 use std::fs::File;

@@ -2,6 +2,7 @@
 
 use crate::fault::fault_json;
 use crate::replies::{Lookup, MEMORY_REFUSED, reply_text};
+use crate::texts::{itinerary_text, line, stops_text};
 use answer_lines::{Answer, DayTime, Report};
 use command_line::{Format, Plan, Task};
 use commands::{Asked, Teller};
@@ -10,8 +11,8 @@ use feed_names::open_names;
 use gtfs_tables::{FaultKind, FeedFault, FeedFile};
 use gtfs_text::Sheet;
 use itineraries::{Asked as AskedFor, itinerary_of, stop_list_of};
-use itinerary_texts::{geojson, itinerary_json, people_text, stops_geojson, stops_json};
-use program_inputs::Fault;
+use itinerary_texts::{Itinerary, StopList};
+use program_inputs::{Fault, Settings};
 use question_lines::Question;
 use serving::Reply;
 use std::alloc::{AllocError, Global};
@@ -27,6 +28,7 @@ pub struct FolderTeller<'r> {
 }
 
 impl<'r> FolderTeller<'r> {
+    /// Reads the files by this runtime.
     pub fn new(rt: &'r HostRuntime) -> FolderTeller<'r> {
         FolderTeller { rt }
     }
@@ -40,7 +42,33 @@ impl<'r> FolderTeller<'r> {
         })
     }
 
-    // The stops and stations of a sheet, as lines: a fault where there is no sheet.
+    // What is told of an answer.
+    fn itinerary<'a>(
+        &self,
+        alloc: Global,
+        settings: &Settings<'_>,
+        asked: &AskedFor<'a>,
+        basis: &Basis,
+        answer: &Answer,
+    ) -> Result<Itinerary<'a>, AllocError> {
+        let sheets = self.sheets(alloc, settings.feed)?;
+        let clock = Clock::of(settings.zone);
+        itinerary_of(alloc, basis, clock, &sheets, asked, answer)
+    }
+
+    // The stops of these ids, with the names that the folder has.
+    fn stop_list<'a>(
+        &self,
+        alloc: Global,
+        folder: &str,
+        command: &'a str,
+        ids: &[&str],
+    ) -> Result<StopList<'a>, AllocError> {
+        let sheets = self.sheets(alloc, folder)?;
+        stop_list_of(alloc, &sheets, command, ids)
+    }
+
+    // The stops and stations of a sheet, as lines: none if there is no sheet.
     fn listed(
         &self,
         alloc: Global,
@@ -79,11 +107,19 @@ fn command_of(task: &Task<'_>) -> &'static str {
     }
 }
 
-/// A text with a line's end behind it.
-pub fn line(text: String) -> Result<String, AllocError> {
-    let mut text = text;
-    text.push('\n')?;
-    Ok(text)
+// What was asked, for an answer in a format.
+fn asked_for<'a>(format: Format, asked: &Asked<'a>) -> AskedFor<'a> {
+    let question = asked.task.question();
+    AskedFor {
+        command: command_of(&asked.task),
+        from: question.from,
+        to: question.to,
+        departs: DayTime {
+            date: asked.leaving.day,
+            seconds: asked.leaving.seconds,
+        },
+        through: format == Format::GeoJson,
+    }
 }
 
 // Nothing is claimed of the texts: tests say what they are.
@@ -106,26 +142,10 @@ impl Teller for FolderTeller<'_> {
         basis: &Basis,
         answer: &Answer,
     ) -> Result<String, AllocError> {
-        let settings = asked.plan.settings;
-        let question = asked.task.question();
-        let asked = AskedFor {
-            command: command_of(&asked.task),
-            from: question.from,
-            to: question.to,
-            departs: DayTime {
-                date: asked.leaving.day,
-                seconds: asked.leaving.seconds,
-            },
-            through: format == Format::GeoJson,
-        };
-        let sheets = self.sheets(alloc, settings.feed)?;
-        let clock = Clock::of(settings.zone);
-        let itinerary = itinerary_of(alloc, basis, clock, &sheets, &asked, answer)?;
-        match format {
-            Format::Names => people_text(alloc, &itinerary),
-            Format::Json => line(itinerary_json(alloc, &itinerary)?),
-            Format::GeoJson => line(geojson(alloc, &itinerary)?),
-        }
+        let settings = &asked.plan.settings;
+        let asked = asked_for(format, asked);
+        let itinerary = self.itinerary(alloc, settings, &asked, basis, answer)?;
+        itinerary_text(alloc, format, &itinerary)
     }
 
     fn report(
@@ -135,15 +155,12 @@ impl Teller for FolderTeller<'_> {
         folder: &str,
         report: &Report<'_>,
     ) -> Result<String, AllocError> {
-        let sheets = self.sheets(alloc, folder)?;
-        let list = match report {
-            Report::Stored(ids) => stop_list_of(alloc, &sheets, "list", ids)?,
-            Report::Built { missing, .. } => stop_list_of(alloc, &sheets, "build", missing)?,
+        let (command, ids) = match report {
+            Report::Stored(ids) => ("list", ids),
+            Report::Built { missing, .. } => ("build", missing),
         };
-        match format {
-            Format::GeoJson => line(stops_geojson(alloc, &list)?),
-            Format::Names | Format::Json => line(stops_json(alloc, &list)?),
-        }
+        let list = self.stop_list(alloc, folder, command, ids)?;
+        stops_text(alloc, format, &list)
     }
 
     fn stops(

@@ -1,0 +1,10 @@
+//! Answers, reports, replies and faults in formats beside lines, with the names that a feed's folder has.
+#![tactic(auto)]
+
+mod fault;
+mod replies;
+mod teller;
+mod texts;
+
+pub use replies::Lookup;
+pub use teller::FolderTeller;

@@ -1,0 +1,39 @@
+//! Texts in formats, each with a line's end. Each call fails only if memory runs out.
+
+use command_line::Format;
+use itinerary_texts::{
+    Itinerary, StopList, geojson, itinerary_json, people_text, stops_geojson, stops_json,
+};
+use std::alloc::{AllocError, Global};
+
+/// A text with a line's end behind it.
+pub(crate) fn line(text: String) -> Result<String, AllocError> {
+    let mut text = text;
+    text.push('\n')?;
+    Ok(text)
+}
+
+/// An answer in a format.
+pub(crate) fn itinerary_text(
+    alloc: Global,
+    format: Format,
+    itinerary: &Itinerary<'_>,
+) -> Result<String, AllocError> {
+    match format {
+        Format::Names => people_text(alloc, itinerary),
+        Format::Json => line(itinerary_json(alloc, itinerary)?),
+        Format::GeoJson => line(geojson(alloc, itinerary)?),
+    }
+}
+
+/// A list of stops in a format: for people as JSON too.
+pub(crate) fn stops_text(
+    alloc: Global,
+    format: Format,
+    list: &StopList<'_>,
+) -> Result<String, AllocError> {
+    match format {
+        Format::GeoJson => line(stops_geojson(alloc, list)?),
+        Format::Names | Format::Json => line(stops_json(alloc, list)?),
+    }
+}
