@@ -1,0 +1,1 @@
+"""The gateway: `tp serve` behind HTTP."""

@@ -1,0 +1,92 @@
+"""Answers of `tp` in the words of MOTIS 2's interface."""
+from typing import Any
+
+from .shapes import PRECISION, polyline
+from .stops import Stop
+
+Json = dict[str, Any]
+
+
+def without_none(fields: Json) -> Json:
+    """The fields that have a value."""
+    return {name: value for name, value in fields.items() if value is not None}
+
+
+def place_of(place: Json, arrival: str | None = None, departure: str | None = None) -> Json:
+    """A Place. The id stands for a name that the feed lacks, and a position is left out if the feed lacks it."""
+    return without_none({
+        "name": place["name"] or place["id"], "stopId": place["id"], "lat": place["latitude"], "lon": place["longitude"], "level": 0,
+        "vertexType": "TRANSIT", "track": place["platform"], "scheduledTrack": place["platform"],
+        "arrival": arrival, "scheduledArrival": arrival, "departure": departure, "scheduledDeparture": departure,
+    })
+
+
+def shown_name(trip: Json) -> str | None:
+    """What a traveller reads on the vehicle: the route's short or long name or id, and the trip's short name behind it."""
+    route = trip["route"] or {}
+    names = [route.get("short_name") or route.get("long_name") or route.get("id"), trip["short_name"]]
+    return " ".join(name for name in names if name) or None
+
+
+def trip_fields(trip: Json) -> Json:
+    """The fields of a leg that only a ride has."""
+    route = trip["route"] or {}
+    return without_none({
+        "tripId": trip["id"], "headsign": trip["headsign"], "tripShortName": trip["short_name"], "displayName": shown_name(trip),
+        "routeId": route.get("id"), "routeShortName": route.get("short_name"), "routeLongName": route.get("long_name"),
+    })
+
+
+def geometry_of(*places: Json) -> Json:
+    """The line through the places that have a position."""
+    points = [(place["latitude"], place["longitude"]) for place in places if place["latitude"] is not None and place["longitude"] is not None]
+    return {"points": polyline(points), "precision": PRECISION, "length": len(points)}
+
+
+def leg_of(leg: Json) -> Json:
+    """A Leg: a ride or a walk."""
+    starts, ends = leg["departure"]["iso"], leg["arrival"]["iso"]
+    return {
+        "mode": "TRANSIT" if leg["trip"] else "WALK",
+        "from": place_of(leg["from"], departure=starts), "to": place_of(leg["to"], arrival=ends),
+        "duration": leg["seconds"], "startTime": starts, "endTime": ends, "scheduledStartTime": starts, "scheduledEndTime": ends,
+        "realTime": False, "scheduled": True, **(trip_fields(leg["trip"]) if leg["trip"] else {}),
+        "legGeometry": geometry_of(leg["from"], leg["to"]),
+    }
+
+
+def itinerary_of(journey: Json) -> Json:
+    """An Itinerary: a best journey."""
+    return {
+        "duration": journey["seconds"], "startTime": journey["departure"]["iso"], "endTime": journey["arrival"]["iso"],
+        "transfers": max(journey["rides"] - 1, 0), "legs": [leg_of(leg) for leg in journey["legs"]],
+    }
+
+
+def plan_of(answer: Json, asked: Json) -> Json:
+    """The response of plan. Journeys on foot alone are `direct`, all others `itineraries`."""
+    journeys = answer["journeys"]
+    return {
+        "requestParameters": asked, "debugOutput": {},
+        "from": place_of(answer["from"]), "to": place_of(answer["to"]),
+        "direct": [itinerary_of(journey) for journey in journeys if not journey["rides"]],
+        "itineraries": [itinerary_of(journey) for journey in journeys if journey["rides"]],
+        "previousPageCursor": "", "nextPageCursor": "",
+    }
+
+
+def match_of(stop: Stop, place: int) -> Json:
+    """A Match of geocode. What is found first has the highest score."""
+    return without_none({
+        "type": "STOP", "id": stop.id, "name": stop.name or stop.id, "lat": degrees(stop.latitude, 90), "lon": degrees(stop.longitude, 180),
+        "level": 0, "parentId": stop.station or None, "tokens": [], "areas": [], "score": 1 - place / 100,
+    })
+
+
+def degrees(text: str, most: int) -> float | None:
+    """A position's number, if the feed has one within its range."""
+    try:
+        number = float(text)
+    except ValueError:
+        return None
+    return number if -most <= number <= most else None

@@ -1,0 +1,172 @@
+"""The pipe to `tp serve`: questions go in line by line, and replies come out in the same order.
+
+One process at a time has a store open, so there is one pipe, and all requests share it. A process that ends is started again, and the
+questions that it left without a reply are asked again, once.
+"""
+import asyncio
+import collections
+import contextlib
+import logging
+import time
+from dataclasses import dataclass
+
+from .refusals import busy
+from .settings import BYTES_OF_A_REPLY
+
+FAULTS_BEFORE_A_REPLY = (1, 2, 4)
+NO_SUCH_PROGRAM = 127
+TRIES = 2
+FIRST_PAUSE, LAST_PAUSE = 0.1, 5.0
+LONG_LIFE = 10.0
+LINES_OF_ERRORS = 5
+
+log = logging.getLogger("gateway")
+
+
+@dataclass
+class Asked:
+    """A question in the pipe, when it was last sent, and how often."""
+
+    line: bytes
+    reply: asyncio.Future[bytes]
+    tries: int = 0
+    sent: float = 0.0
+
+
+class Pipe:
+    """A process that replies to lines, and the questions that wait for its replies."""
+
+    def __init__(self, words: list[str], room: int, patience: float) -> None:
+        self._words, self._room, self._patience = words, room, patience
+        self._asked: collections.deque[Asked] = collections.deque()
+        self._process: asyncio.subprocess.Process | None = None
+        self._errors: collections.deque[str] = collections.deque(maxlen=LINES_OF_ERRORS)
+        self._is_closing = False
+        self._has_ever_replied = False
+        self.is_ready = False
+        self.starts = 0
+
+    async def ask(self, line: bytes) -> bytes:
+        """The reply to a question, a line without its end; refused if it does not come in time."""
+        if len(self._asked) >= self._room:
+            raise busy("too many questions are waiting")
+        asked = Asked(line, asyncio.get_running_loop().create_future())
+        self._asked.append(asked)
+        self._send(asked)
+        try:
+            return await asyncio.wait_for(asked.reply, self._patience)
+        except TimeoutError as error:
+            self._end_if_stuck()
+            raise busy("tp has not replied in time" if self.is_ready else "tp is starting") from error
+
+    async def run(self) -> tuple[int, str] | None:
+        """Keeps a process alive until the pipe is closed. Gives a status and why, if a fault of the feed, of the store or of the options
+        ends the first process before its first reply."""
+        pause = FIRST_PAUSE
+        while not self._is_closing:
+            since = time.monotonic()
+            status = await self._live()
+            if self._is_closing:
+                break
+            if not self._has_ever_replied and status in (*FAULTS_BEFORE_A_REPLY, NO_SUCH_PROGRAM):
+                return status, "\n".join(self._errors)
+            pause = FIRST_PAUSE if time.monotonic() - since > LONG_LIFE else min(2 * pause, LAST_PAUSE)
+            log.warning("tp ended with status %s and is started again in %.1f s: %s", status, pause, " / ".join(self._errors))
+            await asyncio.sleep(pause)
+        return None
+
+    async def close(self, seconds: float) -> None:
+        """Ends the input, so that the process stores what is in hand and ends; after so many seconds it is killed."""
+        self._is_closing = True
+        if self._process is None:
+            return
+        self._process.stdin.close()
+        try:
+            await asyncio.wait_for(self._process.wait(), seconds)
+        except TimeoutError:
+            self._kill()
+
+    async def _live(self) -> int:
+        """Starts a process, takes its replies to their end, and gives its status."""
+        pipes = {"stdin": asyncio.subprocess.PIPE, "stdout": asyncio.subprocess.PIPE, "stderr": asyncio.subprocess.PIPE}
+        try:
+            process = await asyncio.create_subprocess_exec(*self._words, **pipes, limit=BYTES_OF_A_REPLY, start_new_session=True)
+        except OSError as error:
+            self._errors.append(str(error))
+            return NO_SUCH_PROGRAM
+        self._process = process
+        self.starts += 1
+        errors = asyncio.create_task(self._take_errors(process.stderr))
+        self._send_again()
+        try:
+            await self._take_replies(process.stdout)
+        finally:
+            self.is_ready = False
+            self._process = None if not self._is_closing else process
+            if not self._is_closing and process.returncode is None:
+                await self._leave(process)
+            await errors
+        return await process.wait()
+
+    @staticmethod
+    async def _leave(process: asyncio.subprocess.Process) -> None:
+        """Waits for the end of a process whose output has ended, and kills it if it does not come."""
+        try:
+            await asyncio.wait_for(process.wait(), 1.0)
+        except TimeoutError:
+            with contextlib.suppress(ProcessLookupError):
+                process.kill()
+
+    def _send(self, asked: Asked) -> None:
+        if self._process is not None and not self._process.stdin.is_closing():
+            asked.tries, asked.sent = asked.tries + 1, time.monotonic()
+            self._process.stdin.write(asked.line)
+
+    def _send_again(self) -> None:
+        """Sends the questions that wait. One that was sent to several processes, each of which ended, is refused."""
+        waiting, self._asked = self._asked, collections.deque()
+        for asked in waiting:
+            if asked.reply.done():
+                continue
+            if asked.tries >= TRIES:
+                asked.reply.set_exception(busy("tp ended before it replied"))
+            else:
+                self._asked.append(asked)
+                self._send(asked)
+
+    async def _take_replies(self, replies: asyncio.StreamReader) -> None:
+        """Hands each line to the question that it is the reply to. A line without an end, and one that nobody waits for, is dropped."""
+        while True:
+            try:
+                line = await replies.readline()
+            except ValueError:
+                log.error("tp wrote a reply of more than %d bytes", BYTES_OF_A_REPLY)
+                self._kill()
+                return
+            if not line.endswith(b"\n"):
+                return
+            if not self._asked:
+                log.error("tp wrote a reply that nobody had asked for")
+                self._kill()
+                return
+            self.is_ready = self._has_ever_replied = True
+            asked = self._asked.popleft()
+            if not asked.reply.done():
+                asked.reply.set_result(line[:-1])
+
+    async def _take_errors(self, errors: asyncio.StreamReader) -> None:
+        """Keeps the last lines of standard error."""
+        with contextlib.suppress(ValueError):
+            while line := await errors.readline():
+                self._errors.append(line.decode(errors="replace").rstrip())
+
+    def _end_if_stuck(self) -> None:
+        """Kills a process that had replied, and then leaves the first question without a reply."""
+        if self.is_ready and self._asked and time.monotonic() - self._asked[0].sent >= self._patience:
+            log.error("tp has not replied for %.0f s, and is ended", self._patience)
+            self._kill()
+
+    def _kill(self) -> None:
+        if self._process is not None:
+            with contextlib.suppress(ProcessLookupError):
+                self._process.kill()

@@ -1,0 +1,84 @@
+"""The planner behind the pipe: its life, its stops, and its answers."""
+import asyncio
+import contextlib
+import datetime
+import json
+from collections.abc import Callable
+from typing import Any
+
+from .moments import moment_of, service_time, zone_of
+from .motis import plan_of
+from .pipe import Pipe
+from .progress import Progress
+from .queries import PlanQuery
+from .refusals import refusal_of
+from .settings import QUESTIONS_IN_THE_PIPE, SECONDS_OF_A_QUESTION, SECONDS_OF_THE_END, Settings
+from .stops import StopsFault, StopSearch
+
+Tell = Callable[[int, str], None]
+
+
+class Planner:
+    """Answers requests from one `tp serve`."""
+
+    def __init__(self, settings: Settings) -> None:
+        self._settings = settings
+        self._zone = zone_of(settings.zone)
+        self._pipe = Pipe(settings.serve_words(), QUESTIONS_IN_THE_PIPE, SECONDS_OF_A_QUESTION)
+        self._progress: Progress | None = None
+        self._tasks: list[asyncio.Task[None]] = []
+        self.search = StopSearch(settings)
+
+    def start(self, tell: Tell) -> None:
+        """Starts the process. A fault that no other start can mend is told, with its status."""
+        self._tasks = [asyncio.create_task(self._keep_pipe(tell)), asyncio.create_task(self._keep_progress(tell))]
+
+    async def close(self) -> None:
+        self._tasks[1].cancel()
+        await self._pipe.close(SECONDS_OF_THE_END)
+        self._tasks[0].cancel()
+        for task in self._tasks:
+            with contextlib.suppress(asyncio.CancelledError):
+                await task
+
+    async def plan(self, query: PlanQuery) -> dict[str, Any]:
+        """The response of plan."""
+        moment = moment_of(query.time, self._zone) if query.time is not None else now()
+        date, clock = service_time(moment, self._settings, self._zone)
+        reply = json.loads(await self._pipe.ask(f"{query.start}\t{query.end}\t{date}\t{clock}\n".encode()))
+        if "fault" in reply:
+            raise refusal_of(reply["fault"])
+        asked = {"fromPlace": query.start, "toPlace": query.end, "time": moment.astimezone(self._zone).isoformat()}
+        return plan_of(reply, asked if query.count is None else {**asked, "numItineraries": query.count})
+
+    def health(self) -> tuple[int, dict[str, Any]]:
+        """A status, and how many trees are stored."""
+        progress = self._progress
+        state = "ok" if self._pipe.is_ready and progress else "starting"
+        return 200 if state == "ok" else 503, {
+            "status": state, "stops": progress.stops if progress else None, "stored": progress.stored if progress else None,
+            "firstDate": self._settings.date.isoformat(), "lastDate": self._settings.last_date.isoformat(), "zone": self._settings.zone,
+            "starts": self._pipe.starts, "now": now().astimezone(self._zone).isoformat(),
+        }
+
+    async def _keep_pipe(self, tell: Tell) -> None:
+        fault = await self._pipe.run()
+        if fault is not None:
+            tell(*fault)
+
+    async def _keep_progress(self, tell: Tell) -> None:
+        try:
+            stops = await self.search.all()
+        except StopsFault as error:
+            tell(error.status, str(error))
+            return
+        self._progress = Progress(self._pipe, stops, f"{self._settings.date:%Y%m%d}\t12:00:00")
+        await self._progress.run()
+
+
+def now() -> datetime.datetime:
+    """The moment, rounded up to a second."""
+    moment = datetime.datetime.now(datetime.UTC)
+    return moment.replace(microsecond=0) + datetime.timedelta(seconds=1 if moment.microsecond else 0)
+
+

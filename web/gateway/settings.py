@@ -1,0 +1,51 @@
+"""What the gateway is started with, and the limits that it keeps."""
+import datetime
+from dataclasses import dataclass
+from pathlib import Path
+
+SECONDS_OF_A_QUESTION = 10.0
+SECONDS_OF_A_SEARCH = 5.0
+SECONDS_OF_THE_END = 10.0
+REQUESTS_AT_ONCE = 256
+SEARCHES_AT_ONCE = 4
+QUESTIONS_IN_THE_PIPE = 2_048
+BYTES_OF_A_PATH = 1_024
+BYTES_OF_A_QUERY = 8_192
+BYTES_OF_AN_ID = 2_048
+CHARACTERS_OF_A_TEXT = 200
+BYTES_OF_A_REPLY = 16 * 1024 * 1024
+
+
+@dataclass(frozen=True)
+class Settings:
+    """The feed, the store, the covered days, and where to listen."""
+
+    program: Path
+    feed: Path
+    store: Path
+    date: datetime.date
+    days: int
+    zone: str
+    rides: int
+    default_walk: int
+    workers: int
+    host: str
+    port: int
+    tiles: str | None
+    attribution: str | None
+
+    @property
+    def last_date(self) -> datetime.date:
+        return self.date + datetime.timedelta(days=self.days - 1)
+
+    def serve_words(self) -> list[str]:
+        """The command that answers questions line by line."""
+        options = {
+            "--feed": self.feed, "--date": f"{self.date:%Y%m%d}", "--days": self.days, "--zone": self.zone, "--rides": self.rides,
+            "--default-walk": self.default_walk, "--store": self.store, "--workers": self.workers, "--format": "json",
+        }
+        return [str(self.program), "serve", *(f"{name}={value}" for name, value in options.items())]
+
+    def stops_words(self, *more: str) -> list[str]:
+        """The command that looks for stops; no text behind `--` is taken for an option."""
+        return [str(self.program), "stops", f"--feed={self.feed}", *more]
