@@ -1,0 +1,124 @@
+// The page: a question of two stops and a time, and its answer as a list and on a map.
+import { health, plan, settings } from "./asking.js";
+import { fill } from "./journeys.js";
+import { JourneyMap } from "./map.js";
+import { StopField } from "./stops.js";
+
+const PROGRESS_PAUSE = 3_000;
+const TRIES = 20;
+const by = (id) => document.getElementById(id);
+const wait = (seconds) => new Promise((resolve) => { setTimeout(resolve, seconds * 1_000); });
+
+class Page {
+    constructor(told) {
+        this.from = new StopField(by("from"), by("from-stops"), by("from-told"));
+        this.to = new StopField(by("to"), by("to-stops"), by("to-told"));
+        this.map = new JourneyMap(by("map"), by("map-told"), told);
+        this.asking = null;
+        by("question").addEventListener("submit", (event) => {
+            event.preventDefault();
+            this.ask();
+        });
+        by("swap").addEventListener("click", () => this.swap());
+    }
+
+    swap() {
+        const [from, to] = [this.from, this.to];
+        [from.stop, to.stop] = [to.stop, from.stop];
+        [from.input.value, to.input.value] = [to.input.value, from.input.value];
+        from.tell("");
+        to.tell("");
+    }
+
+    // The question that the fields have; null if one of them lacks something, which is told beside it.
+    async question() {
+        const [from, to] = [await this.from.chosen(), await this.to.chosen()];
+        const when = by("when");
+        const time = when.value.length === 16 ? `${when.value}:00` : when.value;
+        by("when-told").textContent = time ? "" : "Choose a day and a time.";
+        if (!to) this.to.refuse(this.to.input.value ? "Choose one of the stops that are suggested." : "Type a part of a stop's name.");
+        if (!from) this.from.refuse(this.from.input.value ? "Choose one of the stops that are suggested." : "Type a part of a stop's name.");
+        if (from && to && !time) when.focus();
+        return from && to && time ? { from, to, time } : null;
+    }
+
+    async ask() {
+        if (this.asking) this.asking.abort();
+        this.asking = new AbortController();
+        const { signal } = this.asking;
+        this.refuse("");
+        try {
+            const question = await this.question();
+            if (question && !signal.aborted) this.show(question, await this.answer(question, signal));
+        } catch (error) {
+            if (error.name !== "AbortError") this.fail(error);
+        }
+    }
+
+    // The answer. While trees are computed it is asked again, as often as the planner says.
+    async answer({ from, to, time }, signal) {
+        for (let tries = 1; ; tries += 1) {
+            try {
+                return await plan(from.id, to.id, time, signal);
+            } catch (error) {
+                if (signal.aborted || !error.retry || tries === TRIES) throw error;
+                this.clear(`The planner is not ready for this question yet: ${error.message}. It is asked again in ${error.retry} seconds.`);
+                await wait(error.retry);
+                if (signal.aborted) throw error;
+            }
+        }
+    }
+
+    show({ from, to, time }, answer) {
+        const journeys = [...answer.direct, ...answer.itineraries];
+        const count = journeys.length === 1 ? "1 journey" : `${journeys.length || "No"} journeys`;
+        this.clear(`${count} from ${from.name} to ${to.name}, at ${time.slice(11, 16)} on ${time.slice(0, 10)} or later.`);
+        fill(by("journeys"), journeys, time, (journey) => this.map.show(journey, answer.from, answer.to));
+        by("results").focus({ preventScroll: true });
+    }
+
+    clear(told) {
+        by("told").textContent = told;
+        by("journeys").replaceChildren();
+        this.map.clear();
+    }
+
+    fail(error) {
+        this.clear("No answer.");
+        this.refuse(`The planner refused the question: ${error.message}.${error.stopId ? ` The stop is ${error.stopId}.` : ""}`);
+    }
+
+    refuse(text) {
+        by("refused").textContent = text;
+        by("refused").hidden = !text;
+    }
+}
+
+// Sets the field of the time to now, if the planner covers this day, and to a morning that it covers if not.
+const setWhen = (state) => {
+    const when = by("when");
+    const today = state.now.slice(0, 10);
+    const isCovered = state.firstDate <= today && today <= state.lastDate;
+    when.min = `${state.firstDate}T00:00`;
+    when.max = `${state.lastDate}T23:59`;
+    if (!when.value) when.value = isCovered ? state.now.slice(0, 16) : `${state.firstDate}T08:00`;
+    by("when-told").textContent = state.firstDate === state.lastDate
+        ? `The day ${state.firstDate} is covered.` : `The days from ${state.firstDate} to ${state.lastDate} are covered.`;
+};
+
+const followProgress = async () => {
+    for (let isFirst = true; ; isFirst = false) {
+        const state = await health().catch(() => ({}));
+        if (isFirst && state.now) setWhen(state);
+        const isWhole = state.status === "ok" && state.stored === state.stops;
+        const known = typeof state.stored === "number";
+        by("progress").textContent = isWhole ? "" : known && state.status === "ok"
+            ? `Journeys from ${state.stored} of ${state.stops} stops are ready; the others are being computed.` : "The planner is starting.";
+        if (isWhole) return;
+        await wait(PROGRESS_PAUSE / 1_000);
+    }
+};
+
+const page = new Page(await settings().catch(() => ({})));
+followProgress();
+export { page };
