@@ -46,6 +46,10 @@ async def tell_http(_: Request, error: HTTPException) -> Response:
     return refused(Refusal(error.status_code, name, error.detail))
 
 
+async def tell_error(_: Request, __: Exception) -> Response:
+    return refused(Refusal(500, "Fault", "the gateway is at fault"))
+
+
 class Handlers:
     """What is done at each address."""
 
@@ -85,6 +89,6 @@ def application(settings: Settings, tell: Tell) -> Starlette:
             Mount("/leaflet", StaticFiles(directory=LEAFLET)), Mount("/", StaticFiles(directory=PAGE, html=True)),
         ],
         middleware=[Middleware(Guard, policy=policy_of(settings))],
-        exception_handlers={Refusal: tell_refusal, HTTPException: tell_http},
+        exception_handlers={Refusal: tell_refusal, HTTPException: tell_http, Exception: tell_error},
         lifespan=life,
     )

@@ -3,8 +3,9 @@ from starlette.datastructures import MutableHeaders
 from starlette.responses import JSONResponse
 from starlette.types import ASGIApp, Message, Receive, Scope, Send
 
+from .queries import is_clean
 from .refusals import Refusal, busy
-from .settings import BYTES_OF_A_PATH, BYTES_OF_A_QUERY, REQUESTS_AT_ONCE
+from .settings import BYTES_OF_A_PATH, BYTES_OF_A_QUERY, BYTES_OF_HEADERS, REQUESTS_AT_ONCE
 
 API = "/api/"
 
@@ -41,6 +42,10 @@ class Guard:
             return Refusal(413, "TooLarge", "a request has no body here")
         if len(scope["query_string"]) > BYTES_OF_A_QUERY or len(scope.get("raw_path") or b"") > BYTES_OF_A_PATH:
             return Refusal(414, "TooLarge", f"a path has at most {BYTES_OF_A_PATH} bytes, and a query at most {BYTES_OF_A_QUERY}")
+        if sum(len(name) + len(value) for name, value in scope["headers"]) > BYTES_OF_HEADERS:
+            return Refusal(431, "TooLarge", f"the headers have at most {BYTES_OF_HEADERS} bytes")
+        if not is_clean(scope["path"]):
+            return Refusal(404, "NotFound", "a path has no control characters")
         if self._running >= REQUESTS_AT_ONCE:
             return busy("too many requests at once")
         return None

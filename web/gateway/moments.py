@@ -8,7 +8,7 @@ from zoneinfo import ZoneInfo
 from .refusals import Refusal, bad
 from .settings import Settings
 
-RFC_3339 = re.compile(r"(\d{4}-\d\d-\d\d)[Tt ](\d\d:\d\d:\d\d)(?:\.(\d{1,12}))?([Zz]|[+-]\d\d:\d\d)?", re.ASCII)
+RFC_3339 = re.compile(r"(\d{4}-\d\d-\d\d)[Tt ](\d\d:\d\d:\d\d)(?:\.(\d{1,12}))?([Zz]|[+-](?:[01]\d|2[0-3]):[0-5]\d)?", re.ASCII)
 HALF_A_DAY = datetime.timedelta(hours=12)
 SECOND = datetime.timedelta(seconds=1)
 

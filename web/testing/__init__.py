@@ -1,0 +1,1 @@
+"""What web/test runs."""

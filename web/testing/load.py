@@ -1,0 +1,148 @@
+"""Many clients at once while trees are built, and `tp` killed meanwhile: no wrong answer, and none lost."""
+import concurrent.futures
+import http.client
+import json
+import os
+import random
+import signal
+import threading
+import time
+from collections.abc import Callable
+from dataclasses import dataclass
+from pathlib import Path
+
+from .comparing import is_plan
+from .feeds import clock, make_large_town
+from .running import Gateway, Reply, target, tp
+
+Look = Callable[[object, str], None]
+CLIENTS, SECONDS, KILLS = 50, 20.0, 2
+QUESTIONS = 400
+SOURCES = 120
+SMALL, LARGE = 120, 3_000
+QUICK = 20.0
+
+
+@dataclass(frozen=True)
+class Asked:
+    """A question by its number, when it was asked and replied to, and the reply."""
+
+    number: int
+    since: float
+    until: float
+    status: int
+    retry: str | None
+    content: bytes
+
+
+def ask_all(host: str, targets: list[str], end: float, draw: random.Random, lost: list[str]) -> list[Asked]:
+    """One client: asks one question after the other on one connection until the time is over."""
+    connection, asked = http.client.HTTPConnection(host, timeout=60), []
+    while time.monotonic() < end:
+        number, since = draw.randrange(len(targets)), time.monotonic()
+        try:
+            connection.request("GET", targets[number])
+            reply = Reply(connection.getresponse())
+        except (OSError, http.client.HTTPException) as error:
+            lost.append(repr(error))
+            connection.close()
+            continue
+        asked.append(Asked(number, since, time.monotonic(), reply.status, reply.headers["Retry-After"], reply.content))
+    connection.close()
+    return asked
+
+
+def kill_planner(gateway: Gateway, end: float, killed: list[int]) -> None:
+    """Kills `tp serve` at even times before the end."""
+    pause = (end - time.monotonic()) / (KILLS + 1)
+    for _ in range(KILLS):
+        time.sleep(pause)
+        planner = gateway.planner()
+        if planner is not None:
+            os.kill(planner, signal.SIGKILL)
+            killed.append(planner)
+
+
+def run_clients(gateway: Gateway, targets: list[str], draw: random.Random) -> tuple[list[Asked], list[str], list[int]]:
+    """What all clients asked, what was lost, and which processes were killed."""
+    lost: list[str] = []
+    killed: list[int] = []
+    end = time.monotonic() + SECONDS
+    killer = threading.Thread(target=kill_planner, args=(gateway, end, killed))
+    killer.start()
+    with concurrent.futures.ThreadPoolExecutor(CLIENTS) as pool:
+        draws = [random.Random(draw.random()) for _ in range(CLIENTS)]
+        lists = list(pool.map(lambda own: ask_all(gateway.host, targets, end, own, lost), draws))
+    killer.join()
+    return [asked for some in lists for asked in some], lost, killed
+
+
+def look_at_answers(look: Look, program: str, words: list[str], questions: list[tuple[str, str, str]], asked: list[Asked]) -> None:
+    """Each answer is that of `tp ask` over the store that the gateway left."""
+    answered = sorted({it.number for it in asked if it.status == 200})
+
+    def answer(number: int) -> str:
+        start, end, at = questions[number]
+        return tp(program, "ask", *words, "--from", start, "--to", end, "--at", at, "--format", "json")[1]
+
+    with concurrent.futures.ThreadPoolExecutor(os.cpu_count()) as pool:
+        answers = dict(zip(answered, map(json.loads, pool.map(answer, answered))))
+    right = {(number, content): is_plan(json.loads(content), answers[number])
+             for number, content in {(it.number, it.content) for it in asked if it.status == 200}}
+    wrong = [it for it in asked if it.status == 200 and not right[it.number, it.content]]
+    look(not wrong, f"{len(wrong)} answers are other than those of tp ask, as that to {questions[wrong[0].number] if wrong else None}")
+    look(len(answered) > 20, f"only {len(answered)} questions were answered")
+
+
+def look_at_refusals(look: Look, questions: list[tuple[str, str, str]], asked: list[Asked]) -> None:
+    """What isn't answered is refused with 503 and a time to ask again; and never from a stop that had been answered from before."""
+    answered: dict[str, float] = {}
+    for it in asked:
+        if it.status == 200:
+            start = questions[it.number][0]
+            answered[start] = min(it.until, answered.get(start, it.until))
+    refused = [it for it in asked if it.status != 200]
+    bad = [it for it in refused if it.status != 503 or not it.retry or not json.loads(it.content)["error"]]
+    look(not bad, f"{len(bad)} replies have another status than 200 and 503, or no time to ask again")
+    unstored = [it for it in refused if it.status == 503 and json.loads(it.content)["name"] == "NotStored"]
+    gone = [it for it in unstored if it.since > answered.get(questions[it.number][0], float("inf"))]
+    look(not gone, f"{len(gone)} questions were refused as not stored after an answer from the same stop")
+    look(unstored, "no question was refused as not stored, so trees were not built meanwhile")
+
+
+def rate(program: str, room: Path, draw: random.Random) -> float:
+    """How many trees a second are built over a small town."""
+    make_large_town(room / "small", 40, draw)
+    since = time.monotonic()
+    tp(program, "build", "--feed", str(room / "small"), "--date", "20240102", "--store", str(room / "small-store"), "--workers", "1")
+    return 40 / (time.monotonic() - since)
+
+
+def tell(asked: list[Asked], stored: int, stops: int) -> None:
+    times = sorted(it.until - it.since for it in asked)
+    answers = sum(it.status == 200 for it in asked)
+    told = [f"{name} {times[min(int(len(times) * share), len(times) - 1)] * 1000:.1f} ms" for name, share in
+            (("50th of a hundred", 0.5), ("99th", 0.99), ("slowest", 1.0))]
+    print(f"{CLIENTS} clients, {SECONDS:.0f} s: {len(asked)} replies, {answers} of them answers; {', '.join(told)}; {stored} of {stops} trees stored")
+
+
+def look_at_load(look: Look, program: str, room: Path, draw: random.Random) -> None:
+    """The feed's size follows the speed of the program, so that trees are still built at the end."""
+    ids = make_large_town(room / "large", LARGE if rate(program, room, draw) > QUICK else SMALL, draw)
+    words = ["--feed", str(room / "large"), "--date", "20240102", "--store", str(room / "load")]
+    questions = [(draw.choice(ids[:SOURCES]), draw.choice(ids), clock(draw.randrange(5 * 3600, 22 * 3600))) for _ in range(QUESTIONS)]
+    questions += [(draw.choice(ids[-20:]), draw.choice(ids), "08:00:00") for _ in range(20)]
+    targets = [target("plan", fromPlace=start, toPlace=end, time=f"2024-01-02T{at}Z") for start, end, at in questions]
+    gateway = Gateway(program, *words, "--workers", "1")
+    look(gateway.wait(False), "the gateway did not become ready")
+    asked, lost, killed = run_clients(gateway, targets, draw)
+    look(len(killed) == KILLS, f"only {len(killed)} times was tp killed")
+    look(not lost, f"{len(lost)} replies were lost, as by {lost[:1]}")
+    look(gateway.wait(False), "the gateway is not ready after the load")
+    state = gateway.get("/api/v1/health").json
+    tell(asked, state["stored"], state["stops"])
+    look(state["starts"] == KILLS + 1, f"tp was started {state['starts']} times")
+    status, _ = gateway.end()
+    look(status == 0, f"SIGTERM ended with status {status}")
+    look_at_refusals(look, questions, asked)
+    look_at_answers(look, program, words, questions, asked)

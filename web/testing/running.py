@@ -1,0 +1,88 @@
+"""The gateway as its users run it, and `tp` beside it."""
+import http.client
+import json
+import os
+import subprocess
+import time
+import urllib.parse
+from pathlib import Path
+from typing import Any
+
+WEB = Path(__file__).resolve().parent.parent
+SECONDS = 120
+
+
+def tp(program: str, *words: str) -> tuple[int, str, str]:
+    """The status of a command, and what it wrote on both streams."""
+    ran = subprocess.run([program, *words], capture_output=True, timeout=SECONDS, check=False)
+    return ran.returncode, ran.stdout.decode(), ran.stderr.decode()
+
+
+class Reply:
+    """A status, headers, and a body in JSON if it is."""
+
+    def __init__(self, response: http.client.HTTPResponse) -> None:
+        self.status, self.headers, self.content = response.status, response.headers, response.read()
+
+    @property
+    def json(self) -> Any:
+        return json.loads(self.content)
+
+
+class Gateway:
+    """A gateway of its own, on a port that is free."""
+
+    def __init__(self, program: str, *options: str) -> None:
+        words = [str(WEB / "run"), "--port", "0", "--program", program, *options]
+        self.process = subprocess.Popen(words, stdout=subprocess.PIPE, stderr=subprocess.PIPE, text=True)
+        self.address = self.process.stdout.readline().strip()
+        self.host = urllib.parse.urlsplit(self.address).netloc
+
+    def connect(self) -> http.client.HTTPConnection:
+        return http.client.HTTPConnection(self.host, timeout=SECONDS)
+
+    def get(self, target: str, method: str = "GET", headers: dict[str, str] | None = None, body: bytes | None = None) -> Reply:
+        """The reply to a target as it stands, on a connection of its own."""
+        connection = self.connect()
+        try:
+            connection.request(method, target, body, headers or {})
+            return Reply(connection.getresponse())
+        finally:
+            connection.close()
+
+    def wait(self, whole: bool) -> bool:
+        """Whether the planner is ready within a time; whole: with all trees."""
+        end = time.monotonic() + SECONDS
+        while time.monotonic() < end and self.process.poll() is None:
+            state = self.get("/api/v1/health").json
+            if state["status"] == "ok" and (not whole or state["stored"] == state["stops"]):
+                return True
+            time.sleep(0.2)
+        return False
+
+    def planner(self) -> int | None:
+        """The number of the process of `tp serve`."""
+        children = Path(f"/proc/{self.process.pid}/task/{self.process.pid}/children")
+        for child in children.read_text().split():
+            words = Path(f"/proc/{child}/cmdline").read_bytes().split(b"\0")
+            if words[1:2] == [b"serve"]:
+                return int(child)
+        return None
+
+    def end(self) -> tuple[int, str]:
+        """Sends SIGTERM, and gives the status and what stands on standard error."""
+        self.process.terminate()
+        try:
+            _, errors = self.process.communicate(timeout=SECONDS)
+        except subprocess.TimeoutExpired:
+            self.process.kill()
+            _, errors = self.process.communicate()
+        return self.process.returncode, errors
+
+
+def target(path: str, **parameters: str) -> str:
+    return f"/api/v1/{path}?{urllib.parse.urlencode(parameters)}"
+
+
+def is_alive(process: int) -> bool:
+    return os.path.exists(f"/proc/{process}")
