@@ -10,10 +10,11 @@ import time
 from collections.abc import Callable
 from dataclasses import dataclass
 from pathlib import Path
+from typing import Any
 
 from .comparing import is_plan
 from .feeds import clock, make_large_town
-from .running import Gateway, Reply, target, tp
+from .running import Askers, Gateway, Reply, target, tp
 
 Look = Callable[[object, str], None]
 CLIENTS, SECONDS, KILLS = 50, 20.0, 2
@@ -77,17 +78,17 @@ def run_clients(gateway: Gateway, targets: list[str], draw: random.Random) -> tu
     return [asked for some in lists for asked in some], lost, killed
 
 
-def look_at_answers(look: Look, program: str, words: list[str], questions: list[tuple[str, str, str]], asked: list[Asked]) -> None:
+def look_at_answers(look: Look, askers: Askers, questions: list[tuple[str, str, str]], asked: list[Asked]) -> None:
     """Each answer is that of `tp ask` over the store that the gateway left."""
     answered = sorted({it.number for it in asked if it.status == 200})
 
-    def answer(number: int) -> str:
+    def answer(number: int) -> Any:
         start, end, at = questions[number]
-        return tp(program, "ask", *words, "--from", start, "--to", end, "--at", at, "--format", "json")[1]
+        return askers.ask(start, end, "--at", at)
 
-    with concurrent.futures.ThreadPoolExecutor(os.cpu_count()) as pool:
-        answers = dict(zip(answered, map(json.loads, pool.map(answer, answered))))
-    right = {(number, content): is_plan(json.loads(content), answers[number])
+    with concurrent.futures.ThreadPoolExecutor(askers.count) as pool:
+        answers = dict(zip(answered, pool.map(answer, answered)))
+    right = {(number, content): answers[number] is not None and is_plan(json.loads(content), answers[number])
              for number, content in {(it.number, it.content) for it in asked if it.status == 200}}
     wrong = [it for it in asked if it.status == 200 and not right[it.number, it.content]]
     look(not wrong, f"{len(wrong)} answers are other than those of tp ask, as that to {questions[wrong[0].number] if wrong else None}")
@@ -129,11 +130,11 @@ def tell(asked: list[Asked], stored: int, stops: int) -> None:
 def look_at_load(look: Look, program: str, room: Path, draw: random.Random) -> None:
     """The feed's size follows the speed of the program, so that trees are still built at the end."""
     ids = make_large_town(room / "large", LARGE if rate(program, room, draw) > QUICK else SMALL, draw)
-    words = ["--feed", str(room / "large"), "--date", "20240102", "--store", str(room / "load")]
+    words, store = ["--feed", str(room / "large"), "--date", "20240102"], room / "load"
     questions = [(draw.choice(ids[:SOURCES]), draw.choice(ids), clock(draw.randrange(5 * 3600, 22 * 3600))) for _ in range(QUESTIONS)]
     questions += [(draw.choice(ids[-20:]), draw.choice(ids), "08:00:00") for _ in range(20)]
     targets = [target("plan", fromPlace=start, toPlace=end, time=f"2024-01-02T{at}Z") for start, end, at in questions]
-    gateway = Gateway(program, *words, "--workers", "1")
+    gateway = Gateway(program, *words, "--store", str(store), "--workers", "1")
     look(gateway.wait(False), "the gateway did not become ready")
     asked, lost, killed = run_clients(gateway, targets, draw)
     look(len(killed) == KILLS, f"only {len(killed)} times was tp killed")
@@ -145,4 +146,4 @@ def look_at_load(look: Look, program: str, room: Path, draw: random.Random) -> N
     status, _ = gateway.end()
     look(status == 0, f"SIGTERM ended with status {status}")
     look_at_refusals(look, questions, asked)
-    look_at_answers(look, program, words, questions, asked)
+    look_at_answers(look, Askers(program, words, store), questions, asked)

@@ -211,8 +211,8 @@ def look_at_looks(look: Look, page: Page) -> None:
 
 def keep_screenshot(page: Page) -> None:
     """A small picture of the page for the README."""
-    page.width(1000, "light")
-    page.browser.execute_script("window.scrollTo(0, 0)")
+    page.width(1100, "light")
+    page.browser.execute_script("window.scrollTo(0, 0); document.activeElement.blur()")
     page.browser.save_screenshot(str(SCREENSHOT))
 
 

@@ -1,7 +1,6 @@
 """Random questions, asked of the gateway and of `tp ask`; and texts, asked of geocode and of `tp stops`."""
 import concurrent.futures
 import datetime
-import json
 import os
 import random
 import re
@@ -11,7 +10,7 @@ from pathlib import Path
 
 from .comparing import is_plan
 from .feeds import make_odd_town
-from .running import Gateway, target, tp
+from .running import Askers, Gateway, target, tp
 
 RULE, ZONE = "CET-1CEST,M3.5.0,M10.5.0/3", zoneinfo.ZoneInfo("Europe/Berlin")
 # Three days, within which summer time begins; the second and the third start by the noon of each.
@@ -53,13 +52,11 @@ def moments(first: datetime.datetime, count: int, draw: random.Random) -> list[d
     return [datetime.datetime.fromtimestamp(second, datetime.UTC) for second in seconds]
 
 
-def question(gateway: Gateway, program: str, words: list[str], asked: tuple[str, str, str, str, str]) -> bool:
+def question(gateway: Gateway, askers: Askers, asked: tuple[str, str, str, str, str]) -> bool:
     """Whether the gateway's answer to a question is that of `tp ask`, which must leave at the same moment."""
     start, end, date, clock, text = asked
-    ask = [f"--from={start}", f"--to={end}", "--on", date, "--at", clock, "--format", "json"]
-    status, out, _ = tp(program, "ask", *words, *ask)
+    answer = askers.ask(start, end, "--on", date, "--at", clock)
     reply = gateway.get(target("plan", fromPlace=start, toPlace=end, time=text))
-    answer = json.loads(out) if status == 0 else None
     if answer is None or reply.status != 200:
         return False
     moment = datetime.datetime.fromisoformat(text.upper())
@@ -74,15 +71,16 @@ def look_at_questions(look: Look, program: str, room: Path, count: int, draw: ra
         for name, first, share in (("spring", FIRST, 0.8), ("autumn", FALLS_BACK, 0.2)):
             words = options(room / "odd", first)
             gateway = Gateway(program, *words, "--store", str(room / f"gateway-{name}"))
-            words += ["--store", str(room / f"asked-{name}")]
-            look(tp(program, "build", *words)[0] == 0, "the store to compare with was not built")
+            store = room / f"asked-{name}"
+            look(tp(program, "build", *words, "--store", str(store))[0] == 0, "the store to compare with was not built")
+            askers = Askers(program, words, store)
             look(gateway.wait(True), "the gateway has not stored all trees")
             asked = []
             for moment in moments(first, int(count * share), draw):
                 day = service_time(moment, first)
                 if day is not None:
                     asked.append((draw.choice(ids), draw.choice(ids), *day, time_text(moment, draw)))
-            for told, right in zip(asked, pool.map(lambda it: question(gateway, program, words, it), asked)):
+            for told, right in zip(asked, pool.map(lambda it: question(gateway, askers, it), asked)):
                 look(right, f"{told} has another answer than tp ask gives")
             if name == "spring":
                 look_at_texts(look, gateway, program, room / "odd", ids)

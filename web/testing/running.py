@@ -2,6 +2,8 @@
 import http.client
 import json
 import os
+import queue
+import shutil
 import subprocess
 import time
 import urllib.parse
@@ -16,6 +18,27 @@ def tp(program: str, *words: str) -> tuple[int, str, str]:
     """The status of a command, and what it wrote on both streams."""
     ran = subprocess.run([program, *words], capture_output=True, timeout=SECONDS, check=False)
     return ran.returncode, ran.stdout.decode(), ran.stderr.decode()
+
+
+class Askers:
+    """`tp ask` over a store, several at once: each over a copy of its own, since one process at a time has a store open."""
+
+    def __init__(self, program: str, words: list[str], store: Path) -> None:
+        self._program, self._words = program, words
+        self._stores: queue.SimpleQueue[Path] = queue.SimpleQueue()
+        self.count = os.cpu_count() or 1
+        for number in range(self.count):
+            self._stores.put(Path(shutil.copy(store, f"{store}-{number}")))
+
+    def ask(self, start: str, end: str, *more: str) -> Any:
+        """The answer; none if there is none."""
+        store = self._stores.get()
+        try:
+            words = ["ask", *self._words, f"--from={start}", f"--to={end}", "--format", "json", f"--store={store}", *more]
+            status, out, _ = tp(self._program, *words)
+        finally:
+            self._stores.put(store)
+        return json.loads(out) if status == 0 else None
 
 
 class Reply:
