@@ -6,6 +6,7 @@ questions that it left without a reply are asked again, once.
 import asyncio
 import collections
 import contextlib
+import json
 import logging
 import time
 from dataclasses import dataclass
@@ -21,6 +22,16 @@ LONG_LIFE = 10.0
 LINES_OF_ERRORS = 5
 
 log = logging.getLogger("gateway")
+
+
+def plain_fault(line: str) -> str:
+    """A line of standard error as `tp` writes it for people, if it is a fault in JSON."""
+    try:
+        fault = json.loads(line)["fault"]
+        words = ["tp:", fault["code"], fault["name"], fault["file"], None if fault["row"] is None else f"row {fault['row']}", fault["id"]]
+    except (ValueError, TypeError, KeyError):
+        return line
+    return " ".join(word for word in words if word)
 
 
 @dataclass
@@ -158,7 +169,7 @@ class Pipe:
         """Keeps the last lines of standard error."""
         with contextlib.suppress(ValueError):
             while line := await errors.readline():
-                self._errors.append(line.decode(errors="replace").rstrip())
+                self._errors.append(plain_fault(line.decode(errors="replace").rstrip()))
 
     def _end_if_stuck(self) -> None:
         """Kills a process that had replied, and then leaves the first question without a reply."""

@@ -14,9 +14,17 @@ IDLE_SECONDS = 15
 
 
 def listening(host: str, port: int) -> socket.socket:
-    """A socket at the address; OSError if there can be none."""
-    family = socket.AF_INET6 if ":" in host else socket.AF_INET
-    return socket.create_server((host, port), family=family, backlog=CONNECTIONS)
+    """A socket at the address; OSError if there can be none. Its protocol is named, since asyncio sends small packets at once (TCP_NODELAY)
+    only then."""
+    listener = socket.socket(socket.AF_INET6 if ":" in host else socket.AF_INET, socket.SOCK_STREAM, socket.IPPROTO_TCP)
+    try:
+        listener.setsockopt(socket.SOL_SOCKET, socket.SO_REUSEADDR, 1)
+        listener.bind((host, port))
+        listener.listen(CONNECTIONS)
+    except OSError:
+        listener.close()
+        raise
+    return listener
 
 
 def address_of(listener: socket.socket) -> str:

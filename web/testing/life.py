@@ -12,6 +12,7 @@ from .running import WEB, Gateway, is_alive, tp
 
 Look = Callable[[object, str], None]
 RUN = str(WEB / "run")
+AT_ONCE = 256
 
 
 def run(*words: str) -> tuple[int, str]:
@@ -24,10 +25,10 @@ def look_at_starts(look: Look, program: str, room: Path) -> None:
     """What ends before a question, with the status that README.md has for it."""
     here = ["--port", "0", "--program", program, "--date", "20240102"]
     status, errors = run(RUN, *here, "--feed", str(room / "nowhere"), "--store", str(room / "s1"))
-    look(status == 1 and "F1 MissingFile" in errors, f"without a feed: {status}, {errors!r}")
+    look(status == 1 and errors == "tp: F1 MissingFile stops.txt row 0\n", f"without a feed: {status}, {errors!r}")
     (room / "other").write_bytes(b"\xa5 is the first byte of this text")
     status, errors = run(RUN, *here, "--feed", str(DEMO), "--store", str(room / "other"))
-    look(status == 4 and "Z1" in errors, f"with a file that is no store: {status}, {errors!r}")
+    look(status == 4 and errors == "tp: Z1 NotAStore\n", f"with a file that is no store: {status}, {errors!r}")
     status, errors = run(RUN, *here, "--feed", str(DEMO), "--program", str(room / "none"))
     look(status == 70 and "bin/tp" in errors, f"without the program: {status}, {errors!r}")
     status, errors = run("/usr/bin/python3", "-S", RUN, *here, "--feed", str(DEMO))
@@ -51,6 +52,7 @@ def look_at_an_end(look: Look, program: str, room: Path) -> None:
     gateway = Gateway(program, *options)
     look(gateway.wait(True), "the gateway has not stored all trees")
     port = int(gateway.host.rsplit(":", 1)[1])
+    look_at_speed(look, gateway)
     look(is_reached("127.0.0.1", port) and not is_reached("127.0.0.2", port), "it listens at another address than 127.0.0.1")
     for _ in range(3):
         killed = gateway.planner()
@@ -68,6 +70,65 @@ def look_at_an_end(look: Look, program: str, room: Path) -> None:
     look(sorted(tp(program, "list", *options)[1].split()) == list("ABCDE"), "the store lacks trees")
 
 
+def look_at_speed(look: Look, gateway: Gateway) -> None:
+    """On a connection that is kept, a reply isn't held back until the one before it was acknowledged, which takes 40 ms."""
+    connection, times = gateway.connect(), []
+    for _ in range(51):
+        since = time.monotonic()
+        connection.request("GET", "/api/v1/health")
+        connection.getresponse().read()
+        times.append(time.monotonic() - since)
+    connection.close()
+    look(sorted(times)[25] < 0.03, f"half of the replies took {sorted(times)[25] * 1000:.0f} ms or more")
+
+
+def script(path: Path, text: str) -> str:
+    """A program in place of `tp`, in shell."""
+    path.write_text(f"#!/bin/sh\n{text}\n")
+    path.chmod(0o755)
+    return str(path)
+
+
+def look_at_a_fatal_question(look: Look, program: str, room: Path) -> None:
+    """A question at which `tp` ends is asked twice and then refused; the others are answered."""
+    ends = "while IFS= read -r line; do case $line in *FATAL*) break ;; esac; printf '%s\\n' \"$line\"; done"
+    fragile = script(room / "fragile", f'[ "$1" = serve ] || exec {program} "$@"\n({ends}) | exec {program} "$@"')
+    gateway = Gateway(fragile, "--feed", str(DEMO), "--date", "20240102", "--store", str(room / "fragile-store"))
+    look(gateway.wait(True), "the gateway with a fragile tp has not stored all trees")
+    reply = gateway.get(f"/api/v1/plan?fromPlace=FATAL&toPlace=D&{TIME}")
+    look(reply.status == 503 and reply.headers["Retry-After"], f"a question at which tp ends has status {reply.status}")
+    look(gateway.get(f"/api/v1/plan?fromPlace=A&toPlace=D&{TIME}").status == 200, "the question behind it isn't answered")
+    starts = gateway.get("/api/v1/health").json["starts"]
+    look(starts == 3, f"tp was started {starts} times")
+    look(gateway.end()[0] == 0, "the gateway with a fragile tp did not end with status 0")
+
+
+def open_question(gateway: Gateway) -> socket.socket:
+    """A connection on which a question is asked."""
+    connection = socket.create_connection(("127.0.0.1", int(gateway.host.rsplit(":", 1)[1])), timeout=60)
+    connection.sendall(f"GET /api/v1/plan?fromPlace=A&toPlace=D&{TIME} HTTP/1.1\r\nhost: x\r\n\r\n".encode())
+    return connection
+
+
+def look_at_limits(look: Look, program: str, room: Path) -> None:
+    """More questions at once than are allowed, of a `tp` that never replies: each is refused, at once or after ten seconds."""
+    silent = script(room / "silent", f'[ "$1" = serve ] || exec {program} "$@"\nexec sleep 60')
+    gateway = Gateway(silent, "--feed", str(DEMO), "--date", "20240102", "--store", str(room / "silent-store"))
+    since, times, lines = time.monotonic(), [], []
+    connections = [open_question(gateway) for _ in range(AT_ONCE + 40)]
+    for connection in connections[::-1]:
+        lines.append(connection.recv(12))
+        times.append(time.monotonic() - since)
+        connection.close()
+    look(all(line == b"HTTP/1.1 503" for line in lines), f"some of {len(lines)} questions at once have another status than 503")
+    look(times[39] < 8, f"the forty that are too many are refused after {times[39]:.1f} s")
+    look(9 < times[-1] < 30, f"the others are refused after {times[-1]:.1f} s")
+    look(gateway.get("/api/v1/health").status == 503, "the health of a gateway whose tp never replies is not 503")
+    look(gateway.end()[0] == 0, "a gateway whose tp never replies did not end with status 0")
+
+
 def look_at_life(look: Look, program: str, room: Path) -> None:
     look_at_starts(look, program, room)
     look_at_an_end(look, program, room)
+    look_at_a_fatal_question(look, program, room)
+    look_at_limits(look, program, room)
