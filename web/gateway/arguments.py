@@ -5,6 +5,7 @@ import hashlib
 import os
 import re
 import urllib.parse
+from collections.abc import Callable
 from pathlib import Path
 
 from .moments import zone_of
@@ -39,14 +40,14 @@ def tiles(text: str) -> str:
     return text
 
 
-def within(least: int, most: int) -> "type[int]":
+def within(least: int, most: int) -> Callable[[str], int]:
     """What reads a whole number within bounds."""
     def read(text: str) -> int:
         if not re.fullmatch(r"\d{1,9}", text, re.ASCII) or not least <= int(text) <= most:
             raise argparse.ArgumentTypeError(f"{text!r} is no whole number from {least} to {most}")
         return int(text)
 
-    return read  # type: ignore[return-value]
+    return read
 
 
 def parser() -> argparse.ArgumentParser:
@@ -56,7 +57,7 @@ def parser() -> argparse.ArgumentParser:
     words.add_argument("--days", type=within(1, 14), default=1, metavar="N", help="how many days are covered, 1 to 14 (1)")
     words.add_argument("--zone", type=zone, default="UTC0", metavar="RULE", help="the feed's zone as a POSIX rule text (UTC0)")
     words.add_argument("--rides", type=within(1, 8), default=3, metavar="K", help="the most rides of a journey, 1 to 8 (3)")
-    words.add_argument("--default-walk", type=within(0, 86_400), default=120, metavar="SECONDS", help="the seconds of a walk without any (120)")
+    words.add_argument("--default-walk", type=within(0, 86_400), default=120, metavar="SECONDS", help="seconds of a walk without any (120)")
     words.add_argument("--store", type=Path, metavar="FILE", help="the file of the store (in the folder of caches)")
     words.add_argument("--workers", type=within(1, 64), default=2, metavar="N", help="how many trees are built at once (2)")
     words.add_argument("--host", default="127.0.0.1", help="the address to listen at (127.0.0.1, which this machine alone reaches)")

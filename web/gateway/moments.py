@@ -14,7 +14,7 @@ SECOND = datetime.timedelta(seconds=1)
 
 
 def zone_of(rule: str) -> ZoneInfo:
-    """The zone of a POSIX rule text. The rule is the last line of a zone file (RFC 8536) that has nothing else; ValueError if it is none."""
+    """The zone of a POSIX rule text; ValueError if it is none. The rule is the last line of a zone file (RFC 8536) without transitions."""
     if not rule.isascii() or not rule.isprintable():
         raise ValueError("a zone's rule is printable ASCII")
     block = struct.pack(">4sc15x6l", b"TZif", b"2", 0, 0, 0, 0, 1, 4) + struct.pack(">lBB4s", 0, 0, 0, b"UTC\0")

@@ -39,7 +39,8 @@ def trip_fields(trip: Json) -> Json:
 
 def geometry_of(*places: Json) -> Json:
     """The line through the places that have a position."""
-    points = [(place["latitude"], place["longitude"]) for place in places if place["latitude"] is not None and place["longitude"] is not None]
+    positions = [(place["latitude"], place["longitude"]) for place in places]
+    points = [position for position in positions if None not in position]
     return {"points": polyline(points), "precision": PRECISION, "length": len(points)}
 
 

@@ -35,9 +35,9 @@ class Page {
         const [from, to] = [await this.from.chosen(), await this.to.chosen()];
         const when = by("when");
         const time = when.value.length === 16 ? `${when.value}:00` : when.value;
-        by("when-told").textContent = time ? "" : "Choose a day and a time.";
-        if (!to) this.to.refuse(this.to.input.value ? "Choose one of the stops that are suggested." : "Type a part of a stop's name.");
-        if (!from) this.from.refuse(this.from.input.value ? "Choose one of the stops that are suggested." : "Type a part of a stop's name.");
+        if (!time) by("when-told").textContent = "Choose a day and a time.";
+        if (!to) this.to.refuse();
+        if (!from) this.from.refuse();
         if (from && to && !time) when.focus();
         return from && to && time ? { from, to, time } : null;
     }
@@ -62,14 +62,27 @@ class Page {
                 return await plan(from.id, to.id, time, signal);
             } catch (error) {
                 if (signal.aborted || !error.retry || tries === TRIES) throw error;
-                this.clear(`The planner is not ready for this question yet: ${error.message}. It is asked again in ${error.retry} seconds.`);
+                this.clear(`Not ready yet: ${error.message}. The planner is asked again in ${error.retry} seconds.`);
                 await wait(error.retry);
                 if (signal.aborted) throw error;
             }
         }
     }
 
+    // The question that the page's address holds, if it holds one.
+    async askAddress() {
+        const held = new URLSearchParams(window.location.search);
+        const [from, to, time] = [held.get("fromPlace"), held.get("toPlace"), held.get("time")];
+        if (!from || !to || !time) return;
+        this.from.input.value = from;
+        this.to.input.value = to;
+        by("when").value = time.slice(0, 16);
+        await this.ask();
+    }
+
     show({ from, to, time }, answer) {
+        const held = new URLSearchParams({ fromPlace: from.id, toPlace: to.id, time });
+        window.history.replaceState(null, "", `?${held}`);
         const journeys = [...answer.direct, ...answer.itineraries];
         const count = journeys.length === 1 ? "1 journey" : `${journeys.length || "No"} journeys`;
         this.clear(`${count} from ${from.name} to ${to.name}, at ${time.slice(11, 16)} on ${time.slice(0, 10)} or later.`);
@@ -111,9 +124,9 @@ const followProgress = async () => {
         const state = await health().catch(() => ({}));
         if (isFirst && state.now) setWhen(state);
         const isWhole = state.status === "ok" && state.stored === state.stops;
-        const known = typeof state.stored === "number";
-        by("progress").textContent = isWhole ? "" : known && state.status === "ok"
-            ? `Journeys from ${state.stored} of ${state.stops} stops are ready; the others are being computed.` : "The planner is starting.";
+        by("progress").textContent = isWhole ? "" : state.status === "ok"
+            ? `Journeys from ${state.stored} of ${state.stops} stops are ready; the others are being computed.`
+            : "The planner is starting.";
         if (isWhole) return;
         await wait(PROGRESS_PAUSE / 1_000);
     }
@@ -121,4 +134,4 @@ const followProgress = async () => {
 
 const page = new Page(await settings().catch(() => ({})));
 followProgress();
-export { page };
+await page.askAddress();

@@ -44,8 +44,9 @@ export class StopField {
         this.input.removeAttribute("aria-invalid");
     }
 
-    refuse(text) {
-        this.told.textContent = text;
+    // Tells that no stop is chosen, and what to do.
+    refuse() {
+        this.told.textContent = this.input.value ? "Choose one of the stops that are suggested." : "Type a part of a stop's name.";
         this.input.setAttribute("aria-invalid", "true");
         this.input.focus();
     }
@@ -73,7 +74,8 @@ export class StopField {
         if (document.activeElement !== this.input) return;
         this.found = found;
         this.list.replaceChildren(...found.map((stop, place) => this.option(stop, place)));
-        this.tell(found.length ? `${found.length} ${found.length === 1 ? "stop" : "stops"} found; the arrow keys choose.` : "No stop has this name.");
+        const count = found.length === 1 ? "1 stop" : `${found.length || "No"} stops`;
+        this.tell(found.length ? `${count} found; the arrow keys choose.` : "No stop has this name.");
         this.list.hidden = !found.length;
         this.input.setAttribute("aria-expanded", String(Boolean(found.length)));
         this.mark(-1);

@@ -14,14 +14,15 @@ LONG = "x" * 2_049
 PLANS = {
     # what is missing, empty, doubled or too long
     "": 400, f"fromPlace=A&{TIME}": 400, f"toPlace=D&{TIME}": 400, f"fromPlace=&toPlace=D&{TIME}": 400,
-    f"fromPlace=A&fromPlace=B&toPlace=D&{TIME}": 400, f"fromPlace={LONG}&toPlace=D&{TIME}": 400, f"fromPlace=A&toPlace={LONG}&{TIME}": 400,
-    f"fromPlace={'x' * 2_048}&toPlace=D&{TIME}": 400, f"fromPlace={'x' * 8_200}&toPlace=D&{TIME}": 414, "&".join(f"p{n}=1" for n in range(40)): 400,
+    f"fromPlace=A&fromPlace=B&toPlace=D&{TIME}": 400, "&".join(f"p{n}=1" for n in range(40)): 400,
+    f"fromPlace={LONG}&toPlace=D&{TIME}": 400, f"fromPlace=A&toPlace={LONG}&{TIME}": 400,
+    f"fromPlace={'x' * 2_048}&toPlace=D&{TIME}": 400, f"fromPlace={'x' * 8_200}&toPlace=D&{TIME}": 414,
     # ids that no stop has, among them paths, commands and positions
-    f"fromPlace=X&toPlace=D&{TIME}": 400, f"fromPlace=a&toPlace=D&{TIME}": 400, f"fromPlace=../../etc/passwd&toPlace=D&{TIME}": 400,
-    f"fromPlace=/etc/passwd&toPlace=D&{TIME}": 400, f"fromPlace=%24(id)&toPlace=%60id%60&{TIME}": 400, f"fromPlace=--help&toPlace=D&{TIME}": 400,
-    f"fromPlace=48.1,11.5&toPlace=48.2,11.6&{TIME}": 400, f"fromPlace=A%20&toPlace=D&{TIME}": 400, f"fromPlace=A;id&toPlace=D&{TIME}": 400,
+    **{f"fromPlace={stop}&toPlace=D&{TIME}": 400 for stop in (
+        "X", "a", "../../etc/passwd", "/etc/passwd", "%24(id)", "%60id%60", "--help", "48.1,11.5", "A%20", "A;id", "A%7Cid", "%22A%22")},
     # control characters, and bytes that are no UTF-8
-    **{f"fromPlace=A{code}&toPlace=D&{TIME}": 400 for code in ("%00", "%09", "%0A", "%0D", "%1B", "%7F", "%C2%85", "%FF", "%C3", "%ED%A0%80")},
+    **{f"fromPlace=A{code}&toPlace=D&{TIME}": 400 for code in (
+        "%00", "%09", "%0A", "%0D", "%1B", "%7F", "%C2%85", "%FF", "%C3", "%ED%A0%80")},
     f"fromPlace=A%09D%0920240102%0908:00:00%0AB&toPlace=D&{TIME}": 400, f"fromPlace=A&toPlace=D%0A&{TIME}": 400,
     "fromPlace=A&toPlace=D&time=2024-01-02T08:00:00Z%0A": 400, f"from%00Place=A&fromPlace=A&toPlace=D&{TIME}": 400,
     # times
@@ -29,28 +30,33 @@ PLANS = {
         "", "now", "8", "2024-01-02", "2024-01-02T08:00Z", "2024-01-02T8:00:00Z", "2024-01-02T24:00:00Z", "2024-01-02T08:60:00Z",
         "2024-01-02T08:00:60Z", "2024-02-30T08:00:00Z", "2024-13-02T08:00:00Z", "20240102T080000Z", "2024-01-02T08:00:00+01:00",
         "2024-01-02T08:00:00%2B1:00", "2024-01-02T08:00:00%2B25:00", "2024-01-02T08:00:00%2B01:60", "-2024-01-02T08:00:00Z", "1704182400",
-        "2024-01-02T08:00:00ZZ", "%D9%A2%D9%A0%D9%A2%D9%A4-01-02T08:00:00Z", "2024-01-02T08:00:00." + "1" * 13 + "Z", "1e9", "NaN", "%22")},
+        "2024-01-02T08:00:00ZZ", "%D9%A2%D9%A0%D9%A2%D9%A4-01-02T08:00:00Z", "2024-01-02T08:00:00." + "1" * 13 + "Z", "1e9", "NaN",
+        "%22")},
     # days that are not covered
     **{f"fromPlace=A&toPlace=D&time={text}": 400 for text in (
-        "2024-01-01T23:59:59Z", "2024-01-03T00:00:00Z", "2024-01-02T23:59:59.5Z", "0001-01-01T00:00:00%2B01:00", "9999-12-31T23:59:59-01:00",
-        "0000-01-01T00:00:00Z", "2024-01-02T00:30:00%2B01:00")},
+        "2024-01-01T23:59:59Z", "2024-01-03T00:00:00Z", "2024-01-02T23:59:59.5Z", "0001-01-01T00:00:00%2B01:00",
+        "9999-12-31T23:59:59-01:00", "0000-01-01T00:00:00Z", "2024-01-02T00:30:00%2B01:00")},
     # counts, and what isn't offered
-    **{f"fromPlace=A&toPlace=D&{TIME}&numItineraries={text}": 400 for text in ("0", "-1", "101", "1.5", "x", "", "1e1", "%D9%A1", "9" * 30, "0x1")},
-    **{f"fromPlace=A&toPlace=D&{TIME}&{more}": 400 for more in ("arriveBy=true", "via=B", "pageCursor=x", "maxTransfers=1", "transitModes=BUS")},
+    **{f"fromPlace=A&toPlace=D&{TIME}&numItineraries={text}": 400 for text in (
+        "0", "-1", "101", "1.5", "x", "", "1e1", "%D9%A1", "9" * 30, "0x1")},
+    **{f"fromPlace=A&toPlace=D&{TIME}&{more}": 400 for more in (
+        "arriveBy=true", "via=B", "pageCursor=x", "maxTransfers=1", "transitModes=BUS")},
     # what is right
     f"fromPlace=A&toPlace=D&{TIME}": 200, f"fromPlace=A&toPlace=D&{TIME}&numItineraries=5&arriveBy=false&via=&withFares=true": 200,
-    "fromPlace=A&toPlace=D&time=2024-01-02t08:00:00z": 200, "fromPlace=A&toPlace=D&time=2024-01-02T09:30:00.25%2B01:30": 200,
-    "fromPlace=A&toPlace=D&time=2024-01-02T00:00:00": 200, "fromPlace=%41&toPlace=D&time=2024-01-02T23:59:59Z": 200,
+    **{f"fromPlace=%41&toPlace=D&time={text}": 200 for text in (
+        "2024-01-02t08:00:00z", "2024-01-02T09:30:00.25%2B01:30", "2024-01-02T00:00:00", "2024-01-02T23:59:59Z")},
 }
 TEXTS = {
     "": 400, "text=": 400, "text=%20": 400, "text=a&text=b": 400, f"text={'x' * 201}": 400, f"text={'x' * 200}": 200, "text=%00": 400,
-    "text=a%0A": 400, "text=%1B[2J": 400, "text=%FF": 400, f"text={'x' * 9_000}": 414, "text=../../etc/passwd": 200, "text=--feed%3D/etc": 200,
+    "text=a%0A": 400, "text=%1B[2J": 400, "text=%FF": 400, f"text={'x' * 9_000}": 414,
+    "text=../../etc/passwd": 200, "text=--feed%3D/etc": 200,
     "text=%24(id)": 200, "text=a": 200, "text=-h": 200, "text=--": 200,
 }
 PATHS = {
-    "/../../etc/passwd": 404, "/..%2f..%2fetc/passwd": 404, "/leaflet/../../../../etc/passwd": 404, "/leaflet/..%2f..%2f..%2fetc%2fpasswd": 404,
-    "/%2e%2e/run": 404, "/..%5c..%5crun": 404, "//etc/passwd": 404, "/page.css%00": 404, "/gateway/app.py": 404, "/api/v1/": 404, "/api/v1/plan/x": 404,
-    "/api/v2/plan": 404, f"/{'x' * 1_100}": 414, "/%ff": 404, "/": 200, "/page.js": 200, "/leaflet/leaflet.min.js": 200, "/settings.json": 200,
+    "/../../etc/passwd": 404, "/..%2f..%2fetc/passwd": 404, "/leaflet/../../../../etc/passwd": 404,
+    "/leaflet/..%2f..%2f..%2fetc%2fpasswd": 404, "/%2e%2e/run": 404, "/..%5c..%5crun": 404, "//etc/passwd": 404, "/page.css%00": 404,
+    "/gateway/app.py": 404, "/api/v1/": 404, "/api/v1/plan/x": 404, "/api/v2/plan": 404, f"/{'x' * 1_100}": 414, "/%ff": 404,
+    "/": 200, "/page.js": 200, "/leaflet/leaflet.min.js": 200, "/settings.json": 200,
 }
 
 
@@ -66,7 +72,7 @@ def look_at_targets(look: Look, gateway: Gateway, prefix: str, table: dict[str, 
     for target, status in table.items():
         reply = gateway.get(prefix + target)
         right = reply.status == 200 if status == 200 else is_refusal(reply, status)
-        look(right, f"{prefix}{target[:80]} has status {reply.status} and not {status}, or a body that does not say why: {reply.content[:200]!r}")
+        look(right, f"{prefix}{target[:80]} has status {reply.status} and not {status}, or does not say why: {reply.content[:200]!r}")
         look(b"root:" not in reply.content, f"{prefix}{target[:80]} tells a file that is not the page's")
 
 
@@ -89,7 +95,8 @@ def look_at_requests(look: Look, gateway: Gateway) -> None:
         line = raw(gateway, data)
         look(not line or line.startswith(b"HTTP/1.1 4"), f"{data[:20]!r} is answered with {line!r}")
     headers = gateway.get("/api/v1/health").headers
-    look(headers["X-Content-Type-Options"] == "nosniff" and headers["Access-Control-Allow-Origin"] == "*", "the headers of the interface lack some")
+    has_both = headers["X-Content-Type-Options"] == "nosniff" and headers["Access-Control-Allow-Origin"] == "*"
+    look(has_both, "the interface lacks headers")
     look("script-src 'self'" in gateway.get("/").headers["Content-Security-Policy"], "the page has no policy")
 
 

@@ -32,7 +32,8 @@ def write_courses(folder: Path, ways: list[list[str]], trips_of_a_way: int, draw
     for course, way in enumerate(ways):
         for number in range(trips_of_a_way):
             trip, now = f"T{course}-{number}", draw.randrange(4 * 3600, 26 * 3600)
-            trips.append((trip, "DAILY", f"R{course % 7}" if course % 5 else "", f"to {way[-1]}" if course % 2 else "", "17" if number == 1 else ""))
+            route, headsign = f"R{course % 7}" if course % 5 else "", f"to {way[-1]}" if course % 2 else ""
+            trips.append((trip, "DAILY", route, headsign, "17" if number == 1 else ""))
             for place, stop in enumerate(way):
                 calls.append((trip, stop, place, clock(now), clock(now + 20)))
                 now += draw.randrange(120, 900)
@@ -51,7 +52,8 @@ def make_odd_town(folder: Path, draw: random.Random) -> list[str]:
         place = ("", "") if draw.random() < 0.2 else (round(draw.uniform(-90, 90), 5), round(draw.uniform(-180, 180), 5))
         stops.append((stop, draw.choice(NAMES), *place, 0, "", ""))
     platforms = [f"ST{number}" for number in range(3)]
-    stops += [("ST", "Hauptbahnhof", 48.14, 11.56, 1, "", "")] + [(stop, "Hauptbahnhof", 48.14, 11.56, 0, "ST", stop[-1]) for stop in platforms]
+    stops.append(("ST", "Hauptbahnhof", 48.14, 11.56, 1, "", ""))
+    stops += [(stop, "Hauptbahnhof", 48.14, 11.56, 0, "ST", stop[-1]) for stop in platforms]
     write(folder, "stops.txt", stops)
     write_courses(folder, [draw.sample(ids + platforms, draw.randint(3, 7)) for _ in range(16)], 12, draw)
     write_week(folder)

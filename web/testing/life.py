@@ -33,9 +33,10 @@ def look_at_starts(look: Look, program: str, room: Path) -> None:
     look(status == 70 and "bin/tp" in errors, f"without the program: {status}, {errors!r}")
     status, errors = run("/usr/bin/python3", "-S", RUN, *here, "--feed", str(DEMO))
     look(status == 69 and "apt-get install" in errors and "python3-starlette" in errors, f"without packages: {status}, {errors!r}")
-    for words in (["--date", "20240230"], ["--date", "2024-01-02"], ["--days", "15"], ["--zone", "Europe/Berlin"], ["--tiles", "javascript:{x}{y}{z}"]):
-        status, errors = run(RUN, *here, "--feed", str(DEMO), *words)
-        look(status == 2 and words[0] in errors, f"{words}: {status}, {errors!r}")
+    wrong = {"--date": "20240230", "--days": "15", "--zone": "Europe/Berlin", "--tiles": "x:{x}{y}{z}", "--port": "65536", "--workers": "0"}
+    for name, value in wrong.items():
+        status, errors = run(RUN, *here, "--feed", str(DEMO), name, value)
+        look(status == 2 and name in errors, f"{name} {value}: {status}, {errors!r}")
 
 
 def is_reached(host: str, port: int) -> bool:

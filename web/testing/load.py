@@ -124,7 +124,8 @@ def tell(asked: list[Asked], stored: int, stops: int) -> None:
     answers = sum(it.status == 200 for it in asked)
     told = [f"{name} {times[min(int(len(times) * share), len(times) - 1)] * 1000:.1f} ms" for name, share in
             (("50th of a hundred", 0.5), ("99th", 0.99), ("slowest", 1.0))]
-    print(f"{CLIENTS} clients, {SECONDS:.0f} s: {len(asked)} replies, {answers} of them answers; {', '.join(told)}; {stored} of {stops} trees stored")
+    counts = f"{len(asked)} replies, {answers} of them answers"
+    print(f"{CLIENTS} clients, {SECONDS:.0f} s: {counts}; {', '.join(told)}; {stored} of {stops} trees stored")
 
 
 def look_at_load(look: Look, program: str, room: Path, draw: random.Random) -> None:

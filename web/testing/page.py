@@ -57,10 +57,12 @@ def make_feed(folder: Path) -> None:
     folder.mkdir()
     write(folder, "stops.txt", [
         ("stop_id", "stop_name", "stop_lat", "stop_lon"), ("H", "Café du Port", 49.50, -7.02), ("X", "Café Noir", 49.49, -7.03),
-        ("T", "Town Hall", 49.51, -7.00), ("M", "Market", 49.512, -6.996), ("C", "Castle", 49.53, -6.97), ("N", "Nowhere <b>else</b>", "", "")])
+        ("T", "Town Hall", 49.51, -7.00), ("M", "Market", 49.512, -6.996), ("C", "Castle", 49.53, -6.97),
+        ("N", "Nowhere <b>else</b>", "", "")])
     write(folder, "routes.txt", [("route_id", "route_short_name"), ("R4", 4), ("R9", 9)])
     write(folder, "trips.txt", [
-        ("trip_id", "service_id", "route_id", "trip_headsign"), ("A", "D", "R4", "Town Hall"), ("B", "D", "R9", "Castle"), ("S", "D", "R4", "Castle")])
+        ("trip_id", "service_id", "route_id", "trip_headsign"), ("A", "D", "R4", "Town Hall"), ("B", "D", "R9", "Castle"),
+        ("S", "D", "R4", "Castle")])
     calls: Rows = [("trip_id", "stop_id", "stop_sequence", "arrival_time", "departure_time")]
     for trip, stops in (("A", "H09:00:00 T09:10:00"), ("B", "M09:20:00 C09:35:00"), ("S", "H09:05:00 C09:50:00")):
         calls += [(trip, it[0], place, it[1:], it[1:]) for place, it in enumerate(stops.split())]
@@ -142,7 +144,7 @@ def look_at_typing(look: Look, page: Page) -> None:
 
 def look_at_journeys(look: Look, page: Page) -> None:
     """The two journeys from the harbour to the castle, worked by hand; the second is sooner there."""
-    look(page.wait(lambda: len(page.all("#journeys summary")) == 2), f"it tells {page.find('#told').text!r} and {page.find('#refused').text!r}")
+    look(page.wait(lambda: len(page.all("#journeys summary")) == 2), f"it tells {page.find('main').text!r}")
     titles = [it.text.split("\n")[0] for it in page.all("#journeys summary")]
     look(titles == ["09:05 to 09:50, 45 min, no change", "09:00 to 09:35, 35 min, 1 change"], f"the journeys are {titles}")
     look("2 journeys from Café du Port to Castle" in page.find("#told").text, f"it tells {page.find('#told').text!r}")
@@ -156,8 +158,18 @@ def look_at_journeys(look: Look, page: Page) -> None:
     counts = {kind: len(page.all(f"#map path.{kind}")) for kind in ("ride", "walk", "stop", "end")}
     look(counts == {"ride": 2, "walk": 1, "stop": 2, "end": 2}, f"the map has {counts}")
     frame, shapes = page.find("#map").rect, [it.rect for it in page.all("#map path.end")]
-    inside = all(frame["x"] <= it["x"] <= frame["x"] + frame["width"] and frame["y"] <= it["y"] <= frame["y"] + frame["height"] for it in shapes)
+    sides = (("x", "width"), ("y", "height"))
+    inside = all(frame[at] <= it[at] <= frame[at] + frame[length] for it in shapes for at, length in sides)
     look(inside, "the ends of the journey are not within the map")
+
+
+def look_at_the_address(look: Look, page: Page) -> None:
+    """The page's address holds the question: opened again, it shows the same journeys."""
+    address = page.browser.current_url
+    look("fromPlace=H&toPlace=C" in address, f"the address is {address!r}")
+    page.browser.get(address)
+    look(page.wait(lambda: len(page.all("#journeys summary")) == 2), "the address doesn't show its journeys again")
+    look(page.find("#from").get_attribute("value") == "Café du Port", "the address doesn't fill the fields again")
 
 
 def look_at_refusals(look: Look, page: Page) -> None:
@@ -177,7 +189,8 @@ def look_at_refusals(look: Look, page: Page) -> None:
     page.browser.execute_script(set_value, page.find("#when"), "2024-01-02T08:00")
     field.clear()
     field.send_keys("nowhere", Keys.ENTER)
-    look(page.wait(lambda: "No journeys from Café du Port to Nowhere <b>else</b>" in page.find("#told").text), f"it tells {page.find('#told').text!r}")
+    wanted = "No journeys from Café du Port to Nowhere <b>else</b>"
+    look(page.wait(lambda: wanted in page.find("#told").text), f"it tells {page.find('#told').text!r}")
     look(not page.all("b") and not page.find("#refused").is_displayed(), "a name is taken for HTML, or an old refusal stands")
 
 
@@ -234,7 +247,8 @@ def look_at_unready(look: Look, program: str, room: Path, browser: Chrome) -> No
     gateway = Gateway(str(silent), "--feed", str(room / "named"), "--date", "20240102", "--store", str(room / "silent-store"))
     try:
         page = Page(browser, gateway.address)
-        look(page.wait(lambda: "starting" in page.find("#progress").text), f"before tp replies the page says {page.find('#progress').text!r}")
+        is_starting = page.wait(lambda: "starting" in page.find("#progress").text)
+        look(is_starting, f"before tp replies the page says {page.find('#progress').text!r}")
         reply = gateway.get("/api/v1/health")
         look(reply.status == 503 and reply.headers["Retry-After"], f"before tp replies the health has status {reply.status}")
         reply = gateway.get("/api/v1/plan?fromPlace=H&toPlace=C&time=2024-01-02T08:00:00Z")
@@ -256,6 +270,7 @@ def look_at_page(look: Look, program: str, room: Path) -> None:
         look_at_journeys(look, page)
         look_at_looks(look, page)
         keep_screenshot(page)
+        look_at_the_address(look, page)
         look_at_refusals(look, page)
         look_at_a_refused_stop(look, page)
         complaints = [it["message"] for it in browser.get_log("browser") if "400 (Bad Request)" not in it["message"]]

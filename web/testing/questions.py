@@ -16,7 +16,7 @@ RULE, ZONE = "CET-1CEST,M3.5.0,M10.5.0/3", zoneinfo.ZoneInfo("Europe/Berlin")
 # Three days, within which summer time begins; the second and the third start by the noon of each.
 FIRST, DAYS = datetime.datetime(2024, 3, 30, tzinfo=ZONE), 3
 FALLS_BACK = datetime.datetime(2024, 10, 26, tzinfo=ZONE)
-TEXTS = ["s", "S1", "CAFE", "é", "rat", "haupt", "--all", "$(id)", "../", "a \"b\"", "ω", "<b>", "nothing at all", "\\", "&", "%", "+", "שלום"]
+TEXTS = ["s", "S1", "CAFE", "é", "rat", "haupt", "--all", "$(id)", "../", "a \"b\"", "ω", "<b>", "nothing at all", "\\", "&", "%", "+", "ל"]
 Look = Callable[[object, str], None]
 
 
@@ -41,7 +41,8 @@ def time_text(moment: datetime.datetime, draw: random.Random) -> str:
     offset = draw.choice([0, 60, 120, -210, 345, None])
     if offset is None and not moment.astimezone(ZONE).fold:
         return f"{moment.astimezone(ZONE):%Y-%m-%dT%H:%M:%S}"
-    return moment.astimezone(datetime.timezone(datetime.timedelta(minutes=offset or 0))).isoformat().replace("+00:00", draw.choice(["Z", "+00:00"]))
+    text = moment.astimezone(datetime.timezone(datetime.timedelta(minutes=offset or 0))).isoformat()
+    return text.replace("+00:00", draw.choice(["Z", "+00:00"]))
 
 
 def moments(first: datetime.datetime, count: int, draw: random.Random) -> list[datetime.datetime]:
@@ -101,7 +102,8 @@ def look_at_texts(look: Look, gateway: Gateway, program: str, feed: Path, ids: l
         for line in out.splitlines():
             if "\t" in line:
                 stop, name, station, latitude, longitude = map(plain, line.split("\t"))
-                wanted.append((stop, name or stop, station or None, float(latitude) if latitude else None, float(longitude) if longitude else None))
+                place = [float(it) if it else None for it in (latitude, longitude)]
+                wanted.append((stop, name or stop, station or None, *place))
         reply = gateway.get(target("geocode", text=text))
         told = [(it["id"], it["name"], it.get("parentId"), it.get("lat"), it.get("lon")) for it in reply.json]
         look((status, reply.status) == (0, 200) and told == wanted, f"geocode of {text!r} tells {told} and tp stops {wanted}")
