@@ -62,7 +62,8 @@ def question(gateway: Gateway, askers: Askers, asked: tuple[str, str, str, str, 
         return False
     moment = datetime.datetime.fromisoformat(text.upper())
     moment = moment.replace(tzinfo=ZONE) if moment.tzinfo is None else moment
-    return datetime.datetime.fromisoformat(answer["departure"]["iso"]) == moment and is_plan(reply.json, answer)
+    leaves = datetime.datetime.fromisoformat(answer["departure"]["iso"])
+    return leaves.timestamp() == moment.timestamp() and is_plan(reply.json, answer)
 
 
 def look_at_questions(look: Look, program: str, room: Path, count: int, draw: random.Random) -> None:
