@@ -1,7 +1,7 @@
 """The pipe to `tp serve`: questions go in line by line, and replies come out in the same order.
 
 One process at a time has a store open, so there is one pipe, and all requests share it. A process that ends is started again, and the
-questions that it left without a reply are asked again, once.
+questions that it left without a reply are asked again. Questions are read one by one, so the first of them is the one at which it ended.
 """
 import asyncio
 import collections
@@ -17,6 +17,7 @@ from .settings import BYTES_OF_A_REPLY
 FAULTS_BEFORE_A_REPLY = (1, 2, 4)
 NO_SUCH_PROGRAM = 127
 TRIES = 2
+SECONDS_OF_A_LEAVE = 1.0
 FIRST_PAUSE, LAST_PAUSE = 0.1, 5.0
 LONG_LIFE = 10.0
 LINES_OF_ERRORS = 5
@@ -36,11 +37,11 @@ def plain_fault(line: str) -> str:
 
 @dataclass
 class Asked:
-    """A question in the pipe, when it was last sent, and how often."""
+    """A question in the pipe, when it was last sent, and how many processes ended at it."""
 
     line: bytes
     reply: asyncio.Future[bytes]
-    tries: int = 0
+    ends: int = 0
     sent: float = 0.0
 
 
@@ -52,6 +53,7 @@ class Pipe:
         self._asked: collections.deque[Asked] = collections.deque()
         self._process: asyncio.subprocess.Process | None = None
         self._errors: collections.deque[str] = collections.deque(maxlen=LINES_OF_ERRORS)
+        self._hello: Asked | None = None
         self._is_closing = False
         self._has_ever_replied = False
         self.is_ready = False
@@ -108,42 +110,50 @@ class Pipe:
         self._process = process
         self.starts += 1
         errors = asyncio.create_task(self._take_errors(process.stderr))
-        self._send_again()
+        self._begin()
         try:
             await self._take_replies(process.stdout)
         finally:
             self.is_ready = False
-            self._process = None if not self._is_closing else process
-            if not self._is_closing and process.returncode is None:
+            if not self._is_closing:
+                self._process = None
                 await self._leave(process)
-            await errors
+            await asyncio.wait({errors}, timeout=SECONDS_OF_A_LEAVE)
+            errors.cancel()
         return await process.wait()
 
     @staticmethod
     async def _leave(process: asyncio.subprocess.Process) -> None:
         """Waits for the end of a process whose output has ended, and kills it if it does not come."""
         try:
-            await asyncio.wait_for(process.wait(), 1.0)
+            await asyncio.wait_for(process.wait(), SECONDS_OF_A_LEAVE)
         except TimeoutError:
             with contextlib.suppress(ProcessLookupError):
                 process.kill()
 
     def _send(self, asked: Asked) -> None:
         if self._process is not None and not self._process.stdin.is_closing():
-            asked.tries, asked.sent = asked.tries + 1, time.monotonic()
+            asked.sent = time.monotonic()
             self._process.stdin.write(asked.line)
 
-    def _send_again(self) -> None:
-        """Sends the questions that wait. One that was sent to several processes, each of which ended, is refused."""
-        waiting, self._asked = self._asked, collections.deque()
-        for asked in waiting:
-            if asked.reply.done():
-                continue
-            if asked.tries >= TRIES:
-                asked.reply.set_exception(busy("tp ended before it replied"))
-            else:
-                self._asked.append(asked)
-                self._send(asked)
+    def _begin(self) -> None:
+        """Sends a line that is no question, whose reply says that the process is ready, and the questions that wait. One at which several
+        processes ended is refused."""
+        if self._hello is not None:
+            self._hello.reply.cancel()
+            self._blame_first()
+        self._hello = Asked(b"\n", asyncio.get_running_loop().create_future())
+        self._asked = collections.deque([self._hello, *(asked for asked in self._asked if not asked.reply.done())])
+        for asked in self._asked:
+            self._send(asked)
+
+    def _blame_first(self) -> None:
+        """Counts the end of a process to the question that it would have replied to."""
+        if self._asked and not self._asked[0].reply.done():
+            first = self._asked[0]
+            first.ends += 1
+            if first.ends >= TRIES:
+                first.reply.set_exception(busy("tp ended before it replied"))
 
     async def _take_replies(self, replies: asyncio.StreamReader) -> None:
         """Hands each line to the question that it is the reply to. A line without an end, and one that nobody waits for, is dropped."""

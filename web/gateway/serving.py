@@ -1,4 +1,5 @@
 """Listens, and answers until SIGTERM or SIGINT."""
+import asyncio
 import signal
 import socket
 import sys
@@ -7,7 +8,7 @@ from types import FrameType
 import uvicorn
 
 from .app import application
-from .settings import Settings
+from .settings import SECONDS_OF_THE_END, Settings
 
 CONNECTIONS = 1_024
 IDLE_SECONDS = 15
@@ -32,13 +33,28 @@ def address_of(listener: socket.socket) -> str:
     return f"http://[{host}]:{port}/" if ":" in host else f"http://{host}:{port}/"
 
 
+class Server(uvicorn.Server):
+    """A server that ends the connections of clients who don't read, once it has waited for them."""
+
+    async def shutdown(self, sockets: list[socket.socket] | None = None) -> None:
+        timer = asyncio.get_running_loop().call_later(SECONDS_OF_THE_END, self._end_connections)
+        try:
+            await super().shutdown(sockets)
+        finally:
+            timer.cancel()
+
+    def _end_connections(self) -> None:
+        for connection in list(self.server_state.connections):
+            connection.transport.abort()
+
+
 class Service:
     """A server over the application, and why it ended."""
 
     def __init__(self, settings: Settings) -> None:
         self._status = 0
         app = application(settings, self._tell)
-        self._server = uvicorn.Server(uvicorn.Config(
+        self._server = Server(uvicorn.Config(
             app, log_level="warning", access_log=False, http="h11", ws="none", lifespan="on", loop="asyncio", server_header=False,
             timeout_keep_alive=IDLE_SECONDS, limit_concurrency=CONNECTIONS,
         ))

@@ -62,13 +62,25 @@ def look_at_an_end(look: Look, program: str, room: Path) -> None:
         look(reply.status == 200 and len(reply.json["itineraries"]) == 2, f"after a kill the answer has status {reply.status}")
         look(gateway.planner() not in (None, killed), "tp serve was not started again")
     look(gateway.get("/api/v1/health").json["starts"] == 4, "the starts of tp serve are not counted")
+    os.kill(gateway.planner(), signal.SIGKILL)
+    look(gateway.wait_for("starting") and gateway.wait_for("ok"), "after a kill the health is not told without a question")
+    unread = unread_pages(gateway)
     planner = gateway.planner()
     since = time.monotonic()
     status, errors = gateway.end()
-    look(status == 0 and time.monotonic() - since < 15, f"SIGTERM ended with status {status}")
-    look(errors.count("tp ended with status -9") == 3, f"the kills are told as {errors!r}")
+    took = time.monotonic() - since
+    look(status == 0 and took < 25, f"SIGTERM ended with status {status} after {took:.1f} s, beside a client that doesn't read")
+    unread.close()
+    look(errors.count("tp ended with status -9") == 4, f"the kills are told as {errors!r}")
     look(not is_alive(planner), "tp serve lives on")
     look(sorted(tp(program, "list", *options)[1].split()) == list("ABCDE"), "the store lacks trees")
+
+
+def unread_pages(gateway: Gateway) -> socket.socket:
+    """A connection on which large files are asked for, and nothing is read."""
+    connection = socket.create_connection(("127.0.0.1", int(gateway.host.rsplit(":", 1)[1])), timeout=60)
+    connection.sendall(b"GET /leaflet/leaflet.js HTTP/1.1\r\nhost: x\r\n\r\n" * 100)
+    return connection
 
 
 def look_at_speed(look: Look, gateway: Gateway) -> None:

@@ -83,6 +83,14 @@ class Gateway:
             time.sleep(0.2)
         return False
 
+    def wait_for(self, status: str) -> bool:
+        """Whether the health has a status within a time."""
+        end = time.monotonic() + SECONDS
+        while time.monotonic() < end:
+            if self.get("/api/v1/health").json["status"] == status:
+                return True
+        return False
+
     def planner(self) -> int | None:
         """The number of the process of `tp serve`."""
         children = Path(f"/proc/{self.process.pid}/task/{self.process.pid}/children")
