@@ -64,6 +64,7 @@ def parser() -> argparse.ArgumentParser:
     words.add_argument("--port", type=within(0, 65_535), default=8080, help="the port; 0 for any that is free (8080)")
     words.add_argument("--tiles", type=tiles, metavar="URL", help="map tiles, as https://tile.example/{z}/{x}/{y}.png (none)")
     words.add_argument("--attribution", metavar="TEXT", help="what the owner of the tiles wants to be named as")
+    words.add_argument("--straight", action="store_true", help="draw rides straight, without a second process over a copy of the store")
     words.add_argument("--program", type=Path, default=TOP / "crates/tp/out/tp", metavar="FILE", help="the program (crates/tp/out/tp)")
     return words
 

@@ -1,6 +1,8 @@
 """Answers of `tp` in the words of MOTIS 2's interface."""
+from collections.abc import Iterator
 from typing import Any
 
+from .lines import Line
 from .shapes import PRECISION, polyline
 from .stops import Stop
 
@@ -37,14 +39,14 @@ def trip_fields(trip: Json) -> Json:
     })
 
 
-def geometry_of(*places: Json) -> Json:
-    """The line through the places that have a position."""
-    positions = [(place["latitude"], place["longitude"]) for place in places]
-    points = [position for position in positions if None not in position]
+def geometry_of(leg: Json, line: Line | None) -> Json:
+    """A leg's line; if there is none, that through the ends that have a position."""
+    ends = [(place["latitude"], place["longitude"]) for place in (leg["from"], leg["to"])]
+    points = [(at[1], at[0]) for at in line] if line else [end for end in ends if None not in end]
     return {"points": polyline(points), "precision": PRECISION, "length": len(points)}
 
 
-def leg_of(leg: Json) -> Json:
+def leg_of(leg: Json, line: Line | None) -> Json:
     """A Leg: a ride or a walk."""
     starts, ends = leg["departure"]["iso"], leg["arrival"]["iso"]
     return {
@@ -52,26 +54,27 @@ def leg_of(leg: Json) -> Json:
         "from": place_of(leg["from"], departure=starts), "to": place_of(leg["to"], arrival=ends),
         "duration": leg["seconds"], "startTime": starts, "endTime": ends, "scheduledStartTime": starts, "scheduledEndTime": ends,
         "realTime": False, "scheduled": True, **(trip_fields(leg["trip"]) if leg["trip"] else {}),
-        "legGeometry": geometry_of(leg["from"], leg["to"]),
+        "legGeometry": geometry_of(leg, line),
     }
 
 
-def itinerary_of(journey: Json) -> Json:
-    """An Itinerary: a best journey."""
+def itinerary_of(journey: Json, lines: Iterator[Line | None]) -> Json:
+    """An Itinerary: a best journey, which takes the next lines for its legs."""
     return {
         "duration": journey["seconds"], "startTime": journey["departure"]["iso"], "endTime": journey["arrival"]["iso"],
-        "transfers": max(journey["rides"] - 1, 0), "legs": [leg_of(leg) for leg in journey["legs"]],
+        "transfers": max(journey["rides"] - 1, 0), "legs": [leg_of(leg, next(lines)) for leg in journey["legs"]],
     }
 
 
-def plan_of(answer: Json, asked: Json) -> Json:
-    """The response of plan. Journeys on foot alone are `direct`, all others `itineraries`."""
-    journeys = answer["journeys"]
+def plan_of(answer: Json, lines: list[Line | None], asked: Json) -> Json:
+    """The response of plan, with a line for each leg. Journeys on foot alone are `direct`, all others `itineraries`."""
+    lines_in_turn = iter(lines)
+    journeys = [(journey["rides"], itinerary_of(journey, lines_in_turn)) for journey in answer["journeys"]]
     return {
         "requestParameters": asked, "debugOutput": {},
         "from": place_of(answer["from"]), "to": place_of(answer["to"]),
-        "direct": [itinerary_of(journey) for journey in journeys if not journey["rides"]],
-        "itineraries": [itinerary_of(journey) for journey in journeys if journey["rides"]],
+        "direct": [itinerary for rides, itinerary in journeys if not rides],
+        "itineraries": [itinerary for rides, itinerary in journeys if rides],
         "previousPageCursor": "", "nextPageCursor": "",
     }
 

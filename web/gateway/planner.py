@@ -6,6 +6,7 @@ import json
 from collections.abc import Callable
 from typing import Any
 
+from .lines import Lines, lines_of
 from .moments import moment_of, service_time, zone_of
 from .motis import plan_of
 from .pipe import Pipe
@@ -24,8 +25,9 @@ class Planner:
     def __init__(self, settings: Settings) -> None:
         self._settings = settings
         self._zone = zone_of(settings.zone)
-        self._pipe = Pipe(settings.serve_words(), QUESTIONS_IN_THE_PIPE, SECONDS_OF_A_QUESTION)
+        self._pipe = Pipe(settings.serve_words(settings.store, "json"), QUESTIONS_IN_THE_PIPE, SECONDS_OF_A_QUESTION)
         self._progress: Progress | None = None
+        self._lines = Lines(settings)
         self._tasks: list[asyncio.Task[None]] = []
         self.search = StopSearch(settings)
 
@@ -34,9 +36,9 @@ class Planner:
         self._tasks = [asyncio.create_task(self._keep_pipe(tell)), asyncio.create_task(self._keep_progress(tell))]
 
     async def close(self) -> None:
-        self._tasks[1].cancel()
-        await self._pipe.close(SECONDS_OF_THE_END)
-        self._tasks[0].cancel()
+        await asyncio.gather(self._pipe.close(SECONDS_OF_THE_END), self._lines.close(SECONDS_OF_THE_END))
+        for task in self._tasks:
+            task.cancel()
         for task in self._tasks:
             with contextlib.suppress(asyncio.CancelledError):
                 await task
@@ -45,11 +47,13 @@ class Planner:
         """The response of plan."""
         moment = moment_of(query.time, self._zone) if query.time is not None else now()
         date, clock = service_time(moment, self._settings, self._zone)
-        reply = json.loads(await self._pipe.ask(f"{query.start}\t{query.end}\t{date}\t{clock}\n".encode()))
+        question = f"{query.start}\t{query.end}\t{date}\t{clock}\n".encode()
+        told, features = await asyncio.gather(self._pipe.ask(question), self._lines.of(question))
+        reply = json.loads(told)
         if "fault" in reply:
             raise refusal_of(reply["fault"])
         asked = {"fromPlace": query.start, "toPlace": query.end, "time": moment.astimezone(self._zone).isoformat()}
-        return plan_of(reply, asked if query.count is None else {**asked, "numItineraries": query.count})
+        return plan_of(reply, lines_of(features, reply), asked if query.count is None else {**asked, "numItineraries": query.count})
 
     def health(self) -> tuple[int, dict[str, Any]]:
         """A status, and how many trees are stored."""
@@ -58,7 +62,8 @@ class Planner:
         return 200 if state == "ok" else 503, {
             "status": state, "stops": progress.stops if progress else None, "stored": progress.stored if progress else None,
             "firstDate": self._settings.date.isoformat(), "lastDate": self._settings.last_date.isoformat(), "zone": self._settings.zone,
-            "starts": self._pipe.starts, "now": now().astimezone(self._zone).isoformat(),
+            "starts": self._pipe.starts, "lines": "through stops" if self._lines.is_ready else "straight",
+            "now": now().astimezone(self._zone).isoformat(),
         }
 
     async def _keep_pipe(self, tell: Tell) -> None:
@@ -74,6 +79,8 @@ class Planner:
             return
         self._progress = Progress(self._pipe, stops, f"{self._settings.date:%Y%m%d}\t12:00:00")
         await self._progress.run()
+        if not self._settings.straight:
+            await self._lines.run()
 
 
 def now() -> datetime.datetime:

@@ -34,16 +34,17 @@ class Settings:
     port: int
     tiles: str | None
     attribution: str | None
+    straight: bool
 
     @property
     def last_date(self) -> datetime.date:
         return self.date + datetime.timedelta(days=self.days - 1)
 
-    def serve_words(self) -> list[str]:
-        """The command that answers questions line by line."""
+    def serve_words(self, store: Path, form: str) -> list[str]:
+        """The command that answers questions line by line, over a store and in a format."""
         options = {
             "--feed": self.feed, "--date": f"{self.date:%Y%m%d}", "--days": self.days, "--zone": self.zone, "--rides": self.rides,
-            "--default-walk": self.default_walk, "--store": self.store, "--workers": self.workers, "--format": "json",
+            "--default-walk": self.default_walk, "--store": store, "--workers": self.workers, "--format": form,
         }
         return [str(self.program), "serve", *(f"{name}={value}" for name, value in options.items())]
 

@@ -21,24 +21,32 @@ def points_of(line: Json) -> list[tuple[float, float]]:
     return points
 
 
+def features_of(collection: Json | None, number: int) -> list[Json] | None:
+    """The features of a journey's legs."""
+    return collection and [it for it in collection["features"] if it["properties"]["journey"] == number]
+
+
 def is_place(told: Json, place: Json) -> bool:
     names = (place["name"] or place["id"], place["id"], place["latitude"], place["longitude"], place["platform"])
     return (told["name"], told["stopId"], told.get("lat"), told.get("lon"), told.get("track")) == names
 
 
-def is_line(told: Json, places: list[Json]) -> bool:
-    """Whether a leg's line goes through the places that have a position, to a ten-thousandth of a degree."""
+def is_line(told: Json, leg: Json, feature: Json | None) -> bool:
+    """Whether a leg's line is that of its feature; without one, whether it is straight. The last digits may differ."""
+    places = [leg["from"], leg["to"]]
     wanted = [(place["latitude"], place["longitude"]) for place in places if place["latitude"] is not None]
+    if feature is not None and feature["geometry"] is not None:
+        wanted = [(latitude, longitude) for longitude, latitude in feature["geometry"]["coordinates"]]
     points = points_of(told)
     close = all(abs(a - b) < 1e-5 for one, other in zip(points, wanted) for a, b in zip(one, other))
     return len(points) == len(wanted) == told["length"] and close
 
 
-def is_leg(told: Json, leg: Json) -> bool:
+def is_leg(told: Json, leg: Json, feature: Json | None) -> bool:
     times = (leg["departure"]["iso"], leg["arrival"]["iso"])
     same = told["mode"] == ("TRANSIT" if leg["kind"] == "ride" else "WALK")
     same &= (told["startTime"], told["endTime"]) == times == (told["from"]["departure"], told["to"]["arrival"])
-    same &= told["duration"] == leg["seconds"] and is_line(told["legGeometry"], [leg["from"], leg["to"]])
+    same &= told["duration"] == leg["seconds"] and is_line(told["legGeometry"], leg, feature)
     same &= is_place(told["from"], leg["from"]) and is_place(told["to"], leg["to"])
     trip = leg["trip"] or {"id": None, "headsign": None, "short_name": None, "route": None}
     route = trip["route"] or {"id": None, "short_name": None, "long_name": None}
@@ -47,18 +55,21 @@ def is_leg(told: Json, leg: Json) -> bool:
     return same and tuple(told.get(name) for name in names) == wanted
 
 
-def is_journey(told: Json, journey: Json) -> bool:
+def is_journey(told: Json, journey: Json, features: list[Json] | None) -> bool:
     same = (told["startTime"], told["endTime"]) == (journey["departure"]["iso"], journey["arrival"]["iso"])
     same &= told["duration"] == journey["seconds"] and told["transfers"] == max(journey["rides"] - 1, 0)
-    return same and len(told["legs"]) == len(journey["legs"]) and all(map(is_leg, told["legs"], journey["legs"]))
+    features = features or [None] * len(journey["legs"])
+    return same and len(told["legs"]) == len(journey["legs"]) and all(map(is_leg, told["legs"], journey["legs"], features))
 
 
-def is_plan(told: Json, answer: Json) -> bool:
-    """Whether a response has the same places, and a journey for each of the answer's, those on foot apart."""
+def is_plan(told: Json, answer: Json, collection: Json | None = None) -> bool:
+    """Whether a response has the same places, and a journey for each of the answer's, those on foot apart; with the lines of a collection
+    of GeoJSON, if it is given."""
     if not (is_place(told["from"], answer["from"]) and is_place(told["to"], answer["to"])):
         return False
     for name, on_foot in (("direct", True), ("itineraries", False)):
-        journeys = [journey for journey in answer["journeys"] if (journey["rides"] == 0) == on_foot]
-        if len(told[name]) != len(journeys) or not all(map(is_journey, told[name], journeys)):
+        wanted = [(journey, features_of(collection, number)) for number, journey in enumerate(answer["journeys"], 1)
+                  if (journey["rides"] == 0) == on_foot]
+        if len(told[name]) != len(wanted) or not all(is_journey(one, *other) for one, other in zip(told[name], wanted)):
             return False
     return True

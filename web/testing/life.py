@@ -63,16 +63,18 @@ def look_at_an_end(look: Look, program: str, room: Path) -> None:
         look(gateway.planner() not in (None, killed), "tp serve was not started again")
     look(gateway.get("/api/v1/health").json["starts"] == 4, "the starts of tp serve are not counted")
     os.kill(gateway.planner(), signal.SIGKILL)
-    look(gateway.wait_for("starting") and gateway.wait_for("ok"), "after a kill the health is not told without a question")
+    look(gateway.wait_for("status", "starting") and gateway.wait_for("status", "ok"), "after a kill the health is not told without a question")
     unread = unread_pages(gateway)
-    planner = gateway.planner()
+    look(gateway.wait_for("lines", "through stops"), "there is no second tp serve for lines")
+    planner, drawer = gateway.planner(), gateway.planner(b"geojson")
     since = time.monotonic()
     status, errors = gateway.end()
     took = time.monotonic() - since
     look(status == 0 and took < 25, f"SIGTERM ended with status {status} after {took:.1f} s, beside a client that doesn't read")
     unread.close()
     look(errors.count("tp ended with status -9") == 4, f"the kills are told as {errors!r}")
-    look(not is_alive(planner), "tp serve lives on")
+    look(not is_alive(planner) and not is_alive(drawer), "tp serve lives on")
+    look(not list(room.glob(".life-*")), "the copy of the store is still there")
     look(sorted(tp(program, "list", *options)[1].split()) == list("ABCDE"), "the store lacks trees")
 
 

@@ -64,7 +64,7 @@ def make_feed(folder: Path) -> None:
         ("trip_id", "service_id", "route_id", "trip_headsign"), ("A", "D", "R4", "Town Hall"), ("B", "D", "R9", "Castle"),
         ("S", "D", "R4", "Castle")])
     calls: Rows = [("trip_id", "stop_id", "stop_sequence", "arrival_time", "departure_time")]
-    for trip, stops in (("A", "H09:00:00 T09:10:00"), ("B", "M09:20:00 C09:35:00"), ("S", "H09:05:00 C09:50:00")):
+    for trip, stops in (("A", "H09:00:00 T09:10:00"), ("B", "M09:20:00 C09:35:00"), ("S", "H09:05:00 X09:20:00 C09:50:00")):
         calls += [(trip, it[0], place, it[1:], it[1:]) for place, it in enumerate(stops.split())]
     write(folder, "stop_times.txt", calls)
     write(folder, "transfers.txt", [("from_stop_id", "to_stop_id", "transfer_type", "min_transfer_time"), ("T", "M", 2, 240)])
@@ -149,6 +149,8 @@ def look_at_journeys(look: Look, page: Page) -> None:
     look(titles == ["09:05 to 09:50, 45 min, no change", "09:00 to 09:35, 35 min, 1 change"], f"the journeys are {titles}")
     look("2 journeys from Café du Port to Castle" in page.find("#told").text, f"it tells {page.find('#told').text!r}")
     look(page.focus() == "results", "the focus isn't at the journeys")
+    line = page.find("#map path.ride").get_attribute("d")
+    look(line.count("L") == 2, f"the ride isn't drawn through the stop between: {line!r}")
     page.press(Keys.TAB, Keys.TAB, Keys.ENTER)
     wanted = ["4 towards Town Hall\n09:00 board at Café du Port\n09:10 alight at Town Hall", "Walk 4 min to Market\nThere at 09:14",
               "6 min to change or wait", "9 towards Castle\n09:20 board at Market\n09:35 alight at Castle"]
@@ -262,7 +264,7 @@ def look_at_page(look: Look, program: str, room: Path) -> None:
     words = ["--feed", str(room / "named"), "--date", "20240102", "--store", str(room / "page")]
     look(tp(program, "check", "--feed", str(room / "named"))[0] == 0, "the feed is at fault")
     gateway = Gateway(program, *words)
-    look(gateway.wait(True), "the gateway has not stored all trees")
+    look(gateway.wait(True) and gateway.wait_for("lines", "through stops"), "the gateway has not stored all trees")
     browser = chromium()
     try:
         page = Page(browser, gateway.address)

@@ -56,14 +56,14 @@ def moments(first: datetime.datetime, count: int, draw: random.Random) -> list[d
 def question(gateway: Gateway, askers: Askers, asked: tuple[str, str, str, str, str]) -> bool:
     """Whether the gateway's answer to a question is that of `tp ask`, which must leave at the same moment."""
     start, end, date, clock, text = asked
-    answer = askers.ask(start, end, "--on", date, "--at", clock)
+    answer, lines = (askers.ask(start, end, "--on", date, "--at", clock, form=form) for form in ("json", "geojson"))
     reply = gateway.get(target("plan", fromPlace=start, toPlace=end, time=text))
     if answer is None or reply.status != 200:
         return False
     moment = datetime.datetime.fromisoformat(text.upper())
     moment = moment.replace(tzinfo=ZONE) if moment.tzinfo is None else moment
     leaves = datetime.datetime.fromisoformat(answer["departure"]["iso"])
-    return leaves.timestamp() == moment.timestamp() and is_plan(reply.json, answer)
+    return leaves.timestamp() == moment.timestamp() and is_plan(reply.json, answer, lines)
 
 
 def look_at_questions(look: Look, program: str, room: Path, count: int, draw: random.Random) -> None:
@@ -76,7 +76,7 @@ def look_at_questions(look: Look, program: str, room: Path, count: int, draw: ra
             store = room / f"asked-{name}"
             look(tp(program, "build", *words, "--store", str(store))[0] == 0, "the store to compare with was not built")
             askers = Askers(program, words, store)
-            look(gateway.wait(True), "the gateway has not stored all trees")
+            look(gateway.wait(True) and gateway.wait_for("lines", "through stops"), "the gateway has not stored all trees")
             asked = []
             for moment in moments(first, int(count * share), draw):
                 day = service_time(moment, first)

@@ -30,11 +30,11 @@ class Askers:
         for number in range(self.count):
             self._stores.put(Path(shutil.copy(store, f"{store}-{number}")))
 
-    def ask(self, start: str, end: str, *more: str) -> Any:
-        """The answer; none if there is none."""
+    def ask(self, start: str, end: str, *more: str, form: str = "json") -> Any:
+        """The answer in a format; none if there is none."""
         store = self._stores.get()
         try:
-            words = ["ask", *self._words, f"--from={start}", f"--to={end}", "--format", "json", f"--store={store}", *more]
+            words = ["ask", *self._words, f"--from={start}", f"--to={end}", "--format", form, f"--store={store}", *more]
             status, out, _ = tp(self._program, *words)
         finally:
             self._stores.put(store)
@@ -83,20 +83,20 @@ class Gateway:
             time.sleep(0.2)
         return False
 
-    def wait_for(self, status: str) -> bool:
-        """Whether the health has a status within a time."""
+    def wait_for(self, name: str, value: str) -> bool:
+        """Whether the health has a value within a time."""
         end = time.monotonic() + SECONDS
         while time.monotonic() < end:
-            if self.get("/api/v1/health").json["status"] == status:
+            if self.get("/api/v1/health").json[name] == value:
                 return True
         return False
 
-    def planner(self) -> int | None:
-        """The number of the process of `tp serve`."""
+    def planner(self, form: bytes = b"json") -> int | None:
+        """The number of the process of `tp serve` that replies in a format."""
         children = Path(f"/proc/{self.process.pid}/task/{self.process.pid}/children")
         for child in children.read_text().split():
             words = Path(f"/proc/{child}/cmdline").read_bytes().split(b"\0")
-            if words[1:2] == [b"serve"]:
+            if words[1:2] == [b"serve"] and b"--format=" + form in words:
                 return int(child)
         return None
 
