@@ -259,6 +259,22 @@ def look_at_unready(look: Look, program: str, room: Path, browser: Chrome) -> No
         look(gateway.end()[0] == 0, "a gateway whose tp never replies did not end with status 0")
 
 
+def take_screenshot(look: Look, program: str, room: Path) -> None:
+    """Opens the page, looks at what it shows, and keeps a picture."""
+    make_feed(room / "named")
+    gateway = Gateway(program, "--feed", str(room / "named"), "--date", "20240102", "--store", str(room / "page"))
+    look(gateway.wait(True) and gateway.wait_for("lines", "through stops"), "the gateway has not stored all trees")
+    browser = chromium()
+    try:
+        page = Page(browser, gateway.address)
+        look_at_typing(look, page)
+        look_at_journeys(look, page)
+        keep_screenshot(page)
+    finally:
+        browser.quit()
+    look(gateway.end()[0] == 0, "the gateway under the page did not end with status 0")
+
+
 def look_at_page(look: Look, program: str, room: Path) -> None:
     make_feed(room / "named")
     words = ["--feed", str(room / "named"), "--date", "20240102", "--store", str(room / "page")]
@@ -271,7 +287,6 @@ def look_at_page(look: Look, program: str, room: Path) -> None:
         look_at_typing(look, page)
         look_at_journeys(look, page)
         look_at_looks(look, page)
-        keep_screenshot(page)
         look_at_the_address(look, page)
         look_at_refusals(look, page)
         look_at_a_refused_stop(look, page)
