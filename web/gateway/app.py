@@ -37,16 +37,13 @@ def policy_of(settings: Settings) -> str:
     return f"default-src 'none'; script-src 'self'; style-src 'self'; connect-src 'self'; base-uri 'none'; form-action 'self'; {images}"
 
 
-async def tell_refusal(_: Request, refusal: Refusal) -> Response:
-    return refused(refusal)
-
-
-async def tell_http(_: Request, error: HTTPException) -> Response:
-    name = {404: "NotFound", 405: "BadMethod"}.get(error.status_code, "BadRequest")
-    return refused(Refusal(error.status_code, name, error.detail))
-
-
-async def tell_error(_: Request, __: Exception) -> Response:
+async def tell(_: Request, error: Exception) -> Response:
+    """The response that an exception becomes."""
+    if isinstance(error, Refusal):
+        return refused(error)
+    if isinstance(error, HTTPException):
+        name = {404: "NotFound", 405: "BadMethod"}.get(error.status_code, "BadRequest")
+        return refused(Refusal(error.status_code, name, error.detail))
     return refused(Refusal(500, "Fault", "the gateway is at fault"))
 
 
@@ -71,14 +68,14 @@ class Handlers:
         return JSONResponse({"tiles": self._settings.tiles, "attribution": self._settings.attribution})
 
 
-def application(settings: Settings, tell: Tell) -> Starlette:
+def application(settings: Settings, tell_fault: Tell) -> Starlette:
     """The application over a planner, which lives as long as it does."""
     planner = Planner(settings)
     handlers = Handlers(planner, settings)
 
     @contextlib.asynccontextmanager
     async def life(_: Starlette) -> AsyncIterator[None]:
-        planner.start(tell)
+        planner.start(tell_fault)
         yield
         await planner.close()
 
@@ -89,6 +86,6 @@ def application(settings: Settings, tell: Tell) -> Starlette:
             Mount("/leaflet", StaticFiles(directory=LEAFLET)), Mount("/", StaticFiles(directory=PAGE, html=True)),
         ],
         middleware=[Middleware(Guard, policy=policy_of(settings))],
-        exception_handlers={Refusal: tell_refusal, HTTPException: tell_http, Exception: tell_error},
+        exception_handlers={Refusal: tell, HTTPException: tell, Exception: tell},
         lifespan=life,
     )

@@ -26,7 +26,9 @@ class Guard:
             await self._app(scope, receive, send)
             return
         refusal = self._refusal(scope)
-        app = refused(refusal) if refusal else self._app
+        app = self._app
+        if refusal is not None:
+            app = refused(refusal)
         self._running += 1
         try:
             await app(scope, receive, self._with_headers(scope, send))

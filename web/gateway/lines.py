@@ -42,7 +42,7 @@ class Lines:
     async def _run_over_copy(self, store: Path) -> None:
         with tempfile.TemporaryDirectory(prefix=f".{store.name}-", dir=store.parent) as folder:
             copy = Path(folder) / "lines"
-            await asyncio.to_thread(shutil.copyfile, store, copy)
+            await asyncio.to_thread(lambda: shutil.copyfile(store, copy))
             self._pipe = Pipe(self._settings.serve_words(copy, "geojson"), QUESTIONS_IN_THE_PIPE, SECONDS)
             fault = await self._pipe.run()
             if fault is not None:
@@ -54,12 +54,13 @@ class Lines:
 
     async def of(self, question: bytes) -> list[dict[str, Any]]:
         """The features of a question's answer, one for each leg; none if they aren't there."""
-        if not self.is_ready:
+        if self._pipe is None or not self._pipe.is_ready:
             return []
         try:
-            return json.loads(await self._pipe.ask(question)).get("features", [])
+            told: dict[str, Any] = json.loads(await self._pipe.ask(question))
         except Refusal:
             return []
+        return told.get("features", [])
 
 
 def lines_of(features: list[dict[str, Any]], answer: dict[str, Any]) -> list[Line | None]:

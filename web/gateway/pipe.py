@@ -11,6 +11,7 @@ import logging
 import time
 from dataclasses import dataclass
 
+from .processes import end, kill, start, streams_of
 from .refusals import busy
 from .settings import BYTES_OF_A_REPLY
 
@@ -93,48 +94,36 @@ class Pipe:
         self._is_closing = True
         if self._process is None:
             return
-        self._process.stdin.close()
-        try:
-            await asyncio.wait_for(self._process.wait(), seconds)
-        except TimeoutError:
-            self._kill()
+        streams_of(self._process)[0].close()
+        await end(self._process, seconds)
 
     async def _live(self) -> int:
         """Starts a process, takes its replies to their end, and gives its status."""
-        pipes = {"stdin": asyncio.subprocess.PIPE, "stdout": asyncio.subprocess.PIPE, "stderr": asyncio.subprocess.PIPE}
         try:
-            process = await asyncio.create_subprocess_exec(*self._words, **pipes, limit=BYTES_OF_A_REPLY, start_new_session=True)
+            process = await start(self._words)
         except OSError as error:
             self._errors.append(str(error))
             return NO_SUCH_PROGRAM
         self._process = process
         self.starts += 1
-        errors = asyncio.create_task(self._take_errors(process.stderr))
+        _, replies, told = streams_of(process)
+        errors = asyncio.create_task(self._take_errors(told))
         self._begin()
         try:
-            await self._take_replies(process.stdout)
+            await self._take_replies(replies)
         finally:
             self.is_ready = False
             if not self._is_closing:
                 self._process = None
-                await self._leave(process)
+                await end(process, SECONDS_OF_A_LEAVE)
             await asyncio.wait({errors}, timeout=SECONDS_OF_A_LEAVE)
             errors.cancel()
         return await process.wait()
 
-    @staticmethod
-    async def _leave(process: asyncio.subprocess.Process) -> None:
-        """Waits for the end of a process whose output has ended, and kills it if it does not come."""
-        try:
-            await asyncio.wait_for(process.wait(), SECONDS_OF_A_LEAVE)
-        except TimeoutError:
-            with contextlib.suppress(ProcessLookupError):
-                process.kill()
-
     def _send(self, asked: Asked) -> None:
-        if self._process is not None and not self._process.stdin.is_closing():
+        if self._process is not None and not self._is_closing:
             asked.sent = time.monotonic()
-            self._process.stdin.write(asked.line)
+            streams_of(self._process)[0].write(asked.line)
 
     def _begin(self) -> None:
         """Sends a line that is no question, whose reply says that the process is ready, and the questions that wait. One at which several
@@ -189,5 +178,4 @@ class Pipe:
 
     def _kill(self) -> None:
         if self._process is not None:
-            with contextlib.suppress(ProcessLookupError):
-                self._process.kill()
+            kill(self._process)

@@ -52,7 +52,7 @@ class Planner:
         reply = json.loads(told)
         if "fault" in reply:
             raise refusal_of(reply["fault"])
-        asked = {"fromPlace": query.start, "toPlace": query.end, "time": moment.astimezone(self._zone).isoformat()}
+        asked: dict[str, Any] = {"fromPlace": query.start, "toPlace": query.end, "time": moment.astimezone(self._zone).isoformat()}
         return plan_of(reply, lines_of(features, reply), asked if query.count is None else {**asked, "numItineraries": query.count})
 
     def health(self) -> tuple[int, dict[str, Any]]:

@@ -1,12 +1,12 @@
 """Stops and stations by a part of their name, from `tp stops`."""
 import asyncio
 import collections
-import contextlib
 import re
 from dataclasses import dataclass
 
+from .processes import kill, start
 from .refusals import Refusal, busy
-from .settings import BYTES_OF_A_REPLY, SEARCHES_AT_ONCE, SECONDS_OF_A_SEARCH, Settings
+from .settings import SEARCHES_AT_ONCE, SECONDS_OF_A_SEARCH, Settings
 
 ESCAPED = re.compile(r"\\(?:\\|u\{([0-9a-f]{1,6})\})")
 MORE = re.compile(r"more \d+")
@@ -42,19 +42,16 @@ def stops_of(lines: str) -> list[Stop]:
     return [Stop(*map(plain, line.split("\t"))) for line in lines.split("\n") if line and not MORE.fullmatch(line)]
 
 
-async def run_stops(words: list[str], seconds: float | None) -> list[Stop]:
+async def run_stops(words: list[str]) -> list[Stop]:
     """Runs `tp stops` to its end."""
-    pipes = {"stdin": asyncio.subprocess.DEVNULL, "stdout": asyncio.subprocess.PIPE, "stderr": asyncio.subprocess.PIPE}
     try:
-        process = await asyncio.create_subprocess_exec(*words, **pipes, limit=BYTES_OF_A_REPLY, start_new_session=True)
+        process = await start(words)
     except OSError as error:
         raise StopsFault(127, str(error)) from error
     try:
-        out, err = await asyncio.wait_for(process.communicate(), seconds)
+        out, err = await process.communicate()
     finally:
-        if process.returncode is None:
-            with contextlib.suppress(ProcessLookupError):
-                process.kill()
+        kill(process)
     if process.returncode:
         raise StopsFault(process.returncode, err.decode(errors="replace").strip())
     return stops_of(out.decode())
@@ -69,7 +66,7 @@ class StopSearch:
         self._found: collections.OrderedDict[str, list[Stop]] = collections.OrderedDict()
 
     async def all(self) -> list[Stop]:
-        return await run_stops(self._settings.stops_words("--all"), None)
+        return await run_stops(self._settings.stops_words("--all"))
 
     async def find(self, text: str) -> list[Stop]:
         """The first stops whose id or name contains the text."""
@@ -78,7 +75,7 @@ class StopSearch:
             return self._found[text]
         try:
             async with asyncio.timeout(SECONDS_OF_A_SEARCH), self._turns:
-                found = await run_stops(self._settings.stops_words("--", text), None)
+                found = await run_stops(self._settings.stops_words("--", text))
         except TimeoutError as error:
             raise busy("the search has not ended in time") from error
         except StopsFault as error:

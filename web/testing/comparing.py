@@ -23,7 +23,9 @@ def points_of(line: Json) -> list[tuple[float, float]]:
 
 def features_of(collection: Json | None, number: int) -> list[Json] | None:
     """The features of a journey's legs."""
-    return collection and [it for it in collection["features"] if it["properties"]["journey"] == number]
+    if collection is None:
+        return None
+    return [it for it in collection["features"] if it["properties"]["journey"] == number]
 
 
 def is_place(told: Json, place: Json) -> bool:
@@ -58,8 +60,8 @@ def is_leg(told: Json, leg: Json, feature: Json | None) -> bool:
 def is_journey(told: Json, journey: Json, features: list[Json] | None) -> bool:
     same = (told["startTime"], told["endTime"]) == (journey["departure"]["iso"], journey["arrival"]["iso"])
     same &= told["duration"] == journey["seconds"] and told["transfers"] == max(journey["rides"] - 1, 0)
-    features = features or [None] * len(journey["legs"])
-    return same and len(told["legs"]) == len(journey["legs"]) and all(map(is_leg, told["legs"], journey["legs"], features))
+    wanted: list[Json | None] = [None] * len(journey["legs"]) if features is None else [*features]
+    return same and len(told["legs"]) == len(journey["legs"]) == len(wanted) and all(map(is_leg, told["legs"], journey["legs"], wanted))
 
 
 def is_plan(told: Json, answer: Json, collection: Json | None = None) -> bool:

@@ -47,6 +47,14 @@ def is_reached(host: str, port: int) -> bool:
     return True
 
 
+def kill_planner(gateway: Gateway) -> int:
+    """Kills `tp serve`, and gives the number of its process."""
+    planner = gateway.planner() or 0
+    if planner:
+        os.kill(planner, signal.SIGKILL)
+    return planner
+
+
 def look_at_an_end(look: Look, program: str, room: Path) -> None:
     """A `tp` that is killed is started again, and SIGTERM ends both; the store then has all trees."""
     options = ["--feed", str(DEMO), "--date", "20240102", "--store", str(room / "life")]
@@ -56,13 +64,12 @@ def look_at_an_end(look: Look, program: str, room: Path) -> None:
     look_at_speed(look, gateway)
     look(is_reached("127.0.0.1", port) and not is_reached("127.0.0.2", port), "it listens at another address than 127.0.0.1")
     for _ in range(3):
-        killed = gateway.planner()
-        os.kill(killed, signal.SIGKILL)
+        killed = kill_planner(gateway)
         reply = gateway.get(f"/api/v1/plan?fromPlace=A&toPlace=D&{TIME}")
         look(reply.status == 200 and len(reply.json["itineraries"]) == 2, f"after a kill the answer has status {reply.status}")
-        look(gateway.planner() not in (None, killed), "tp serve was not started again")
+        look(gateway.planner() not in (None, 0, killed), "tp serve was not started again")
     look(gateway.get("/api/v1/health").json["starts"] == 4, "the starts of tp serve are not counted")
-    os.kill(gateway.planner(), signal.SIGKILL)
+    kill_planner(gateway)
     is_told = gateway.wait_for("status", "starting") and gateway.wait_for("status", "ok")
     look(is_told, "after a kill the health isn't told before a question is asked")
     unread = unread_pages(gateway)

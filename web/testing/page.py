@@ -75,12 +75,12 @@ def make_feed(folder: Path) -> None:
 
 def chromium(preferences: dict[str, Any] | None = None) -> Chrome:
     options = Options()
-    options.binary_location = shutil.which("chromium")
+    options.binary_location = shutil.which("chromium") or ""
     for word in ("--headless=new", "--no-sandbox", "--disable-dev-shm-usage", "--disable-gpu", "--window-size=1000,820", "--lang=en"):
         options.add_argument(word)
     options.add_experimental_option("prefs", preferences or {})
     options.set_capability("goog:loggingPrefs", {"browser": "ALL"})
-    return Chrome(service=Service(shutil.which("chromedriver")), options=options)
+    return Chrome(service=Service(shutil.which("chromedriver") or ""), options=options)
 
 
 class Page:

@@ -58,7 +58,7 @@ class Gateway:
     def __init__(self, program: str, *options: str) -> None:
         words = [str(WEB / "run"), "--port", "0", "--program", program, *options]
         self.process = subprocess.Popen(words, stdout=subprocess.PIPE, stderr=subprocess.PIPE, text=True)
-        self.address = self.process.stdout.readline().strip()
+        self.address = self.process.stdout.readline().strip() if self.process.stdout else ""
         self.host = urllib.parse.urlsplit(self.address).netloc
 
     def connect(self) -> http.client.HTTPConnection:
@@ -115,5 +115,5 @@ def target(path: str, **parameters: str) -> str:
     return f"/api/v1/{path}?{urllib.parse.urlencode(parameters)}"
 
 
-def is_alive(process: int) -> bool:
+def is_alive(process: int | None) -> bool:
     return os.path.exists(f"/proc/{process}")

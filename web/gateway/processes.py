@@ -1,0 +1,36 @@
+"""Processes of `tp`, which are started without a shell and in a session of their own, so that Ctrl-C reaches the gateway alone."""
+import asyncio
+import contextlib
+
+from .settings import BYTES_OF_A_REPLY
+
+Streams = tuple[asyncio.StreamWriter, asyncio.StreamReader, asyncio.StreamReader]
+
+
+async def start(words: list[str]) -> asyncio.subprocess.Process:
+    """Starts a command with pipes for all that it reads and writes; OSError if it can't be."""
+    pipe = asyncio.subprocess.PIPE
+    return await asyncio.create_subprocess_exec(
+        *words, stdin=pipe, stdout=pipe, stderr=pipe, limit=BYTES_OF_A_REPLY, start_new_session=True)
+
+
+def streams_of(process: asyncio.subprocess.Process) -> Streams:
+    """The three streams of a process that was started here."""
+    if process.stdin is None or process.stdout is None or process.stderr is None:
+        raise RuntimeError("the process has no pipes")
+    return process.stdin, process.stdout, process.stderr
+
+
+def kill(process: asyncio.subprocess.Process) -> None:
+    """Kills a process, if it hasn't ended."""
+    if process.returncode is None:
+        with contextlib.suppress(ProcessLookupError):
+            process.kill()
+
+
+async def end(process: asyncio.subprocess.Process, seconds: float) -> None:
+    """Waits for the end of a process, and kills it if it does not come in time."""
+    try:
+        await asyncio.wait_for(process.wait(), seconds)
+    except TimeoutError:
+        kill(process)
