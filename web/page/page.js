@@ -49,7 +49,7 @@ class Page {
         this.refuse("");
         try {
             const question = await this.question();
-            if (question && !signal.aborted) this.show(question, await this.answer(question, signal));
+            if (question && !signal.aborted) this.show(question.time, await this.answer(question, signal));
         } catch (error) {
             if (error.name !== "AbortError") this.fail(error);
         }
@@ -74,19 +74,22 @@ class Page {
         const held = new URLSearchParams(window.location.search);
         const [from, to, time] = [held.get("fromPlace"), held.get("toPlace"), held.get("time")];
         if (!from || !to || !time) return;
-        this.from.input.value = from;
-        this.to.input.value = to;
+        this.from.choose({ id: from, name: from });
+        this.to.choose({ id: to, name: to });
         by("when").value = time.slice(0, 16);
         await this.ask();
     }
 
-    show({ from, to, time }, answer) {
-        const held = new URLSearchParams({ fromPlace: from.id, toPlace: to.id, time });
+    show(time, answer) {
+        const { from, to } = answer;
+        this.from.choose({ id: from.stopId, name: from.name });
+        this.to.choose({ id: to.stopId, name: to.name });
+        const held = new URLSearchParams({ fromPlace: from.stopId, toPlace: to.stopId, time });
         window.history.replaceState(null, "", `?${held}`);
         const journeys = [...answer.direct, ...answer.itineraries];
         const count = journeys.length === 1 ? "1 journey" : `${journeys.length || "No"} journeys`;
         this.clear(`${count} from ${from.name} to ${to.name}, at ${time.slice(11, 16)} on ${time.slice(0, 10)} or later.`);
-        fill(by("journeys"), journeys, time, (journey) => this.map.show(journey, answer.from, answer.to));
+        fill(by("journeys"), journeys, time, (journey) => this.map.show(journey, from, to));
         by("results").focus({ preventScroll: true });
     }
 

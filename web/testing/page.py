@@ -197,14 +197,8 @@ def look_at_refusals(look: Look, page: Page) -> None:
 
 
 def look_at_a_refused_stop(look: Look, page: Page) -> None:
-    """A stop that the planner refuses: the suggestions still have it."""
-    page.browser.execute_script("""
-        const real = window.fetch;
-        window.fetch = async (path, ...more) => (String(path).includes("geocode")
-            ? new Response('[{"type":"STOP","id":"GONE","name":"Gone","tokens":[],"areas":[],"score":1}]') : real(path, ...more));""")
-    field = page.find("#to")
-    field.clear()
-    field.send_keys("gone", Keys.ENTER)
+    """A stop that the planner refuses, in an address that was kept from an older feed."""
+    page.browser.get(page.browser.current_url.replace("toPlace=N", "toPlace=GONE"))
     look(page.wait(lambda: "no stop or station has this id. The stop is GONE." in page.find("#refused").text),
          f"a refused stop is told as {page.find('#refused').text!r}")
 
