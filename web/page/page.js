@@ -19,10 +19,20 @@ class Page {
             event.preventDefault();
             this.ask();
         });
+        by("question").addEventListener("input", () => this.leave());
         by("swap").addEventListener("click", () => this.swap());
     }
 
+    // Gives up a question that is still asked, since its fields have changed.
+    leave() {
+        if (!this.asking) return;
+        this.asking.abort();
+        this.asking = null;
+        by("told").textContent = "The question has changed.";
+    }
+
     swap() {
+        this.leave();
         const [from, to] = [this.from, this.to];
         [from.stop, to.stop] = [to.stop, from.stop];
         [from.input.value, to.input.value] = [to.input.value, from.input.value];
@@ -49,10 +59,13 @@ class Page {
         this.refuse("");
         try {
             const question = await this.question();
-            if (question && !signal.aborted) this.show(question.time, await this.answer(question, signal));
+            signal.throwIfAborted();
+            if (question) this.show(question.time, await this.answer(question, signal));
         } catch (error) {
-            if (error.name !== "AbortError") this.fail(error);
+            if (signal.aborted) return;
+            this.fail(error);
         }
+        this.asking = null;
     }
 
     // The answer. While trees are computed it is asked again, as often as the planner says.
@@ -61,10 +74,10 @@ class Page {
             try {
                 return await plan(from.id, to.id, time, signal);
             } catch (error) {
-                if (signal.aborted || !error.retry || tries === TRIES) throw error;
-                this.clear(`Not ready yet: ${error.message}. The planner is asked again in ${error.retry} seconds.`);
+                if (!error.retry || tries === TRIES) throw error;
+                this.clear(`Not ready yet: ${error.message}. The planner is asked again in ${error.retry} s.`);
                 await wait(error.retry);
-                if (signal.aborted) throw error;
+                signal.throwIfAborted();
             }
         }
     }

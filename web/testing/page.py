@@ -203,6 +203,23 @@ def look_at_a_refused_stop(look: Look, page: Page) -> None:
          f"a refused stop is told as {page.find('#refused').text!r}")
 
 
+def look_at_a_tree_that_comes(look: Look, page: Page, address: str) -> None:
+    """A question that is refused as not stored is asked again; what the gateway says first is put in its place here."""
+    page.browser.get(address)
+    page.browser.execute_script("""
+        const real = window.fetch;
+        let plans = 0;
+        window.fetch = async (path, ...more) => {
+            if (!String(path).includes("api/v1/plan") || (plans += 1) > 1) return real(path, ...more);
+            const body = '{"error":"the journeys from this stop are still being computed","name":"NotStored","stopId":"H"}';
+            return new Response(body, { status: 503, headers: { "Retry-After": "2" } });
+        };""")
+    page.find("#from").send_keys("port")
+    page.find("#to").send_keys("castle", Keys.ENTER)
+    look(page.wait(lambda: "asked again in 2 s" in page.find("#told").text), f"it tells {page.find('#told').text!r}")
+    look(page.wait(lambda: len(page.all("#journeys summary")) == 2), "the question isn't asked again")
+
+
 def look_at_looks(look: Look, page: Page) -> None:
     """Widths, contrast, names for screen readers, and what the browser complains of."""
     for scheme in ("light", "dark"):
@@ -284,6 +301,7 @@ def look_at_page(look: Look, program: str, room: Path) -> None:
         look_at_the_address(look, page)
         look_at_refusals(look, page)
         look_at_a_refused_stop(look, page)
+        look_at_a_tree_that_comes(look, page, gateway.address)
         complaints = [it["message"] for it in browser.get_log("browser") if "400 (Bad Request)" not in it["message"]]
         look(not complaints, f"the browser complains: {json.dumps(complaints[:3])}")
         look_at_unready(look, program, room, browser)
