@@ -135,7 +135,7 @@ def look_at_load(look: Look, program: str, room: Path, draw: random.Random) -> N
     questions = [(draw.choice(ids[:SOURCES]), draw.choice(ids), clock(draw.randrange(5 * 3600, 22 * 3600))) for _ in range(QUESTIONS)]
     questions += [(draw.choice(ids[-20:]), draw.choice(ids), "08:00:00") for _ in range(20)]
     targets = [target("plan", fromPlace=start, toPlace=end, time=f"2024-01-02T{at}Z") for start, end, at in questions]
-    gateway = Gateway(program, *words, "--store", str(store), "--workers", "1")
+    gateway = Gateway(program, *words, "--store", str(store), "--workers", "1", "--straight")
     look(gateway.wait(False), "the gateway did not become ready")
     asked, lost, killed = run_clients(gateway, targets, draw)
     look(len(killed) == KILLS, f"only {len(killed)} times was tp killed")
