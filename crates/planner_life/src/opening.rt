@@ -12,6 +12,7 @@ ghost use Rattle.store_excerpt.specs.Board.{IsBoardOf, AreRight, AreWholeAmong, 
 ghost use Rattle.recovery.specs.Opening.{StandsForSources, IsOpening};
 ghost use Rattle.store_excerpt.specs.Excerpt.{ShowsWhole, disk_after};
 ghost use Rattle.planner_life.specs.Desk.{IsSound};
+ghost use Rattle.planner_life.specs.Gates.{EndsAt};
 
 use crate::desk::Desk;
 use crate::tools::Tools;
@@ -61,6 +62,8 @@ impl<D: Disk> Desk<D> {
         ensures ready { IfOk result (λ desk. desk.next ≡ Step.WriteBody) }
         ensures stored { D.honest disk → IfOk result (λ desk.
             StandsForSources (form_of (arc_value table.now) rides) desk.stored (D.state disk).read) }
+        ensures ends { D.honest disk → IfOk result (λ desk.
+            EndsAt (form_of (arc_value table.now) rides) (D.state disk).read desk.stored desk.place) }
         ensures sound { D.honest disk → IfOk result (λ desk. IsSound D.honest D.state desk) }
         ensures refused { D.honest disk → IfErr result
             (λ e. IsOutside e.0 ⊎ StandsForNoList (form_of (arc_value table.now) rides) (D.state disk).read) }

@@ -79,3 +79,15 @@ returns-in-Err-prepare-clause-moments g c = λ honest.
       trusts = c.in-Ok.ensures.trusted honest;
     } in
     subst (λ d. IsOpening form s (g.D.Disk.state d)) (sym c.into_disk.ensures) opening
+
+pub returns-in-Ok-prepare-clause-ends : goal.returns-in-Ok-prepare-clause-ends
+returns-in-Ok-prepare-clause-ends g c = λ honest.
+    let begins = (c.in-Ok.ensures.holds honest).rest.begins in
+    record {
+      trees = c.in-Ok.recovered.trees.items;
+      stands = c.in-Ok.ensures.stands honest;
+      are = c.in-Ok.ensures.stored;
+      texts = begins.texts;
+      of = begins.of;
+      there = begins.there;
+    }
