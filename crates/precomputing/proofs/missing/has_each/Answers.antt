@@ -13,8 +13,7 @@ returns-then-not-has g c =
     let known : c.new.result < stops_of c.args.desk.now.form.table = omega (arith, same, c.requires.own) in
     let marked : c.has.result ≡ is_among n stored = c.has.ensures known ∙ ap (λ (s : ℕ). is_among s stored) same in
     let lacks : is_among n stored ≡ false = sym marked ∙ c.if-not-has.true in
-    let whole : n + 1 + (c.args.stops - (n + 1)) ≡ c.args.stops = omega arith in
-    (
+    let whole : n + 1 + (c.args.stops - (n + 1)) ≡ c.args.stops = omega arith in (
       λ is. absurd cc,
       λ none. absurd (one_missing stored n (c.args.stops - (n + 1)) lacks (ap (λ (k : ℕ). missing_of k stored) whole ∙ none)),
     )
