@@ -9,7 +9,6 @@ use commands::{Asked, Teller};
 use feed_basis::Basis;
 use feed_names::open_names;
 use gtfs_tables::{FaultKind, FeedFault, FeedFile};
-use gtfs_text::Sheet;
 use itineraries::{Asked as AskedFor, itinerary_of, stop_list_of};
 use itinerary_texts::{Itinerary, StopList};
 use program_inputs::{Fault, Settings};
