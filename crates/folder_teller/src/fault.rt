@@ -64,7 +64,7 @@ fn text_of<'a>(
     }
 }
 
-/// A fault that is shown so, of no file and no id, with the status that it goes with, as an object of JSON, on one line, without a line's
+/// A fault of no file and no id that is shown so, with its status, as an object of JSON. The object stands on one line, without a line's
 /// end. It fails only if memory runs out.
 pub(crate) fn named_fault_json(
     alloc: Global,

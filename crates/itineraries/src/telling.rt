@@ -284,8 +284,8 @@ impl Teller<'_> {
     }
 }
 
-/// What is told of an answer, whose rides and walks are there, to what was asked over the basis, by the clock, with the names that the
-/// sheets have. It fails only if memory runs out.
+/// What is told of an answer to what was asked over the basis. The answer has its rides and walks; times are by the clock, and names are
+/// those that the sheets have. It fails only if memory runs out.
 pub fn itinerary_of<'a>(
     alloc: Global,
     basis: &Basis,
@@ -298,8 +298,8 @@ pub fn itinerary_of<'a>(
     itinerary_by(alloc, basis, clock, &names, asked, answer)
 }
 
-/// What is told of an answer, whose rides and walks are there, to what was asked over the basis, by the clock, with these names. It fails
-/// only if memory runs out.
+/// What is told of an answer to what was asked over the basis. The answer has its rides and walks; times are by the clock, and names are
+/// these. It fails only if memory runs out.
 pub fn itinerary_by<'a>(
     alloc: Global,
     basis: &Basis,

@@ -46,7 +46,7 @@ fn stop_at<'a>(basis: &'a Basis, call: &Call) -> &'a str {
     }
 }
 
-// The calls of the ride's trip, from the one at which it boards to the one at which it alights, if these are calls of it.
+// The calls between the one at which the ride boards and the one at which it alights, if these calls have both.
 fn calls_of<'a>(basis: &Basis, ride: &Ride<'_>, calls: &'a [Call]) -> Option<&'a [Call]> {
     let boards = calls.iter().position(|call| call.departure == ride.departs
         && stop_at(basis, call) == ride.from)?;
@@ -66,7 +66,7 @@ fn is_of(basis: &Basis, instance: usize, trip: &str) -> bool
         == trip
 }
 
-// The calls of a ride's trip between the one where it boards and the one where it alights, on the day on which it is ridden.
+// The calls between a ride's ends, as its trip has them on the day of the ride.
 fn calls_between<'a>(basis: &'a Basis, ride: &Ride<'_>) -> &'a [Call] {
     for (number, instance) in basis.timetable().instances().iter().enumerate() {
         if is_of(basis, number, ride.trip)
@@ -78,8 +78,8 @@ fn calls_between<'a>(basis: &'a Basis, ride: &Ride<'_>) -> &'a [Call] {
     &[]
 }
 
-/// The ids of the stops that a ride calls at between the one where it boards and the one where it alights; none of a walk. It fails only
-/// if memory runs out. The time grows with the timetable's trips on days.
+/// The ids of the stops that a ride calls at between its ends; none of a walk. It fails only if memory runs out. The time grows with the
+/// timetable's trips on days.
 pub(crate) fn stops_between<'a>(
     alloc: Global,
     basis: &'a Basis,

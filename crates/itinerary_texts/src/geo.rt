@@ -81,8 +81,8 @@ fn write_ends(out: &mut JsonWriter, leg: &Leg) {
     out.member("arrival", &leg.to.time.iso);
 }
 
-// Writes what is told of a ride or a walk on a map: the number of its journey, from 1, and how many stops its shape leaves out, since the
-// feed has no position of theirs.
+// Writes what is told of a ride or a walk on a map. Its journey has a number from 1, and stops are left out if the feed has no position of
+// theirs.
 fn write_properties(out: &mut JsonWriter, journey: usize, leg: &Leg, left_out: usize) {
     out.begin_object();
     out.member("journey", &journey);
@@ -133,8 +133,8 @@ fn write_journeys(
     Ok(())
 }
 
-/// The rides and walks of the journeys as GeoJSON, on one line, without a line's end: a feature for each, in the order of the journeys,
-/// through the stops that a ride calls at. It fails only if memory runs out.
+/// The rides and walks of the journeys as GeoJSON, on one line, without a line's end. There is a feature for each, in the order of the
+/// journeys, through the stops that a ride calls at. It fails only if memory runs out.
 pub fn geojson(alloc: Global, itinerary: &Itinerary<'_>) -> Result<String, AllocError> {
     let mut out = JsonWriter::new(alloc);
     write_journeys(alloc, &mut out, &itinerary.journeys)?;

@@ -122,8 +122,8 @@ impl fmt::Display for Itinerary<'_> {
     }
 }
 
-/// The journeys for people, a block for each: when it departs and arrives, in how many minutes and by how many rides, and beneath that each
-/// ride and walk by its names. Times are those of the zone's clock, and minutes are rounded up. It fails only if memory runs out.
+/// The journeys for people, a block for each. It says when the journey departs and arrives, its minutes and its rides, and beneath that
+/// each ride and walk by its names. Times are those of the zone's clock, and minutes are rounded up. It fails only if memory runs out.
 pub fn people_text(alloc: Global, itinerary: &Itinerary<'_>) -> Result<String, AllocError> {
     format!(in alloc; "{itinerary}")
 }
