@@ -3,7 +3,9 @@
 mod crashes;
 mod events;
 mod fresh;
+mod ledger;
 mod lives;
+mod opened;
 mod replies;
 mod runs;
 mod stops;

@@ -19,8 +19,10 @@ use work_ledger::Outcome;
 pub enum Event {
     Claim(u8),
     HandIn(u8, usize),
+    GiveBack(u8, u16),
     Take,
     Ack(u16, Outcome),
+    Stop,
     WriteBody(bool),
     SyncBody(bool),
     OpenGate(bool),
@@ -39,6 +41,9 @@ pub enum Wanted {
     Tree(usize),
     Done,
     NotYours,
+    Full,
+    Empty,
+    Closed,
     Made,
     Failed,
     Receipt(usize),
@@ -66,8 +71,10 @@ pub fn step_of(alloc: Global, sample: &Sample, event: Event) -> Result<Step, Fai
             Some(tree) => Step::HandIn(seat, tree.try_copy(alloc)?),
             None => return Err(Fail::new("no such tree")),
         },
+        Event::GiveBack(seat, source) => Step::GiveBack(seat, stop(source)),
         Event::Take => Step::Take,
         Event::Ack(source, outcome) => Step::Ack(stop(source), outcome),
+        Event::Stop => Step::Stop,
         Event::WriteBody(fails) => Step::WriteBody(fails),
         Event::SyncBody(fails) => Step::SyncBody(fails),
         Event::OpenGate(fails) => Step::OpenGate(fails),
@@ -89,7 +96,10 @@ fn is_ledgers(reply: work_ledger::Reply, wanted: Wanted) -> bool {
         }
         work_ledger::Reply::Done => matches!(wanted, Wanted::Done),
         work_ledger::Reply::NotYours => matches!(wanted, Wanted::NotYours),
-        _ => false,
+        work_ledger::Reply::Full => matches!(wanted, Wanted::Full),
+        work_ledger::Reply::Empty => matches!(wanted, Wanted::Empty),
+        work_ledger::Reply::Closed => matches!(wanted, Wanted::Closed),
+        work_ledger::Reply::OtherTimetable => false,
     }
 }
 

@@ -67,7 +67,7 @@ const SHUT_GATE: [(Event, Wanted); 9] = [
 ];
 
 // The whole put of A, and one of B that fails and is lost.
-const PUT: [(Event, Wanted); 19] = [
+const PUT: [(Event, Wanted); 20] = [
     (Event::Claim(0), Wanted::Source(0)),
     (Event::HandIn(0, 0), Wanted::Done),
     (Event::Take, Wanted::Tree(0)),
@@ -77,6 +77,7 @@ const PUT: [(Event, Wanted); 19] = [
     (Event::SyncGate(false), Wanted::Receipt(0)),
     (Event::Ask(0, 3, 28_800), Wanted::NotStored),
     (Event::Publish, Wanted::Published),
+    (Event::Publish, Wanted::Idle),
     (Event::Ask(0, 3, 28_801), Wanted::Answer(&[(32_400, 1)])),
     (Event::Ask(0, 5, 28_800), Wanted::Idle),
     (Event::Ack(0, Outcome::Keep), Wanted::Done),
