@@ -69,13 +69,23 @@ pub fn open<R: Wait>(rt: &R, alloc: Global, basis: &Basis) -> Option<Setting>
     ensures reader { IfSome result (λ s. s.reader.origin.form ≡ s.planner.form) }
     ensures board { IfSome result (λ s. s.reader.told.book ≡ s.desk.board.told.book) }
 {
+    open_on(rt, alloc, basis, MemDisk::new(alloc))
+}
+
+/// Opens a planner with the store of a disk. None where that fails.
+pub fn open_on<R: Wait>(rt: &R, alloc: Global, basis: &Basis, disk: MemDisk) -> Option<Setting>
+    ensures over { IfSome result (λ s. IsOver basis.now s.planner) }
+    ensures desk { IfSome result (λ s. s.desk.form ≡ s.planner.form) }
+    ensures ready { IfSome result (λ s. s.desk.next ≡ Step.WriteBody) }
+    ensures reader { IfSome result (λ s. s.reader.origin.form ≡ s.planner.form) }
+    ensures board { IfSome result (λ s. s.reader.told.book ≡ s.desk.board.told.book) }
+{
     let Ok(network) = basis.network(alloc) else {
         return None;
     };
     let Ok(names) = Arc::try_clone(basis.shared_names()) else {
         return None;
     };
-    let disk = MemDisk::new(alloc);
     let Ok(opened) = Planner::open(alloc, rt, disk, network, names, Rides::new(3), 1) else {
         return None;
     };
