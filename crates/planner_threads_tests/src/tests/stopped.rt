@@ -33,8 +33,8 @@ struct Built {
     disk: MemDisk,
 }
 
-// Builds the trees that the disk lacks, by so many workers.
-fn built<R: Threads + Wait + Sync>(
+// Builds the trees that the disk lacks, by that number of `workers`.
+fn build_on<R: Threads + Wait + Sync>(
     rt: &R,
     alloc: Global,
     basis: &Basis,
@@ -64,7 +64,7 @@ fn built<R: Threads + Wait + Sync>(
     })
 }
 
-// All bytes of a disk's file, which has fewer than these.
+// All bytes of a disk's file of at most 100,000.
 fn file_on(alloc: Global, disk: &mut MemDisk) -> Result<Vec<u8>, Fail> {
     let mut bytes = Vec::new(alloc);
     read_up_to(disk, 0, 100_000, &mut bytes)?;
@@ -108,7 +108,7 @@ fn claims_nothing<R: Threads + Wait + Sync>(
         outcome,
         builds,
         mut disk,
-    } = built(rt, alloc, basis, MemDisk::new(alloc), workers, &stop)?;
+    } = build_on(rt, alloc, basis, MemDisk::new(alloc), workers, &stop)?;
     let left = file_on(alloc, &mut disk)?;
     let is_rest = match &outcome {
         Outcome::Partial(missing) => is_each(missing),
@@ -125,14 +125,14 @@ fn leaves_the_file<R: Threads + Wait + Sync>(
     workers: usize,
 ) -> Result<bool, Fail> {
     let stop = Stop::new();
-    let first = built(rt, alloc, basis, MemDisk::new(alloc), 2, &stop)?;
+    let first = build_on(rt, alloc, basis, MemDisk::new(alloc), 2, &stop)?;
     let Built {
         outcome,
         builds,
         mut disk,
     } = first;
     let file = file_on(alloc, &mut disk)?;
-    let second = built(rt, alloc, basis, disk, workers, &stop)?;
+    let second = build_on(rt, alloc, basis, disk, workers, &stop)?;
     let Built {
         outcome: again,
         builds: more,
