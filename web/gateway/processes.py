@@ -1,4 +1,4 @@
-"""Processes of `tp`, which are started without a shell and in a session of their own, so that Ctrl-C reaches the gateway alone."""
+"""Processes of `tp`. Each starts without a shell and in a process group of its own, so that Ctrl-C ends only the gateway."""
 import asyncio
 import contextlib
 
