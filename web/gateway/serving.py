@@ -6,12 +6,12 @@ import sys
 from types import FrameType
 
 import uvicorn
+from uvicorn.protocols.http.h11_impl import H11Protocol
 
 from .app import application
-from .settings import SECONDS_OF_THE_END, Settings
+from .settings import SECONDS_OF_A_STILL_CONNECTION, SECONDS_OF_THE_END, Settings
 
 CONNECTIONS = 1_024
-IDLE_SECONDS = 15
 
 
 def listening(host: str, port: int) -> socket.socket:
@@ -31,6 +31,37 @@ def listening(host: str, port: int) -> socket.socket:
 def address_of(listener: socket.socket) -> str:
     host, port = listener.getsockname()[:2]
     return f"http://[{host}]:{port}/" if ":" in host else f"http://{host}:{port}/"
+
+
+class Connection(H11Protocol):
+    """A connection that is ended if nothing moves on it for a time: no bytes come in, and the client takes none of a response. Uvicorn by
+    itself waits for a first request, and for a client who doesn't read, without end."""
+
+    _received = 0
+
+    def connection_made(self, transport: asyncio.Transport) -> None:
+        super().connection_made(transport)
+        self._watch((-1, -1))
+
+    def connection_lost(self, exc: Exception | None) -> None:
+        self._watcher.cancel()
+        super().connection_lost(exc)
+
+    def data_received(self, data: bytes) -> None:
+        self._received += len(data)
+        super().data_received(data)
+
+    def timeout_keep_alive_handler(self) -> None:
+        """Closes a connection between requests. Uvicorn's timer goes on if a request had come before the response to the last one ended."""
+        if self.cycle is None or self.cycle.response_complete:
+            super().timeout_keep_alive_handler()
+
+    def _watch(self, before: tuple[int, int]) -> None:
+        """Ends the connection if it is as it was at the look before this one."""
+        now = self._received, self.transport.get_write_buffer_size()
+        if now == before:
+            self.transport.abort()
+        self._watcher = asyncio.get_running_loop().call_later(SECONDS_OF_A_STILL_CONNECTION, self._watch, now)
 
 
 class Server(uvicorn.Server):
@@ -53,16 +84,17 @@ class Service:
 
     def __init__(self, settings: Settings) -> None:
         self._status = 0
-        app = application(settings, self._tell)
+        app = application(settings, self._fail)
+        # A warning of Uvicorn has parts of a request that is no HTTP, and nothing of a request is part of a log.
         self._server = Server(uvicorn.Config(
-            app, log_level="warning", access_log=False, http="h11", ws="none", lifespan="on", loop="asyncio", server_header=False,
-            timeout_keep_alive=IDLE_SECONDS, limit_concurrency=CONNECTIONS,
+            app, log_level="error", access_log=False, http=Connection, ws="none", lifespan="on", loop="asyncio", server_header=False,
+            timeout_keep_alive=SECONDS_OF_A_STILL_CONNECTION, limit_concurrency=CONNECTIONS,
         ))
 
-    def _tell(self, status: int, told: str) -> None:
+    def _fail(self, status: int, cause: str) -> None:
         """Ends the server for a fault that no other start can mend."""
         if not self._status:
-            print(told, file=sys.stderr, flush=True)
+            print(cause, file=sys.stderr, flush=True)
         self._status = self._status or status
         self._server.should_exit = True
 
@@ -80,5 +112,3 @@ class Service:
     def _leave(_: int, __: FrameType | None) -> None:
         """Later versions of uvicorn raise the signal once more after they have ended."""
         raise SystemExit(0)
-
-

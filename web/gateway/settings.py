@@ -6,6 +6,8 @@ from pathlib import Path
 SECONDS_OF_A_QUESTION = 10.0
 SECONDS_OF_A_SEARCH = 5.0
 SECONDS_OF_THE_END = 10.0
+# More than a question or a search takes: while the planner computes, nothing moves on its connection.
+SECONDS_OF_A_STILL_CONNECTION = 15
 REQUESTS_AT_ONCE = 256
 SEARCHES_AT_ONCE = 4
 QUESTIONS_IN_THE_PIPE = 2_048
@@ -49,5 +51,5 @@ class Settings:
         return [str(self.program), "serve", *(f"{name}={value}" for name, value in options.items())]
 
     def stops_words(self, *more: str) -> list[str]:
-        """The command that looks for stops; no text behind `--` is taken for an option."""
+        """The command that looks for stops; a text after `--` is never taken for an option."""
         return [str(self.program), "stops", f"--feed={self.feed}", *more]

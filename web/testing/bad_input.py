@@ -73,7 +73,7 @@ def look_at_targets(look: Look, gateway: Gateway, prefix: str, table: dict[str, 
         reply = gateway.get(prefix + target)
         right = reply.status == 200 if status == 200 else is_refusal(reply, status)
         look(right, f"{prefix}{target[:80]} has status {reply.status} and not {status}, or does not say why: {reply.content[:200]!r}")
-        look(b"root:" not in reply.content, f"{prefix}{target[:80]} tells a file that is not the page's")
+        look(b"root:" not in reply.content, f"{prefix}{target[:80]} has a file that is not the page's")
 
 
 def raw(gateway: Gateway, data: bytes) -> bytes:
@@ -91,7 +91,9 @@ def look_at_requests(look: Look, gateway: Gateway) -> None:
     look(gateway.get("/api/v1/health", body=b"x" * 100).status == 413, "a body isn't refused with 413")
     look(gateway.get("/api/v1/health", "HEAD").status == 200, "HEAD isn't answered")
     for data in (b"\0\1\2\r\n\r\n", b"GET\r\n\r\n", b"GET /" + b"x" * 100_000 + b" HTTP/1.1\r\n\r\n",
-                 b"GET / HTTP/1.1\r\nhost: x\r\nx: " + b"y" * 100_000 + b"\r\n\r\n", b"GET /\xff HTTP/1.1\r\nhost: x\r\n\r\n"):
+                 b"GET / HTTP/1.1\r\nhost: x\r\nx: " + b"y" * 100_000 + b"\r\n\r\n", b"GET /\xff HTTP/1.1\r\nhost: x\r\n\r\n",
+                 b"GET / HTTP/1.1\r\nhost: x\r\nno header at all\r\n\r\n", b"\x16\x03\x01\x02\0\x01\0\x01\xfc\r\n\r\n",
+                 b"GET / HTTP/1.1\r\nhost: x\r\nupgrade: websocket\r\nconnection: upgrade\r\n\r\n"):
         line = raw(gateway, data)
         look(not line or line.startswith(b"HTTP/1.1 4"), f"{data[:20]!r} is answered with {line!r}")
     headers = gateway.get("/api/v1/health").headers
@@ -111,10 +113,11 @@ def look_at_bad_input(look: Look, program: str, room: Path) -> None:
     look_at_requests(look, gateway)
     look(gateway.planner() == planner, "tp serve was started again while input was bad")
     answer = gateway.get(f"/api/v1/plan?fromPlace=A&toPlace=D&{TIME}").json
-    told = [(it["startTime"], it["endTime"], it["transfers"], [leg["tripId"] for leg in it["legs"]]) for it in answer["itineraries"]]
+    found = [(it["startTime"], it["endTime"], it["transfers"], [leg["tripId"] for leg in it["legs"]]) for it in answer["itineraries"]]
     wanted = [("2024-01-02T08:05:00+00:00", "2024-01-02T09:00:00+00:00", 0, ["T3"]),
               ("2024-01-02T08:00:00+00:00", "2024-01-02T08:40:00+00:00", 1, ["T1", "T2"])]
-    look(told == wanted, f"from A to D there is {told}")
+    look(found == wanted, f"from A to D there is {found}")
     unknown = gateway.get(f"/api/v1/plan?fromPlace=A&toPlace=X&{TIME}").json
-    look((unknown["name"], unknown["stopId"]) == ("UnknownStop", "X"), f"an unknown stop is told as {json.dumps(unknown)}")
-    look(gateway.end()[0] == 0, "the gateway over the demo feed did not end with status 0")
+    look((unknown["name"], unknown["stopId"]) == ("UnknownStop", "X"), f"an unknown stop is refused as {json.dumps(unknown)}")
+    status, errors = gateway.end()
+    look((status, errors) == (0, ""), f"the gateway over the demo feed ended with status {status}, and its log has {errors[:200]!r}")

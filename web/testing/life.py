@@ -70,39 +70,49 @@ def look_at_an_end(look: Look, program: str, room: Path) -> None:
         look(gateway.planner() not in (None, 0, killed), "tp serve was not started again")
     look(gateway.get("/api/v1/health").json["starts"] == 4, "the starts of tp serve are not counted")
     kill_planner(gateway)
-    is_told = gateway.wait_for("status", "starting") and gateway.wait_for("status", "ok")
-    look(is_told, "after a kill the health isn't told before a question is asked")
+    is_seen = gateway.wait_for("status", "starting") and gateway.wait_for("status", "ok")
+    look(is_seen, "the health doesn't show a kill before a question is asked")
     unread = unread_pages(gateway)
     look(gateway.wait_for("lines", "through stops"), "there is no second tp serve for lines")
     planner, drawer = gateway.planner(), gateway.planner(b"geojson")
-    since = time.monotonic()
     status, errors = gateway.end()
-    took = time.monotonic() - since
-    look(status == 0 and took < 25, f"SIGTERM ended with status {status} after {took:.1f} s, beside a client that doesn't read")
+    look(status == 0, f"SIGTERM ended with status {status}, beside a client that doesn't read")
     unread.close()
-    look(errors.count("tp ended with status -9") == 4, f"the kills are told as {errors!r}")
+    look(errors.count("tp ended with status -9") == 4, f"the kills are reported as {errors!r}")
     look(not is_alive(planner) and not is_alive(drawer), "tp serve lives on")
     look(not list(room.glob(".life-*")), "the copy of the store is still there")
     look(sorted(tp(program, "list", *options)[1].split()) == list("ABCDE"), "the store lacks trees")
 
 
-def unread_pages(gateway: Gateway) -> socket.socket:
-    """A connection on which large files are asked for, and nothing is read."""
+def connected(gateway: Gateway, data: bytes = b"") -> socket.socket:
+    """A connection on which some bytes are sent."""
     connection = socket.create_connection(("127.0.0.1", int(gateway.host.rsplit(":", 1)[1])), timeout=60)
-    connection.sendall(b"GET /leaflet/leaflet.js HTTP/1.1\r\nhost: x\r\n\r\n" * 100)
+    connection.sendall(data)
     return connection
 
 
+def reply_on(connection: socket.socket) -> bytes:
+    """All bytes that come on a connection until it is closed, which this client doesn't do."""
+    with connection, connection.makefile("rb") as stream:
+        return stream.read()
+
+
+def unread_pages(gateway: Gateway) -> socket.socket:
+    """A connection on which large files are asked for, and nothing is read."""
+    return connected(gateway, b"GET /leaflet/leaflet.js HTTP/1.1\r\nhost: x\r\n\r\n" * 100)
+
+
 def look_at_speed(look: Look, gateway: Gateway) -> None:
-    """On a connection that is kept, a reply isn't held back until the one before it was acknowledged, which takes 40 ms."""
+    """On a connection that is kept, a reply isn't held back until the one before it was acknowledged. That would take 40 ms each time, but
+    for the first few; so the least of the later times shows it on a busy machine too."""
     connection, times = gateway.connect(), []
-    for _ in range(51):
+    for _ in range(50):
         since = time.monotonic()
         connection.request("GET", "/api/v1/health")
         connection.getresponse().read()
         times.append(time.monotonic() - since)
     connection.close()
-    look(sorted(times)[25] < 0.03, f"half of the replies took {sorted(times)[25] * 1000:.0f} ms or more")
+    look(min(times[25:]) < 0.03, f"each of 25 replies took {min(times[25:]) * 1000:.0f} ms or more")
 
 
 def script(path: Path, text: str) -> str:
@@ -120,34 +130,26 @@ def look_at_a_fatal_question(look: Look, program: str, room: Path) -> None:
     look(gateway.wait(True), "the gateway with a fragile tp has not stored all trees")
     reply = gateway.get(f"/api/v1/plan?fromPlace=FATAL&toPlace=D&{TIME}")
     look(reply.status == 503 and reply.headers["Retry-After"], f"a question at which tp ends has status {reply.status}")
-    look(gateway.get(f"/api/v1/plan?fromPlace=A&toPlace=D&{TIME}").status == 200, "the question behind it isn't answered")
+    look(gateway.get(f"/api/v1/plan?fromPlace=A&toPlace=D&{TIME}").status == 200, "the question after it isn't answered")
     starts = gateway.get("/api/v1/health").json["starts"]
     look(starts == 3, f"tp was started {starts} times")
     look(gateway.end()[0] == 0, "the gateway with a fragile tp did not end with status 0")
 
 
-def open_question(gateway: Gateway) -> socket.socket:
-    """A connection on which a question is asked."""
-    connection = socket.create_connection(("127.0.0.1", int(gateway.host.rsplit(":", 1)[1])), timeout=60)
-    connection.sendall(f"GET /api/v1/plan?fromPlace=A&toPlace=D&{TIME} HTTP/1.1\r\nhost: x\r\n\r\n".encode())
-    return connection
-
-
 def look_at_limits(look: Look, program: str, room: Path) -> None:
-    """More questions at once than are allowed, of a `tp` that never replies: each is refused, at once or after ten seconds."""
+    """More questions at once than are allowed, of a `tp` that never replies: each is refused, at once or after ten seconds. A connection on
+    which no request comes, or only a part of one, is closed."""
     silent = script(room / "silent", f'[ "$1" = serve ] || exec {program} "$@"\nexec sleep 60')
     gateway = Gateway(silent, "--feed", str(DEMO), "--date", "20240102", "--store", str(room / "silent-store"))
-    since, times, lines = time.monotonic(), [], []
-    connections = [open_question(gateway) for _ in range(AT_ONCE + 40)]
-    for connection in connections[::-1]:
-        lines.append(connection.recv(12))
-        times.append(time.monotonic() - since)
-        connection.close()
-    look(all(line == b"HTTP/1.1 503" for line in lines), f"some of {len(lines)} questions at once have another status than 503")
-    look(times[39] < 8, f"the forty that are too many are refused after {times[39]:.1f} s")
-    look(9 < times[-1] < 30, f"the others are refused after {times[-1]:.1f} s")
+    still = [connected(gateway), connected(gateway, b"GET / HTTP/1.1\r\nhost:")]
+    question = f"GET /api/v1/plan?fromPlace=A&toPlace=D&{TIME} HTTP/1.1\r\nhost: x\r\nconnection: close\r\n\r\n".encode()
+    replies = [reply_on(it) for it in [connected(gateway, question) for _ in range(AT_ONCE + 40)]]
+    look(all(it.startswith(b"HTTP/1.1 503") and b"retry-after" in it.lower() for it in replies), "a question isn't refused with 503")
+    counts = [sum(text in it for it in replies) for text in (b"too many requests at once", b"tp is starting")]
+    look(counts == [40, AT_ONCE], f"{counts[0]} questions were too many, and {counts[1]} not replied to")
     look(gateway.get("/api/v1/health").status == 503, "the health of a gateway whose tp never replies is not 503")
-    look(gateway.end()[0] == 0, "a gateway whose tp never replies did not end with status 0")
+    look([reply_on(it) for it in still] == [b"", b""], "a connection on which nothing moves isn't closed")
+    look(gateway.end() == (0, ""), "a gateway whose tp never replies did not end with status 0 and without a word")
 
 
 def look_at_life(look: Look, program: str, room: Path) -> None:
