@@ -14,7 +14,7 @@ from starlette.staticfiles import StaticFiles
 
 from .guard import Guard, refused
 from .motis import match_of
-from .planner import Planner, Tell
+from .planner import Fail, Planner
 from .queries import plan_query, text_of
 from .refusals import RETRY_SECONDS, Refusal
 from .settings import Settings
@@ -37,7 +37,7 @@ def policy_of(settings: Settings) -> str:
     return f"default-src 'none'; script-src 'self'; style-src 'self'; connect-src 'self'; base-uri 'none'; form-action 'self'; {images}"
 
 
-async def tell(_: Request, error: Exception) -> Response:
+async def response_of(_: Request, error: Exception) -> Response:
     """The response that an exception becomes."""
     if isinstance(error, Refusal):
         return refused(error)
@@ -68,14 +68,14 @@ class Handlers:
         return JSONResponse({"tiles": self._settings.tiles, "attribution": self._settings.attribution})
 
 
-def application(settings: Settings, tell_fault: Tell) -> Starlette:
-    """The application over a planner, which lives as long as it does."""
+def application(settings: Settings, fail: Fail) -> Starlette:
+    """The application over a planner, which lives as long as it does. `fail` takes a fault that ends the gateway."""
     planner = Planner(settings)
     handlers = Handlers(planner, settings)
 
     @contextlib.asynccontextmanager
     async def life(_: Starlette) -> AsyncIterator[None]:
-        planner.start(tell_fault)
+        planner.start(fail)
         yield
         await planner.close()
 
@@ -86,6 +86,6 @@ def application(settings: Settings, tell_fault: Tell) -> Starlette:
             Mount("/leaflet", StaticFiles(directory=LEAFLET)), Mount("/", StaticFiles(directory=PAGE, html=True)),
         ],
         middleware=[Middleware(Guard, policy=policy_of(settings))],
-        exception_handlers={Refusal: tell, HTTPException: tell, Exception: tell},
+        exception_handlers={Refusal: response_of, HTTPException: response_of, Exception: response_of},
         lifespan=life,
     )

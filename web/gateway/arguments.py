@@ -12,7 +12,7 @@ from .moments import zone_of
 from .settings import Settings
 
 TOP = Path(__file__).resolve().parent.parent.parent
-EXAMPLE = "example: web/run --feed demo/feed-m --date 20240102"
+EXAMPLE = "example: web/run --feed demo/town --date 20270601"
 
 
 def date(text: str) -> datetime.date:
@@ -60,7 +60,7 @@ def parser() -> argparse.ArgumentParser:
     words.add_argument("--default-walk", type=within(0, 86_400), default=120, metavar="SECONDS", help="seconds of a walk without any (120)")
     words.add_argument("--store", type=Path, metavar="FILE", help="the file of the store (in the folder of caches)")
     words.add_argument("--workers", type=within(1, 64), default=2, metavar="N", help="how many trees are built at once (2)")
-    words.add_argument("--host", default="127.0.0.1", help="the address to listen at (127.0.0.1, which this machine alone reaches)")
+    words.add_argument("--host", default="127.0.0.1", help="the address to listen at (127.0.0.1, which only this machine reaches)")
     words.add_argument("--port", type=within(0, 65_535), default=8080, help="the port; 0 for any that is free (8080)")
     words.add_argument("--tiles", type=tiles, metavar="URL", help="map tiles, as https://tile.example/{z}/{x}/{y}.png (none)")
     words.add_argument("--attribution", metavar="TEXT", help="what the owner of the tiles wants to be named as")
@@ -78,8 +78,12 @@ def cached_store(given: argparse.Namespace) -> Path:
 
 def settings_of(words: list[str]) -> Settings:
     """The settings that the words of a command line say."""
-    given = parser().parse_args(words)
+    reader = parser()
+    given = reader.parse_args(words)
     if given.store is None:
         given.store = cached_store(given)
-        given.store.parent.mkdir(parents=True, exist_ok=True)
+        try:
+            given.store.parent.mkdir(parents=True, exist_ok=True)
+        except OSError as error:
+            reader.error(f"{given.store.parent}: {error.strerror}: name a file with --store")
     return Settings(**vars(given))

@@ -80,17 +80,19 @@ class Pipe:
         while not self._is_closing:
             since = time.monotonic()
             status = await self._live()
+            if time.monotonic() - since > LONG_LIFE:
+                pause = FIRST_PAUSE
             if self._is_closing:
                 break
             if not self._has_ever_replied and status in (*FAULTS_BEFORE_A_REPLY, NO_SUCH_PROGRAM):
                 return status, "\n".join(self._errors)
-            pause = FIRST_PAUSE if time.monotonic() - since > LONG_LIFE else min(2 * pause, LAST_PAUSE)
             log.warning("tp ended with status %s and is started again in %.1f s: %s", status, pause, " / ".join(self._errors))
             await asyncio.sleep(pause)
+            pause = min(2 * pause, LAST_PAUSE)
         return None
 
     async def close(self, seconds: float) -> None:
-        """Ends the input, so that the process stores what is in hand and ends; after so many seconds it is killed."""
+        """Ends the input, so that the process stores what is in hand and ends. It is killed if that takes longer than `seconds`."""
         self._is_closing = True
         if self._process is None:
             return
@@ -106,8 +108,8 @@ class Pipe:
             return NO_SUCH_PROGRAM
         self._process = process
         self.starts += 1
-        _, replies, told = streams_of(process)
-        errors = asyncio.create_task(self._take_errors(told))
+        _, replies, messages = streams_of(process)
+        errors = asyncio.create_task(self._take_errors(messages))
         self._begin()
         try:
             await self._take_replies(replies)
@@ -145,7 +147,8 @@ class Pipe:
                 first.reply.set_exception(busy("tp ended before it replied"))
 
     async def _take_replies(self, replies: asyncio.StreamReader) -> None:
-        """Hands each line to the question that it is the reply to. A line without an end, and one that nobody waits for, is dropped."""
+        """Hands each line to the question that it is the reply to. A line without an end is dropped. One that nobody asked for ends the
+        process, since no later line would be matched rightly."""
         while True:
             try:
                 line = await replies.readline()

@@ -1,9 +1,9 @@
-"""The planner behind the pipe: its life, its stops, and its answers."""
+"""The planner at the other end of the pipe: its life, its stops, and its answers."""
 import asyncio
 import contextlib
 import datetime
 import json
-from collections.abc import Callable
+from collections.abc import Awaitable, Callable
 from typing import Any
 
 from .lines import Lines, lines_of
@@ -16,7 +16,9 @@ from .refusals import refusal_of
 from .settings import QUESTIONS_IN_THE_PIPE, SECONDS_OF_A_QUESTION, SECONDS_OF_THE_END, Settings
 from .stops import StopsFault, StopSearch
 
-Tell = Callable[[int, str], None]
+# Takes a status and a cause, and ends the gateway.
+Fail = Callable[[int, str], None]
+STATUS_OF_A_MISTAKE = 70
 
 
 class Planner:
@@ -31,9 +33,9 @@ class Planner:
         self._tasks: list[asyncio.Task[None]] = []
         self.search = StopSearch(settings)
 
-    def start(self, tell: Tell) -> None:
-        """Starts the process. A fault that no other start can mend is told, with its status."""
-        self._tasks = [asyncio.create_task(self._keep_pipe(tell)), asyncio.create_task(self._keep_progress(tell))]
+    def start(self, fail: Fail) -> None:
+        """Starts the process. `fail` gets a fault that no other start can mend."""
+        self._tasks = [asyncio.create_task(self._keep(work(fail), fail)) for work in (self._keep_pipe, self._keep_progress)]
 
     async def close(self) -> None:
         await asyncio.gather(self._pipe.close(SECONDS_OF_THE_END), self._lines.close(SECONDS_OF_THE_END))
@@ -48,8 +50,8 @@ class Planner:
         moment = moment_of(query.time, self._zone) if query.time is not None else now()
         date, clock = service_time(moment, self._settings, self._zone)
         question = f"{query.start}\t{query.end}\t{date}\t{clock}\n".encode()
-        told, features = await asyncio.gather(self._pipe.ask(question), self._lines.of(question))
-        reply = json.loads(told)
+        line, features = await asyncio.gather(self._pipe.ask(question), self._lines.of(question))
+        reply = json.loads(line)
         if "fault" in reply:
             raise refusal_of(reply["fault"])
         asked: dict[str, Any] = {"fromPlace": query.start, "toPlace": query.end, "time": moment.astimezone(self._zone).isoformat()}
@@ -66,16 +68,24 @@ class Planner:
             "now": now().astimezone(self._zone).isoformat(),
         }
 
-    async def _keep_pipe(self, tell: Tell) -> None:
+    @staticmethod
+    async def _keep(work: Awaitable[None], fail: Fail) -> None:
+        """Does work that lasts, so that a mistake in it ends the gateway, and not only the work."""
+        try:
+            await work
+        except Exception as error:
+            fail(STATUS_OF_A_MISTAKE, f"the gateway is at fault: {error!r}")
+
+    async def _keep_pipe(self, fail: Fail) -> None:
         fault = await self._pipe.run()
         if fault is not None:
-            tell(*fault)
+            fail(*fault)
 
-    async def _keep_progress(self, tell: Tell) -> None:
+    async def _keep_progress(self, fail: Fail) -> None:
         try:
             stops = await self.search.all()
         except StopsFault as error:
-            tell(error.status, str(error))
+            fail(error.status, str(error))
             return
         self._progress = Progress(self._pipe, stops, f"{self._settings.date:%Y%m%d}\t12:00:00")
         await self._progress.run()
@@ -87,5 +97,3 @@ def now() -> datetime.datetime:
     """The moment, rounded up to a second."""
     moment = datetime.datetime.now(datetime.UTC)
     return moment.replace(microsecond=0) + datetime.timedelta(seconds=1 if moment.microsecond else 0)
-
-
