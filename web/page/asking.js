@@ -1,6 +1,6 @@
 // Requests to the gateway, and what a refusal is.
 
-export class Refusal extends Error {
+class Refusal extends Error {
     constructor(status, body, retry) {
         super(body.error || `the answer has status ${status}`);
         this.status = status;
@@ -19,7 +19,7 @@ const read = async (response) => {
 };
 
 // The JSON at an address of the interface; a Refusal if there is none.
-export const get = async (path, parameters = {}, signal = undefined) => {
+const get = async (path, parameters = {}, signal = undefined) => {
     const query = new URLSearchParams(parameters);
     let response;
     try {
@@ -35,6 +35,6 @@ export const get = async (path, parameters = {}, signal = undefined) => {
 
 export const plan = (from, to, time, signal) => get("api/v1/plan", { fromPlace: from, toPlace: to, time }, signal);
 export const geocode = (text, signal) => get("api/v1/geocode", { text }, signal);
-// The health is told whether or not the planner is ready.
+// The health has a body whether or not the planner is ready.
 export const health = async () => read(await fetch("api/v1/health"));
 export const settings = () => get("settings.json");

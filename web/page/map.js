@@ -1,7 +1,7 @@
-// The open journey on a map: lines and stops as GeoJSON, with tiles behind them if an address is given.
+// The open journey on a map: lines and stops as GeoJSON, over tiles if an address is given.
 
 // The points of an encoded polyline, as GeoJSON has them: longitude, then latitude.
-export const points = (line) => {
+const points = (line) => {
     const numbers = [];
     let number = 0;
     let shift = 0;
@@ -37,7 +37,7 @@ const stopPoint = (place, kind) => (place.lon === undefined || place.lat === und
 ]);
 
 // A journey as a GeoJSON collection: its legs' lines, and above them its stops.
-export const collection = (journey, from, to) => ({
+const collection = (journey, from, to) => ({
     type: "FeatureCollection",
     features: [
         ...journey.legs.flatMap(legLine),
@@ -58,9 +58,9 @@ const circle = ({ properties }, at) => L.circleMarker(at, {
 const text = (words) => document.createTextNode(words);
 
 export class JourneyMap {
-    constructor(element, told, settings) {
+    constructor(element, note, settings) {
         const still = matchMedia("(prefers-reduced-motion: reduce)").matches;
-        this.told = told;
+        this.note = note;
         this.map = L.map(element, { zoomAnimation: !still, fadeAnimation: !still, center: [0, 0], zoom: 1, zoomSnap: 0.5 });
         this.map.attributionControl.setPrefix(false);
         L.control.scale({ imperial: false }).addTo(this.map);
@@ -89,7 +89,7 @@ export class JourneyMap {
         } }).addTo(this.map);
         const bounds = this.layer.getBounds();
         if (bounds.isValid()) this.map.fitBounds(bounds, { padding: [30, 30], maxZoom: 16 });
-        this.told.textContent = bounds.isValid()
+        this.note.textContent = bounds.isValid()
             ? "The map shows the journey that is open in the list. The list has all that the map has, in words."
             : "The feed has no positions for the stops of this journey, so the map shows nothing.";
     }

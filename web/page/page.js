@@ -10,11 +10,12 @@ const by = (id) => document.getElementById(id);
 const wait = (seconds) => new Promise((resolve) => { setTimeout(resolve, seconds * 1_000); });
 
 class Page {
-    constructor(told) {
-        this.from = new StopField(by("from"), by("from-stops"), by("from-told"));
-        this.to = new StopField(by("to"), by("to-stops"), by("to-told"));
-        this.map = new JourneyMap(by("map"), by("map-told"), told);
+    constructor(given) {
+        this.from = new StopField(by("from"), by("from-stops"), by("from-note"));
+        this.to = new StopField(by("to"), by("to-stops"), by("to-note"));
+        this.map = new JourneyMap(by("map"), by("map-note"), given);
         this.asking = null;
+        this.covered = "";
         by("question").addEventListener("submit", (event) => {
             event.preventDefault();
             this.ask();
@@ -28,7 +29,7 @@ class Page {
         if (!this.asking) return;
         this.asking.abort();
         this.asking = null;
-        by("told").textContent = "The question has changed.";
+        by("outcome").textContent = "The question has changed.";
     }
 
     swap() {
@@ -36,16 +37,16 @@ class Page {
         const [from, to] = [this.from, this.to];
         [from.stop, to.stop] = [to.stop, from.stop];
         [from.input.value, to.input.value] = [to.input.value, from.input.value];
-        from.tell("");
-        to.tell("");
+        from.say("");
+        to.say("");
     }
 
-    // The question that the fields have; null if one of them lacks something, which is told beside it.
+    // The question that the fields have; null if one of them lacks something, which the note under it says.
     async question() {
         const [from, to] = [await this.from.chosen(), await this.to.chosen()];
         const when = by("when");
         const time = when.value.length === 16 ? `${when.value}:00` : when.value;
-        if (!time) by("when-told").textContent = "Choose a day and a time.";
+        by("when-note").textContent = time ? this.covered : "Choose a day and a time.";
         if (!to) this.to.refuse();
         if (!from) this.from.refuse();
         if (from && to && !time) when.focus();
@@ -106,39 +107,44 @@ class Page {
         by("results").focus({ preventScroll: true });
     }
 
-    clear(told) {
-        by("told").textContent = told;
+    clear(text) {
+        by("outcome").textContent = text;
         by("journeys").replaceChildren();
         this.map.clear();
     }
 
     fail(error) {
         this.clear("No answer.");
-        this.refuse(`The planner refused the question: ${error.message}.${error.stopId ? ` The stop is ${error.stopId}.` : ""}`);
+        const cause = error.status ? `The planner refused the question: ${error.message}.` : `There is no answer, since ${error.message}.`;
+        this.refuse(cause + (error.stopId ? ` The stop is ${error.stopId}.` : ""));
     }
 
     refuse(text) {
         by("refused").textContent = text;
         by("refused").hidden = !text;
     }
+
+    // Sets the field of the time to now, if the planner covers this day, and to a morning that it covers if not.
+    setWhen({ firstDate, lastDate, now }) {
+        const when = by("when");
+        const today = now.slice(0, 10);
+        when.min = `${firstDate}T00:00`;
+        when.max = `${lastDate}T23:59`;
+        if (!when.value) when.value = firstDate <= today && today <= lastDate ? now.slice(0, 16) : `${firstDate}T08:00`;
+        this.covered = firstDate === lastDate
+            ? `The day ${firstDate} is covered.` : `The days from ${firstDate} to ${lastDate} are covered.`;
+        by("when-note").textContent = this.covered;
+    }
 }
 
-// Sets the field of the time to now, if the planner covers this day, and to a morning that it covers if not.
-const setWhen = (state) => {
-    const when = by("when");
-    const today = state.now.slice(0, 10);
-    const isCovered = state.firstDate <= today && today <= state.lastDate;
-    when.min = `${state.firstDate}T00:00`;
-    when.max = `${state.lastDate}T23:59`;
-    if (!when.value) when.value = isCovered ? state.now.slice(0, 16) : `${state.firstDate}T08:00`;
-    by("when-told").textContent = state.firstDate === state.lastDate
-        ? `The day ${state.firstDate} is covered.` : `The days from ${state.firstDate} to ${state.lastDate} are covered.`;
-};
-
-const followProgress = async () => {
-    for (let isFirst = true; ; isFirst = false) {
+// Shows how many trees are stored until all are, and sets the time at the first reply.
+const followProgress = async (page) => {
+    for (let isSet = false; ;) {
         const state = await health().catch(() => ({}));
-        if (isFirst && state.now) setWhen(state);
+        if (!isSet && state.now) {
+            page.setWhen(state);
+            isSet = true;
+        }
         const isWhole = state.status === "ok" && state.stored === state.stops;
         by("progress").textContent = isWhole ? "" : state.status === "ok"
             ? `Journeys from ${state.stored} of ${state.stops} stops are ready; the others are being computed.`
@@ -149,5 +155,5 @@ const followProgress = async () => {
 };
 
 const page = new Page(await settings().catch(() => ({})));
-followProgress();
+followProgress(page);
 await page.askAddress();

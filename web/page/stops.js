@@ -4,10 +4,10 @@ import { geocode } from "./asking.js";
 const PAUSE = 150;
 
 export class StopField {
-    constructor(input, list, told) {
+    constructor(input, list, note) {
         this.input = input;
         this.list = list;
-        this.told = told;
+        this.note = note;
         this.stop = null;
         this.found = [];
         this.at = -1;
@@ -35,25 +35,25 @@ export class StopField {
     choose(stop) {
         this.stop = stop;
         this.input.value = stop.name;
-        this.tell("");
+        this.say("");
         this.close();
     }
 
-    tell(text) {
-        this.told.textContent = text;
+    say(text) {
+        this.note.textContent = text;
         this.input.removeAttribute("aria-invalid");
     }
 
-    // Tells that no stop is chosen, and what to do.
+    // Says that no stop is chosen, and what to do.
     refuse() {
-        this.told.textContent = this.input.value ? "Choose one of the stops that are suggested." : "Type a part of a stop's name.";
+        this.note.textContent = this.input.value ? "Choose one of the stops that are suggested." : "Type a part of a stop's name.";
         this.input.setAttribute("aria-invalid", "true");
         this.input.focus();
     }
 
     type() {
         this.stop = null;
-        this.tell("");
+        this.say("");
         clearTimeout(this.timer);
         this.timer = setTimeout(() => this.suggest(), PAUSE);
     }
@@ -66,7 +66,7 @@ export class StopField {
         try {
             this.show(await geocode(text, this.asking.signal));
         } catch (error) {
-            if (error.name !== "AbortError") this.tell(error.message);
+            if (error.name !== "AbortError") this.say(error.message);
         }
     }
 
@@ -75,7 +75,7 @@ export class StopField {
         this.found = found;
         this.list.replaceChildren(...found.map((stop, place) => this.option(stop, place)));
         const count = found.length === 1 ? "1 stop" : `${found.length || "No"} stops`;
-        this.tell(found.length ? `${count} found; the arrow keys choose.` : "No stop has this name.");
+        this.say(found.length ? `${count} found; the arrow keys choose.` : "No stop has this name.");
         this.list.hidden = !found.length;
         this.input.setAttribute("aria-expanded", String(Boolean(found.length)));
         this.mark(-1);
@@ -126,6 +126,6 @@ export class StopField {
         this.list.hidden = true;
         this.input.setAttribute("aria-expanded", "false");
         this.mark(-1);
-        if (!this.input.hasAttribute("aria-invalid")) this.told.textContent = "";
+        if (!this.input.hasAttribute("aria-invalid")) this.note.textContent = "";
     }
 }

@@ -1,4 +1,4 @@
-"""The page in Chromium: by keyboard alone, at the width of a phone, in light and in dark, and without scripts."""
+"""The page in Chromium: by keyboard only, at the width of a phone, in light and in dark, and without scripts."""
 import json
 import shutil
 from collections.abc import Callable
@@ -17,15 +17,16 @@ from .feeds import Rows, write
 from .running import WEB, Gateway, tp
 
 Look = Callable[[object, str], None]
-SECONDS = 30
+SECONDS = 60
 SCREENSHOT = WEB / "screenshot.png"
+TOWN = WEB.parent / "demo/town"
 SCRIPTS_OFF = {"profile.managed_default_content_settings.javascript": 2}
-# The contrast of each text with what lies behind it, by WCAG 2: the least, and the text that has it.
+# The contrast of each text with its background, by WCAG 2: the least, and the text that has it.
 CONTRAST = """
 const part = (c) => (c <= 0.04045 ? c / 12.92 : ((c + 0.055) / 1.055) ** 2.4);
 const numbers = (color) => color.match(/[\\d.]+/g).map(Number);
 const light = (color) => { const [r, g, b] = numbers(color).map((c) => part(c / 255)); return 0.2126 * r + 0.7152 * g + 0.0722 * b; };
-const behind = (element) => {
+const background = (element) => {
     for (let it = element; it; it = it.parentElement) {
         const color = getComputedStyle(it).backgroundColor;
         if ((numbers(color)[3] ?? 1) > 0) return color;
@@ -36,7 +37,7 @@ let least = [21, ""];
 for (const element of document.querySelectorAll("body *")) {
     const text = [...element.childNodes].filter((it) => it.nodeType === 3).map((it) => it.data.trim()).join("") || element.value || "";
     if (!text || !element.checkVisibility() || element.closest("noscript, script")) continue;
-    const [one, other] = [light(getComputedStyle(element).color), light(behind(element))].sort((a, b) => b - a);
+    const [one, other] = [light(getComputedStyle(element).color), light(background(element))].sort((a, b) => b - a);
     const ratio = (one + 0.05) / (other + 0.05);
     if (ratio < least[0]) least = [ratio, text];
 }
@@ -123,7 +124,7 @@ class Page:
 
 
 def look_at_typing(look: Look, page: Page) -> None:
-    """From the first field to the journeys by keyboard alone."""
+    """From the first field to the journeys by keyboard only."""
     look(page.wait(lambda: page.find("#when").get_attribute("value") == "2024-01-02T08:00"), "the time isn't set to a day that is covered")
     page.press(Keys.TAB, Keys.TAB)
     look(page.focus() == "from", f"the second Tab reaches {page.focus()!r} and not the field from")
@@ -144,10 +145,10 @@ def look_at_typing(look: Look, page: Page) -> None:
 
 def look_at_journeys(look: Look, page: Page) -> None:
     """The two journeys from the harbour to the castle, worked by hand; the second is sooner there."""
-    look(page.wait(lambda: len(page.all("#journeys summary")) == 2), f"it tells {page.find('main').text!r}")
+    look(page.wait(lambda: len(page.all("#journeys summary")) == 2), f"it says {page.find('main').text!r}")
     titles = [it.text.split("\n")[0] for it in page.all("#journeys summary")]
     look(titles == ["09:05 to 09:50, 45 min, no change", "09:00 to 09:35, 35 min, 1 change"], f"the journeys are {titles}")
-    look("2 journeys from Café du Port to Castle" in page.find("#told").text, f"it tells {page.find('#told').text!r}")
+    look("2 journeys from Café du Port to Castle" in page.find("#outcome").text, f"it says {page.find('#outcome').text!r}")
     look(page.focus() == "results", "the focus isn't at the journeys")
     line = page.find("#map path.ride").get_attribute("d")
     look(line.count("L") == 2, f"the ride isn't drawn through the stop between: {line!r}")
@@ -155,7 +156,7 @@ def look_at_journeys(look: Look, page: Page) -> None:
     wanted = ["4 towards Town Hall\n09:00 board at Café du Port\n09:10 alight at Town Hall", "Walk 4 min to Market\nThere at 09:14",
               "6 min to change or wait", "9 towards Castle\n09:20 board at Market\n09:35 alight at Castle"]
     look(page.wait(lambda: [it.text for it in page.all("details[open] .legs li")] == wanted),
-         f"the second journey tells {[it.text for it in page.all('details[open] .legs li')]}")
+         f"the second journey has {[it.text for it in page.all('details[open] .legs li')]}")
     look(page.wait(lambda: len(page.all("#map path.walk")) == 1), "the map doesn't show the journey that was opened")
     counts = {kind: len(page.all(f"#map path.{kind}")) for kind in ("ride", "walk", "stop", "end")}
     look(counts == {"ride": 2, "walk": 1, "stop": 2, "end": 2}, f"the map has {counts}")
@@ -180,19 +181,20 @@ def look_at_refusals(look: Look, page: Page) -> None:
     field.clear()
     field.send_keys("zzz", Keys.ENTER)
     look(page.wait(lambda: field.get_attribute("aria-invalid") == "true"), "a name that no stop has isn't refused")
-    look("suggested" in page.find("#to-told").text and page.focus() == "to", "the field isn't reached and told of")
+    look("suggested" in page.find("#to-note").text and page.focus() == "to", "the field isn't reached, or has no note")
     field.clear()
     field.send_keys("Castle")
     set_value = "arguments[0].value = arguments[1]; arguments[0].dispatchEvent(new Event('change'));"
     page.browser.execute_script(set_value, page.find("#when"), "2024-01-05T08:00")
     page.find("#ask").send_keys(Keys.ENTER)
-    look(page.wait(lambda: "not within the covered days" in page.find("#refused").text), f"a day is told as {page.find('#refused').text!r}")
+    is_refused = page.wait(lambda: "not within the covered days" in page.find("#refused").text)
+    look(is_refused, f"a day is refused as {page.find('#refused').text!r}")
     look(page.find("#refused").get_attribute("role") == "alert", "a refusal isn't announced")
     page.browser.execute_script(set_value, page.find("#when"), "2024-01-02T08:00")
     field.clear()
     field.send_keys("nowhere", Keys.ENTER)
     wanted = "No journeys from Café du Port to Nowhere <b>else</b>"
-    look(page.wait(lambda: wanted in page.find("#told").text), f"it tells {page.find('#told').text!r}")
+    look(page.wait(lambda: wanted in page.find("#outcome").text), f"it says {page.find('#outcome').text!r}")
     look(not page.all("b") and not page.find("#refused").is_displayed(), "a name is taken for HTML, or an old refusal stands")
 
 
@@ -200,7 +202,7 @@ def look_at_a_refused_stop(look: Look, page: Page) -> None:
     """A stop that the planner refuses, in an address that was kept from an older feed."""
     page.browser.get(page.browser.current_url.replace("toPlace=N", "toPlace=GONE"))
     look(page.wait(lambda: "no stop or station has this id. The stop is GONE." in page.find("#refused").text),
-         f"a refused stop is told as {page.find('#refused').text!r}")
+         f"a refused stop is shown as {page.find('#refused').text!r}")
 
 
 def look_at_a_tree_that_comes(look: Look, page: Page, address: str) -> None:
@@ -216,7 +218,7 @@ def look_at_a_tree_that_comes(look: Look, page: Page, address: str) -> None:
         };""")
     page.find("#from").send_keys("port")
     page.find("#to").send_keys("castle", Keys.ENTER)
-    look(page.wait(lambda: "asked again in 2 s" in page.find("#told").text), f"it tells {page.find('#told').text!r}")
+    look(page.wait(lambda: "asked again in 2 s" in page.find("#outcome").text), f"it says {page.find('#outcome').text!r}")
     look(page.wait(lambda: len(page.all("#journeys summary")) == 2), "the question isn't asked again")
 
 
@@ -236,8 +238,7 @@ def look_at_looks(look: Look, page: Page) -> None:
 
 
 def keep_screenshot(page: Page) -> None:
-    """A small picture of the page for the README."""
-    page.width(1100, "light")
+    """A small picture of the page for README.md."""
     page.browser.execute_script("window.scrollTo(0, 0); document.activeElement.blur()")
     page.browser.save_screenshot(str(SCREENSHOT))
 
@@ -271,15 +272,16 @@ def look_at_unready(look: Look, program: str, room: Path, browser: Chrome) -> No
 
 
 def take_screenshot(look: Look, program: str, room: Path) -> None:
-    """Opens the page, looks at what it shows, and keeps a picture."""
-    make_feed(room / "named")
-    gateway = Gateway(program, "--feed", str(room / "named"), "--date", "20240102", "--store", str(room / "page"))
+    """Opens the page over demo/town with the first question of README.md, and keeps a picture of its second journey."""
+    gateway = Gateway(program, "--feed", str(TOWN), "--date", "20270601", "--store", str(room / "page"))
     look(gateway.wait(True) and gateway.wait_for("lines", "through stops"), "the gateway has not stored all trees")
     browser = chromium()
     try:
-        page = Page(browser, gateway.address)
-        look_at_typing(look, page)
-        look_at_journeys(look, page)
+        page = Page(browser, f"{gateway.address}?fromPlace=PIER&toPlace=LIGHT&time=2027-06-01T08:00:00")
+        page.width(1100, "light")
+        look(page.wait(lambda: len(page.all("#journeys summary")) == 2), f"it says {page.find('main').text!r}")
+        page.all("#journeys summary")[1].click()
+        look(page.wait(lambda: len(page.all("#map path.walk")) == 1), "the map doesn't show the journey that was opened")
         keep_screenshot(page)
     finally:
         browser.quit()
