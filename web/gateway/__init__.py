@@ -1,1 +1,1 @@
-"""The gateway: `tp serve` behind HTTP."""
+"""The gateway: `tp serve` over HTTP."""

@@ -1,7 +1,7 @@
 """The lines of rides through the stops between, from a second `tp serve`.
 
-The replies in JSON lack these stops, and those in GeoJSON lack what a plan needs besides. One process at a time has a store open, so the
-second one has a copy of it, which is made once all trees are stored. Until then, and whenever it doesn't reply, lines are straight.
+The replies in JSON lack these stops, and those in GeoJSON lack the names and times of a plan. One process at a time has a store open, so
+the second one has a copy of it, which is made once all trees are stored. Until then, and whenever it doesn't reply, lines are straight.
 """
 import asyncio
 import json
@@ -57,10 +57,10 @@ class Lines:
         if self._pipe is None or not self._pipe.is_ready:
             return []
         try:
-            told: dict[str, Any] = json.loads(await self._pipe.ask(question))
+            reply: dict[str, Any] = json.loads(await self._pipe.ask(question))
         except Refusal:
             return []
-        return told.get("features", [])
+        return reply.get("features", [])
 
 
 def lines_of(features: list[dict[str, Any]], answer: dict[str, Any]) -> list[Line | None]:

@@ -22,7 +22,7 @@ def zone_of(rule: str) -> ZoneInfo:
 
 
 def start_of(day: datetime.date, zone: ZoneInfo) -> datetime.datetime:
-    """Where a service day starts: 12 hours before its noon."""
+    """When a service day starts: 12 hours before its noon."""
     return datetime.datetime.combine(day, datetime.time(12), zone).astimezone(datetime.UTC) - HALF_A_DAY
 
 

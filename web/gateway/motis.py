@@ -24,7 +24,7 @@ def place_of(place: Json, arrival: str | None = None, departure: str | None = No
 
 
 def shown_name(trip: Json) -> str | None:
-    """What a traveller reads on the vehicle: the route's short or long name or id, and the trip's short name behind it."""
+    """What a traveller reads on the vehicle: the route's short or long name or id, then the trip's short name."""
     route = trip["route"] or {}
     names = [route.get("short_name") or route.get("long_name") or route.get("id"), trip["short_name"]]
     return " ".join(name for name in names if name) or None
@@ -67,7 +67,7 @@ def itinerary_of(journey: Json, lines: Iterator[Line | None]) -> Json:
 
 
 def plan_of(answer: Json, lines: list[Line | None], asked: Json) -> Json:
-    """The response of plan, with a line for each leg. Journeys on foot alone are `direct`, all others `itineraries`."""
+    """The response of plan, with a line for each leg. Journeys without a ride are `direct`, all others `itineraries`."""
     lines_in_turn = iter(lines)
     journeys = [(journey["rides"], itinerary_of(journey, lines_in_turn)) for journey in answer["journeys"]]
     return {

@@ -8,7 +8,7 @@ Streams = tuple[asyncio.StreamWriter, asyncio.StreamReader, asyncio.StreamReader
 
 
 async def start(words: list[str]) -> asyncio.subprocess.Process:
-    """Starts a command with pipes for all that it reads and writes; OSError if it can't be."""
+    """Starts a command, with pipes for its three streams; OSError if it can't be started."""
     pipe = asyncio.subprocess.PIPE
     return await asyncio.create_subprocess_exec(
         *words, stdin=pipe, stdout=pipe, stderr=pipe, limit=BYTES_OF_A_REPLY, start_new_session=True)

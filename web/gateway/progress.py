@@ -37,7 +37,7 @@ class Progress:
             await asyncio.sleep(PAUSE)
 
     async def _ask(self, stops: list[str]) -> list[bool]:
-        """Of each stop, whether it is still to be stored."""
+        """For each stop, whether its tree is still to be stored."""
         replies = await asyncio.gather(*map(self._is_pending, stops), return_exceptions=True)
         return [reply is not False for reply in replies]
 
@@ -48,7 +48,7 @@ class Progress:
             reply = await self._pipe.ask(f"{stop}\t{stop}\t{self._moment}\n".encode())
         except Refusal:
             return True
-        if reply.endswith(NO_JOURNEY):
+        if reply.endswith(NO_JOURNEY):  # a station without stops: it has no tree
             self.stops -= 1
             return False
         return "fault" in json.loads(reply)

@@ -13,10 +13,10 @@ class Refusal(Exception):
 
     def body(self) -> dict[str, Any]:
         """The JSON body: `error` as MOTIS has it, and the fault's name, and the stop's id if there is one."""
-        told: dict[str, Any] = {"error": self.error, "name": self.name}
+        body: dict[str, Any] = {"error": self.error, "name": self.name}
         if self.stop is not None:
-            told["stopId"] = self.stop
-        return told
+            body["stopId"] = self.stop
+        return body
 
     def headers(self) -> dict[str, str]:
         return {} if self.retry is None else {"Retry-After": str(self.retry)}

@@ -14,7 +14,7 @@ def encoded(number: int) -> str:
 
 
 def polyline(points: Iterable[tuple[float, float]]) -> str:
-    """The line through points of latitude and longitude, each told by its distance from the one before."""
+    """The line through points of latitude and longitude, each as its difference from the one before."""
     text, before = "", (0, 0)
     for point in points:
         now = (round(point[0] * 10**PRECISION), round(point[1] * 10**PRECISION))

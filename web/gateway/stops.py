@@ -14,10 +14,10 @@ KEPT = 1_024
 
 
 class StopsFault(Exception):
-    """`tp stops` has told a fault."""
+    """`tp stops` has reported a fault."""
 
-    def __init__(self, status: int, told: str) -> None:
-        super().__init__(told)
+    def __init__(self, status: int, report: str) -> None:
+        super().__init__(report)
         self.status = status
 
 
@@ -38,7 +38,7 @@ def plain(field: str) -> str:
 
 
 def stops_of(lines: str) -> list[Stop]:
-    """The stops of what `tp stops` prints. The line that tells how many more there are has no tabs."""
+    """The stops of what `tp stops` prints. The line that counts the rest has no tabs."""
     return [Stop(*map(plain, line.split("\t"))) for line in lines.split("\n") if line and not MORE.fullmatch(line)]
 
 
@@ -79,7 +79,7 @@ class StopSearch:
         except TimeoutError as error:
             raise busy("the search has not ended in time") from error
         except StopsFault as error:
-            raise Refusal(502, "BadReply", "tp stops has told a fault") from error
+            raise Refusal(502, "BadReply", "tp stops has reported a fault") from error
         self._found[text] = found
         if len(self._found) > KEPT:
             self._found.popitem(last=False)

@@ -26,7 +26,7 @@ def write_week(folder: Path) -> None:
 
 
 def write_courses(folder: Path, ways: list[list[str]], trips_of_a_way: int, draw: random.Random) -> None:
-    """Writes trips over ways through stops, at any time of a day and the night behind it."""
+    """Writes trips over ways through stops, at any time of a day and the night after it."""
     trips: Rows = [("trip_id", "service_id", "route_id", "trip_headsign", "trip_short_name")]
     calls: Rows = [("trip_id", "stop_id", "stop_sequence", "arrival_time", "departure_time")]
     for course, way in enumerate(ways):

