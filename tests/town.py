@@ -13,7 +13,7 @@ SECONDS = 60
 
 
 class Looks:
-    """Counts what was looked at, and tells of it where it isn't right."""
+    """Counts what was looked at, and prints what isn't right."""
 
     def __init__(self, test):
         self.test, self.passed, self.failed = test, 0, 0
@@ -30,7 +30,7 @@ class Looks:
 
 
 def program_of(words):
-    """The program that the words name, or the one that is built here; the test ends where there is none."""
+    """The program that the words name, or the one that is built here; the test ends if there is none."""
     program = os.path.realpath(words[0] if words else f"{TOP}/crates/tp/out/tp")
     if not os.access(program, os.X_OK):
         print(f"{program}: there is no such program: rt ci builds it, and bin/tp does")
@@ -107,7 +107,7 @@ class Planner:
         return self.run("build", "--store", store, "--workers", str(workers), before=before)
 
     def listed(self, store):
-        """The stops that are stored, in order; none where the list isn't given."""
+        """The stops that are stored, in order; none if the list isn't given."""
         status, out, err = self.run("list", "--store", store)
         return out.split() if (status, err) == (0, "") else None
 
@@ -118,7 +118,7 @@ def content(path):
 
 
 def parts(store, begun):
-    """The header of a store's file and its sections, sorted: the gate, a length of four bytes and a tree each. None where the file isn't
+    """The header of a store's file and its sections, sorted: the gate, a length of four bytes and a tree each. None if the file isn't
     these and a closed gate. `begun` is how long the file of a store without a tree is."""
     bytes_of, at, sections = content(store), begun - 1, []
     header = bytes_of[:at]
