@@ -1,6 +1,7 @@
 """The page in Chromium: by keyboard only, at the width of a phone, in light and in dark, and without scripts."""
 import json
 import shutil
+import time
 from collections.abc import Callable
 from pathlib import Path
 from typing import Any
@@ -240,7 +241,8 @@ def look_at_looks(look: Look, page: Page) -> None:
 
 
 def keep_screenshot(page: Page) -> None:
-    """A small picture of the page for README.md."""
+    """A small picture of the page for README.md, once the map has moved to its place."""
+    time.sleep(1)
     page.browser.execute_script("window.scrollTo(0, 0); document.activeElement.blur()")
     page.browser.save_screenshot(str(SCREENSHOT))
 
