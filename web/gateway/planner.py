@@ -18,7 +18,13 @@ from .stops import StopsFault, StopSearch
 
 # Takes a status and a cause, and ends the gateway.
 Fail = Callable[[int, str], None]
+STATUS_OF_A_STORE = 4
 STATUS_OF_A_MISTAKE = 70
+# What to do about a fault of the store, by its code: the JSON of a fault has no advice.
+ADVICE = {
+    "Z2": ", for another timetable: delete it, or name another with --store", "Z3": ", for another --rides: name another with --store",
+    "Z4": ", which is damaged: delete it, and it is built again", "Z5": "; another process may have it open",
+}
 
 
 class Planner:
@@ -78,8 +84,13 @@ class Planner:
 
     async def _keep_pipe(self, fail: Fail) -> None:
         fault = await self._pipe.run()
-        if fault is not None:
-            fail(*fault)
+        if fault is None:
+            return
+        status, cause = fault
+        if status == STATUS_OF_A_STORE:
+            code = cause.removeprefix("tp: ")[:2]
+            cause += f"\nThe store is {self._settings.store}{ADVICE.get(code, '')}."
+        fail(status, cause)
 
     async def _keep_progress(self, fail: Fail) -> None:
         try:

@@ -29,8 +29,13 @@ def kill(process: asyncio.subprocess.Process) -> None:
 
 
 async def end(process: asyncio.subprocess.Process, seconds: float) -> None:
-    """Waits for the end of a process, and kills it if it does not come in time."""
+    """Waits for the end of a process, and kills it if it does not come in time. Then lets its input go, with what it didn't read."""
     try:
         await asyncio.wait_for(process.wait(), seconds)
     except TimeoutError:
         kill(process)
+    to_process = streams_of(process)[0]
+    if not to_process.transport.is_closing():
+        to_process.transport.abort()
+    with contextlib.suppress(OSError):
+        await to_process.wait_closed()

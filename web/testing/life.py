@@ -28,7 +28,8 @@ def look_at_starts(look: Look, program: str, room: Path) -> None:
     look(status == 1 and errors == "tp: F1 MissingFile stops.txt row 0\n", f"without a feed: {status}, {errors!r}")
     (room / "other").write_bytes(b"\xa5 is the first byte of this text")
     status, errors = run(RUN, *here, "--feed", str(DEMO), "--store", str(room / "other"))
-    look(status == 4 and errors == "tp: Z1 NotAStore\n", f"with a file that is no store: {status}, {errors!r}")
+    is_reported = errors.startswith("tp: Z1 NotAStore\n") and str(room / "other") in errors
+    look(status == 4 and is_reported, f"with a file that is no store: {status}, {errors!r}")
     status, errors = run(RUN, *here, "--feed", str(DEMO), "--program", str(room / "none"))
     look(status == 70 and "bin/tp" in errors, f"without the program: {status}, {errors!r}")
     status, errors = run("/usr/bin/python3", "-S", RUN, *here, "--feed", str(DEMO))
