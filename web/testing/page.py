@@ -1,6 +1,9 @@
 """The page in Chromium: by keyboard only, at the width of a phone, in light and in dark, and without scripts."""
+import base64
+import http.server
 import json
 import shutil
+import threading
 import time
 from collections.abc import Callable
 from pathlib import Path
@@ -19,6 +22,7 @@ from .running import WEB, Gateway, tp
 
 Look = Callable[[object, str], None]
 SECONDS = 60
+PIXEL = base64.b64decode("iVBORw0KGgoAAAANSUhEUgAAAAEAAAABCAYAAAAfFcSJAAAADUlEQVR42mNk+M9QDwADhgGAWjR9awAAAABJRU5ErkJggg==")
 SCREENSHOT = WEB / "screenshot.png"
 TOWN = WEB.parent / "demo/town"
 SCRIPTS_OFF = {"profile.managed_default_content_settings.javascript": 2}
@@ -275,6 +279,35 @@ def look_at_unready(look: Look, program: str, room: Path, browser: Chrome) -> No
         look(gateway.end()[0] == 0, "a gateway whose tp never replies did not end with status 0")
 
 
+class Tiles(http.server.BaseHTTPRequestHandler):
+    """Answers each address of a tile with one pixel."""
+
+    def do_GET(self) -> None:
+        self.send_response(200)
+        self.send_header("Content-Type", "image/png")
+        self.end_headers()
+        self.wfile.write(PIXEL)
+
+    def log_message(self, *_: Any) -> None:
+        pass
+
+
+def look_at_tiles(look: Look, program: str, room: Path, browser: Chrome) -> None:
+    """Tiles of another address are loaded, and their owner is named, as text."""
+    with http.server.ThreadingHTTPServer(("127.0.0.1", 0), Tiles) as server:
+        threading.Thread(target=server.serve_forever, daemon=True).start()
+        tiles = ["--tiles", f"http://127.0.0.1:{server.server_port}/{{z}}/{{x}}/{{y}}.png", "--attribution", "<b>Owner</b>"]
+        gateway = Gateway(program, "--feed", str(room / "named"), "--date", "20240102", "--store", str(room / "tiles"), *tiles)
+        try:
+            page = Page(browser, gateway.address)
+            look(page.wait(lambda: page.all("#map .leaflet-tile-loaded")), "no tile is loaded")
+            named = page.find("#map .leaflet-control-attribution").text
+            look(named == "<b>Owner</b>", f"the owner of the tiles is named as {named!r}")
+        finally:
+            look(gateway.end()[0] == 0, "the gateway with tiles did not end with status 0")
+            server.shutdown()
+
+
 def take_screenshot(look: Look, program: str, room: Path) -> None:
     """Opens the page over demo/town with the first question of README.md, and keeps a picture of its second journey."""
     gateway = Gateway(program, "--feed", str(TOWN), "--date", "20270601", "--store", str(room / "page"))
@@ -311,6 +344,7 @@ def look_at_page(look: Look, program: str, room: Path) -> None:
         complaints = [it["message"] for it in browser.get_log("browser") if "400 (Bad Request)" not in it["message"]]
         look(not complaints, f"the browser complains: {json.dumps(complaints[:3])}")
         look_at_unready(look, program, room, browser)
+        look_at_tiles(look, program, room, browser)
     finally:
         browser.quit()
     look_at_no_scripts(look, gateway.address)
