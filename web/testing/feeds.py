@@ -63,7 +63,7 @@ def make_odd_town(folder: Path, draw: random.Random) -> list[str]:
 
 
 def make_large_town(folder: Path, stops: int, draw: random.Random) -> list[str]:
-    """Writes a town in which each stop has some trips. Gives the ids of its stops, in their order."""
+    """Writes a town in which each stop has some courses. Gives the ids of its stops, in their order."""
     folder.mkdir()
     ids = [f"S{number}" for number in range(stops)]
     write(folder, "stops.txt", [("stop_id", "stop_name", "stop_lat", "stop_lon"), *[
@@ -72,6 +72,6 @@ def make_large_town(folder: Path, stops: int, draw: random.Random) -> list[str]:
     for _ in range(stops // 3):
         first = draw.randrange(stops)
         ways.append([ids[(first + step * draw.randrange(1, 9)) % stops] for step in range(8)])
-    write_courses(folder, [list(dict.fromkeys(way)) for way in ways], 16, draw)
+    write_courses(folder, [list(dict.fromkeys(way)) for way in ways], 48, draw)
     write_week(folder)
     return ids

@@ -14,14 +14,15 @@ from typing import Any
 
 from .comparing import is_plan
 from .feeds import clock, make_large_town
-from .running import Askers, Gateway, Reply, target, tp
+from .running import Askers, Gateway, Reply, target
 
 Look = Callable[[object, str], None]
 CLIENTS, SECONDS, KILLS = 50, 20.0, 2
-QUESTIONS = 400
-SOURCES = 120
-SMALL, LARGE = 120, 3_000
-QUICK = 20.0
+QUESTIONS = 200
+# The questions leave from the first stops, whose trees are built early, and from the last ones. One worker builds all trees of the town
+# over these days in about a minute, so that trees are built to the end of the time.
+STOPS, SOURCES, LAST = 2_000, 120, 20
+DAYS = "14"
 
 
 @dataclass(frozen=True)
@@ -111,16 +112,8 @@ def look_at_refusals(look: Look, questions: list[tuple[str, str, str]], asked: l
     look(unstored, "no question was refused as not stored, so trees were not built meanwhile")
 
 
-def rate(program: str, room: Path, draw: random.Random) -> float:
-    """How many trees a second are built over a small town."""
-    make_large_town(room / "small", 40, draw)
-    since = time.monotonic()
-    tp(program, "build", "--feed", str(room / "small"), "--date", "20240102", "--store", str(room / "small-store"), "--workers", "1")
-    return 40 / (time.monotonic() - since)
-
-
 def report(asked: list[Asked], stored: int, stops: int) -> None:
-    """Prints what was measured. It is judged on an idle machine by a reader, and not here: 50 ms at the 99th of a hundred."""
+    """Prints what was measured, for a reader to judge: on an idle machine 50 ms at the 99th of a hundred, and trees left to build."""
     times = sorted(it.until - it.since for it in asked)
     answers = sum(it.status == 200 for it in asked)
     shares = [f"{name} {times[min(int(len(times) * share), len(times) - 1)] * 1000:.1f} ms" for name, share in
@@ -130,11 +123,11 @@ def report(asked: list[Asked], stored: int, stops: int) -> None:
 
 
 def look_at_load(look: Look, program: str, room: Path, draw: random.Random) -> None:
-    """The feed's size follows the speed of the program, so that trees are still built at the end."""
-    ids = make_large_town(room / "large", LARGE if rate(program, room, draw) > QUICK else SMALL, draw)
-    words, store = ["--feed", str(room / "large"), "--date", "20240102"], room / "load"
+    """Questions from stops whose trees come early, and from some whose trees come last."""
+    ids = make_large_town(room / "large", STOPS, draw)
+    words, store = ["--feed", str(room / "large"), "--date", "20240102", "--days", DAYS], room / "load"
     questions = [(draw.choice(ids[:SOURCES]), draw.choice(ids), clock(draw.randrange(5 * 3600, 22 * 3600))) for _ in range(QUESTIONS)]
-    questions += [(draw.choice(ids[-20:]), draw.choice(ids), "08:00:00") for _ in range(20)]
+    questions += [(draw.choice(ids[-LAST:]), draw.choice(ids), "08:00:00") for _ in range(LAST)]
     targets = [target("plan", fromPlace=start, toPlace=end, time=f"2024-01-02T{at}Z") for start, end, at in questions]
     gateway = Gateway(program, *words, "--store", str(store), "--workers", "1", "--straight")
     look(gateway.wait(False), "the gateway did not become ready")

@@ -83,7 +83,7 @@ class Gateway:
             time.sleep(0.2)
         return False
 
-    def wait_for(self, name: str, value: str) -> bool:
+    def wait_for(self, name: str, value: str | int) -> bool:
         """Whether the health has a value within a time."""
         end = time.monotonic() + SECONDS
         while time.monotonic() < end:
