@@ -5,8 +5,8 @@ use Rattle.feed_ids.specs.Names.{stops_at}
 use Rattle.planner.specs.Questions.{Held, IsFirstMissing}
 use Rattle.planner.specs.declared.fault.AskFault.{AskFault}
 use Rattle.planner.specs.declared.fault.AskFault.TheVariants as asked
-use Rattle.program_inputs.specs.declared.fault.Fault.{Fault}
-use Rattle.program_inputs.specs.declared.fault.Fault.TheVariants as faults
+use Rattle.faults.specs.declared.fault.Fault.{Fault}
+use Rattle.faults.specs.declared.fault.Fault.TheVariants as faults
 use Rattle.feed_basis.specs.Basis.{BasisData}
 use Rattle.feed_basis.specs.Ids.{IsKnown}
 use Rattle.command_line.specs.declared.job.Question.{Question}

@@ -12,9 +12,9 @@ ghost use Rattle.answering.specs.Refusals.{IsCovered, IsMissing, IsUnanswered, N
 use answer_lines::Answer;
 use command_line::Question;
 use direct_connections::Network;
+use faults::Fault;
 use feed_basis::Basis;
 use planner::{AskFault, Trees, ask_on};
-use program_inputs::Fault;
 use rounds::Rides;
 use scanned_journeys::scan_journeys;
 use std::alloc::{AllocError, Global};

@@ -1,9 +1,9 @@
 -- The benchmark's command line, and what its words say.
 use Rattle.std.specs.Prelude.{◌≡◌, ◌^◌, List, Some, codes, option_map}
 use Rattle.clap.specs.Words.{App, Row, first_of, with_rule}
-use Rattle.program_inputs.specs.Options.{common_app, number_rule, optional_rule}
-use Rattle.program_inputs.specs.Settings.{HasSettings}
-use Rattle.program_inputs.specs.Values.{HasNumber}
+use Rattle.options.specs.Options.{common_app, number_rule, optional_rule}
+use Rattle.options.specs.Settings.{HasSettings}
+use Rattle.options.specs.Values.{HasNumber}
 use Rattle.bench.specs.declared.words.Measure.{Measure}
 
 abbrev pub bench_app : App

@@ -13,7 +13,7 @@ mod words;
 
 use crate::measuring::measure;
 use crate::words::read_words;
-use program_inputs::{given_words, out_of_memory, show, texts, unread};
+use options::{given_words, out_of_memory, show, texts, unread};
 use std::io::Write;
 use std::process::ExitCode;
 

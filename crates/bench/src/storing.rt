@@ -6,9 +6,9 @@ ghost use Rattle.rounds.specs.Scratch.{IsMadeFor, rides_of};
 
 use crate::clock::{now, tell};
 use disk_model::{Disk, DiskFault, FileDisk, FileFault};
+use faults::Fault;
 use pattern_building::finish;
 use pattern_tree::{Arena, Finished};
-use program_inputs::Fault;
 use recovery::{RecoverFault, Recovered, recover};
 use rounds::{Rides, Scratch};
 use section_store::{PutFault, SectionStore};

@@ -4,11 +4,11 @@ ghost use Rattle.std.specs.Prelude.{◌≡◌, false, [], IfOk, IfErr, IfSome, I
 ghost use Rattle.clap.specs.Words.{app_of, rows_of, found_of, matches_of, fault_of, kind_of, FailsBy};
 ghost use Rattle.clap.specs.declared.error.kind.ErrorKind.TheVariants.{OutOfMemory};
 ghost use Rattle.clap.specs.declared.builder.command.Command.TheViews.{out-Command as fields_of};
-ghost use Rattle.program_inputs.specs.Statuses.{IsStatus};
+ghost use Rattle.options.specs.Statuses.{IsStatus};
 ghost use Rattle.bench.specs.CommandLine.{bench_app, IsMeasure, NamesNothing};
 
 use clap::{ArgMatches, Command, Error};
-use program_inputs::{Settings, common, number, number_of, optional, refuse, settings_of, text_of};
+use options::{Settings, common, number, number_of, optional, refuse, settings_of, text_of};
 use std::alloc::Global;
 use std::io::Write;
 

@@ -9,8 +9,8 @@ use Rattle.answer_lines.specs.declared.answer.Answer.{Answer}
 use Rattle.answer_lines.specs.declared.report.Report.{Report}
 use Rattle.feed_report.specs.Reports.{report_text as feed_text}
 use Rattle.feed_report.specs.declared.report.FeedReport.{FeedReport}
-use Rattle.program_inputs.specs.Faults.{status_of}
-use Rattle.program_inputs.specs.declared.fault.Fault.{Fault}
+use Rattle.faults.specs.Faults.{status_of}
+use Rattle.faults.specs.declared.fault.Fault.{Fault}
 use Rattle.command_line.specs.declared.format.Format.{Format}
 use Rattle.command_line.specs.declared.format.Style.{Style}
 use Rattle.command_line.specs.declared.format.Style.TheVariants as styles

@@ -6,7 +6,7 @@ use Rattle.command_line.specs.declared.job.Command.{Command}
 use Rattle.command_line.specs.declared.job.Command.TheVariants as commands
 use Rattle.command_line.specs.declared.job.Task.{Task}
 use Rattle.command_line.specs.declared.workers.Workers.{Workers}
-use Rattle.program_inputs.specs.declared.settings.Settings.{Settings}
+use Rattle.options.specs.declared.settings.Settings.{Settings}
 use Rattle.feed_basis.specs.Basis.{BasisData}
 use Rattle.section_store.specs.Sections.{Form}
 use Rattle.store_answers.specs.Stores.{OnlyFailing, form_over}

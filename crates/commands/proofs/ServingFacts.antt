@@ -3,8 +3,8 @@ use Rattle.std.proofs.Common.{◌≡◌, ℕ, Bool, List, Option, Result, Ok, Er
 use Rattle.std.specs.Io.KnownBytes.{Keeps}
 use Rattle.disk_model.specs.Disk.{State}
 use Rattle.feed_basis.specs.Basis.{BasisData}
-use Rattle.program_inputs.specs.Faults.{status_of}
-use Rattle.program_inputs.specs.declared.fault.Fault.{Fault}
+use Rattle.faults.specs.Faults.{status_of}
+use Rattle.faults.specs.declared.fault.Fault.{Fault}
 use Rattle.serving.specs.Tellings.{Telling}
 use Rattle.store_answers.specs.Replies.{IsServing}
 use Rattle.store_answers.specs.Stores.{IsUnopened, form_over}

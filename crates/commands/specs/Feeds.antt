@@ -5,8 +5,8 @@ use Rattle.gtfs_tables.specs.Feed.{Feed}
 use Rattle.service_days.specs.Answers.{IsMoment}
 use Rattle.command_line.specs.declared.job.Plan.{Plan}
 use Rattle.command_line.specs.declared.job.Task.{Task}
-use Rattle.program_inputs.specs.declared.fault.Fault.{Fault}
-use Rattle.program_inputs.specs.declared.settings.Settings.{Settings}
+use Rattle.faults.specs.declared.fault.Fault.{Fault}
+use Rattle.options.specs.declared.settings.Settings.{Settings}
 use Rattle.feed_basis.specs.Basis.{BasisData, IsBasis}
 use Rattle.feed_basis.specs.BasisFaults.{IsBasisFault}
 use Rattle.commands.specs.Words.{HasWords, IsDate, IsLeaving, IsWordFault}

@@ -6,8 +6,8 @@ use Rattle.disk_model.specs.declared.fault.FileFault.TheVariants as files
 use Rattle.recovery.specs.Kinds.{CanOpen, IsNamedBehindGate}
 use Rattle.recovery.specs.declared.fault.RecoverFault.TheVariants.{Device, NotAStore}
 use Rattle.section_store.specs.Sections.{Form}
-use Rattle.program_inputs.specs.declared.fault.Fault.{Fault}
-use Rattle.program_inputs.specs.declared.fault.Fault.TheVariants as faults
+use Rattle.faults.specs.declared.fault.Fault.{Fault}
+use Rattle.faults.specs.declared.fault.Fault.TheVariants as faults
 use Rattle.store_answers.specs.Stores.{OnlyFailing}
 
 -- What opening the file of a path may give, whether calls of the disk can be believed, its states, and how many of its calls failed.

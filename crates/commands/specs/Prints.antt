@@ -6,8 +6,8 @@ use Rattle.answer_lines.specs.Printing.{AppendsBeginning}
 use Rattle.answer_lines.specs.Reports.{report_text, report_status}
 use Rattle.answer_lines.specs.declared.answer.Answer.{Answer}
 use Rattle.answer_lines.specs.declared.report.Report.{Report}
-use Rattle.program_inputs.specs.Faults.{status_of}
-use Rattle.program_inputs.specs.declared.fault.Fault.{Fault}
+use Rattle.faults.specs.Faults.{status_of}
+use Rattle.faults.specs.declared.fault.Fault.{Fault}
 use Rattle.serving.specs.declared.serving.End.{End}
 use Rattle.serving.specs.declared.serving.End.TheVariants as ends
 use Rattle.store_answers.specs.declared.served.Served.{Served}

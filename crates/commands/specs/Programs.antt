@@ -9,8 +9,8 @@ use Rattle.command_line.specs.Tasks.{feed_of}
 use Rattle.command_line.specs.declared.job.Job.{Job}
 use Rattle.command_line.specs.declared.job.Job.TheVariants as jobs
 use Rattle.feed_report.specs.Reports.{Names}
-use Rattle.program_inputs.specs.Statuses.{IsShown, IsStatus}
-use Rattle.program_inputs.specs.declared.fault.Fault.TheVariants.{Memory}
+use Rattle.options.specs.Statuses.{IsShown, IsStatus}
+use Rattle.faults.specs.declared.fault.Fault.TheVariants.{Memory}
 use Rattle.commands.specs.Files.{Opening}
 use Rattle.commands.specs.Runs.{IsCheckRun, IsRun, Run, Tells}
 use Rattle.commands.specs.Tellings.{IsStopsText, Telling}

@@ -12,9 +12,9 @@ use Rattle.command_line.specs.declared.job.Plan.{Plan}
 use Rattle.command_line.specs.declared.job.Question.{Question}
 use Rattle.command_line.specs.declared.job.Task.{Task}
 use Rattle.command_line.specs.declared.job.Task.TheVariants as tasks
-use Rattle.program_inputs.specs.declared.fault.Fault.{Fault}
-use Rattle.program_inputs.specs.declared.fault.Fault.TheVariants as faults
-use Rattle.program_inputs.specs.declared.settings.Settings.{Settings}
+use Rattle.faults.specs.declared.fault.Fault.{Fault}
+use Rattle.faults.specs.declared.fault.Fault.TheVariants as faults
+use Rattle.options.specs.declared.settings.Settings.{Settings}
 use Rattle.feed_basis.specs.Basis.{BasisData}
 use Rattle.feed_report.specs.Counts.{AreCounts, IsCheckFault}
 use Rattle.feed_report.specs.Reports.{Names, report_text}

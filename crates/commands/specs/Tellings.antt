@@ -9,8 +9,8 @@ use Rattle.answer_lines.specs.declared.report.Report.{Report}
 use Rattle.command_line.specs.declared.format.Format.{Format}
 use Rattle.command_line.specs.declared.format.Style.{Style}
 use Rattle.command_line.specs.declared.format.Style.TheVariants as styles
-use Rattle.program_inputs.specs.declared.fault.Fault.{Fault}
-use Rattle.program_inputs.specs.declared.fault.Fault.TheVariants as faults
+use Rattle.faults.specs.declared.fault.Fault.{Fault}
+use Rattle.faults.specs.declared.fault.Fault.TheVariants as faults
 use Rattle.feed_basis.specs.Basis.{BasisData}
 use Rattle.gtfs_rows.specs.declared.fault.FeedFault.{FeedFault}
 use Rattle.serving.specs.Tellings.{Telling as ReplyTelling, line_telling}

@@ -7,9 +7,9 @@ ghost use Rattle.feed_report.specs.Counts.{AreCounts, IsCheckFault};
 ghost use Rattle.commands.specs.Runs.{IsCheckRun, run_of};
 
 use crate::printing::print_feed;
+use faults::Fault;
 use feed_report::{FeedReport, counts_of};
 use gtfs_tables::Files;
-use program_inputs::Fault;
 use std::alloc::Global;
 use std::hash::RandomState;
 use std::io;

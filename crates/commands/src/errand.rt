@@ -5,9 +5,9 @@ ghost use Rattle.commands.specs.Errands.{IsErrand};
 ghost use Rattle.commands.specs.Words.{IsDate, IsLeaving, IsLeavingFault, IsWordFault};
 
 use command_line::{Command, Plan, Task, Workers};
+use faults::Fault;
 use gtfs_text::{date, time};
 use jiff::civil::Date;
-use program_inputs::Fault;
 
 /// When one leaves.
 #[derive(Clone, Copy)]

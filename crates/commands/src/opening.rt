@@ -6,8 +6,8 @@ ghost use Rattle.commands.specs.Files.{IsKeptOut, IsReady, of_file, opening_of};
 ghost use Rattle.store_answers.specs.Stores.{form_over};
 
 use disk_model::{Disk, FileFault};
+use faults::Fault;
 use feed_basis::Basis;
-use program_inputs::Fault;
 use recovery::{FileKind, RecoverFault, file_kind};
 use shown_ids::Shown;
 use std::alloc::Global;

@@ -7,11 +7,12 @@ ghost use Rattle.answer_lines.specs.Printed.{answer_text};
 ghost use Rattle.answer_lines.specs.Reports.{report_text, report_status};
 ghost use Rattle.feed_report.specs.Reports.{report_text as feed_text};
 ghost use Rattle.commands.specs.Prints.{IsTextPrinted, statuses};
-ghost use Rattle.program_inputs.specs.Faults.{status_of};
+ghost use Rattle.faults.specs.Faults.{status_of};
 
 use answer_lines::{Answer, PrintFault, Report, print};
+use faults::Fault;
 use feed_report::FeedReport;
-use program_inputs::{Fault, out_of_memory, unwritten};
+use options::{out_of_memory, unwritten};
 use std::alloc::Global;
 use std::fmt::Display;
 use std::io::Write;

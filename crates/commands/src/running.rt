@@ -17,10 +17,10 @@ use crate::telling::{Asked, Teller, print_answer_as, tell_plan_fault, tells_legs
 use answering::{direct, scan};
 use command_line::{Plan, Task};
 use disk_model::{Disk, FileFault};
+use faults::Fault;
 use feed_basis::{Basis, basis_of};
 use gtfs_tables::Files;
 use precomputing::Progress;
-use program_inputs::Fault;
 use std::alloc::Global;
 use std::hash::RandomState;
 use std::io::{BufRead, Read, Write};

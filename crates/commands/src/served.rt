@@ -2,13 +2,14 @@
 
 ghost use Rattle.std.specs.Prelude.{◌≡◌, MatchResult};
 ghost use Rattle.std.specs.List.{Contains};
-ghost use Rattle.program_inputs.specs.Faults.{status_of};
+ghost use Rattle.faults.specs.Faults.{status_of};
 ghost use Rattle.commands.specs.Prints.{built_status, served_status, statuses};
 
 use crate::telling::{Teller, tell_plan_fault};
 use answer_lines::Report;
 use command_line::Plan;
-use program_inputs::{Fault, out_of_memory, unwritten};
+use faults::Fault;
+use options::{out_of_memory, unwritten};
 use serving::End;
 use std::alloc::Global;
 use std::io::Write;

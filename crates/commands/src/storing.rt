@@ -17,9 +17,9 @@ use crate::telling::{
 };
 use command_line::{Plan, Question, Style, Workers};
 use disk_model::{Disk, FileFault};
+use faults::Fault;
 use feed_basis::Basis;
 use precomputing::Progress;
-use program_inputs::Fault;
 use serving::{Lines, ReplyTeller};
 use std::alloc::Global;
 use std::io::{BufRead, Write};

@@ -10,8 +10,8 @@ use Rattle.service_days.specs.Answers.{IsCoverAnswer}
 use Rattle.service_days.specs.declared.fault.DayFault.{DayFault}
 use Rattle.service_days.specs.declared.fault.DayFault.TheVariants as days
 use Rattle.feed_basis.specs.BasisFaults.{IsKeyedFault, IsRowFault}
-use Rattle.program_inputs.specs.Faults.{of_days, of_feed, of_kind}
-use Rattle.program_inputs.specs.declared.settings.Settings.{Settings}
+use Rattle.faults.specs.Faults.{of_days, of_feed, of_kind}
+use Rattle.options.specs.declared.settings.Settings.{Settings}
 
 by_kind : (feed : Feed) (settings : Settings) (k : FaultKind) (f : FeedFault) (first : Date) → IsRowFault feed settings first f
     → IsKeyedFault feed settings first (of_kind k f)

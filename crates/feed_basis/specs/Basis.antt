@@ -13,7 +13,7 @@ use Rattle.feed_timetable.specs.Names.{AreNamesOf}
 use Rattle.feed_ids.specs.NameLists.{NameLists}
 use Rattle.feed_ids.specs.Names.{KnowsStops}
 use Rattle.timetable.specs.Table.{Table, IsTable, stops_of}
-use Rattle.program_inputs.specs.declared.settings.Settings.{Settings}
+use Rattle.options.specs.declared.settings.Settings.{Settings}
 
 -- a timetable on the covered days, the ids of its stops, stations and trips, and the days
 pub record BasisData : Type 0 where

@@ -7,9 +7,9 @@ use Rattle.gtfs_tables.specs.Feed.{Feed, feed_tests, values_of}
 use Rattle.service_days.specs.Answers.{IsCoverAnswer}
 use Rattle.service_days.specs.Cover.{CoverDays}
 use Rattle.feed_timetable.specs.Answers.{IsFault}
-use Rattle.program_inputs.specs.declared.fault.Fault.{Fault}
-use Rattle.program_inputs.specs.declared.fault.Fault.TheVariants as faults
-use Rattle.program_inputs.specs.declared.settings.Settings.{Settings}
+use Rattle.faults.specs.declared.fault.Fault.{Fault}
+use Rattle.faults.specs.declared.fault.Fault.TheVariants as faults
+use Rattle.options.specs.declared.settings.Settings.{Settings}
 use Rattle.feed_basis.specs.Basis.{AreDays}
 
 -- the fault is that of the feed's first test that doesn't hold, or else the timetable on the covered days is too large

@@ -12,11 +12,12 @@ ghost use Rattle.timetable.specs.Table.{IsTable, stops_of};
 
 use answer_lines::{DayTime, day_time};
 use direct_connections::Network;
+use faults::Fault;
 use feed_ids::Names;
 use feed_timetable::{assemble, names_of};
 use gtfs_tables::{Files, Tables, read_tables};
 use jiff::civil::Date;
-use program_inputs::{Fault, Settings};
+use options::Settings;
 use service_days::Cover;
 use std::alloc::{AllocError, Global};
 use std::hash::RandomState;

@@ -5,8 +5,8 @@ use Rattle.gtfs_rows.specs.Faults.{first_fault, Explains}
 use Rattle.gtfs_tables.specs.Feed.{Feed, feed_tests, values_of}
 use Rattle.gtfs_tables.specs.Tables.{TableValues}
 use Rattle.gtfs_tables.specs.declared.reading.Files.{Files}
-use Rattle.program_inputs.specs.declared.fault.Fault.{Fault}
-use Rattle.program_inputs.specs.declared.fault.Fault.TheVariants as faults
+use Rattle.faults.specs.declared.fault.Fault.{Fault}
+use Rattle.faults.specs.declared.fault.Fault.TheVariants as faults
 use Rattle.feed_report.specs.declared.counts.Counts.{Counts}
 use Rattle.feed_report.specs.declared.counts.Missing.{Missing}
 

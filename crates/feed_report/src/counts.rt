@@ -4,8 +4,8 @@ ghost use Rattle.std.specs.Prelude.{◌≡◌, true, IfOk, IfErr, OnOk, is_some,
 ghost use Rattle.gtfs_tables.specs.Feed.{Feed, AreReaders};
 ghost use Rattle.feed_report.specs.Counts.{AreCounts, IsCheckFault, IsMissing, counts_in};
 
+use faults::Fault;
 use gtfs_tables::{Files, Skipped, Tables, read_tables};
-use program_inputs::Fault;
 use std::alloc::Global;
 use std::hash::RandomState;
 use std::io::Read;

@@ -1,7 +1,7 @@
 //! Faults for machines.
 
+use faults::Fault;
 use itinerary_texts::{FaultText, fault_text_json};
-use program_inputs::Fault;
 use std::alloc::{AllocError, Global};
 use std::format;
 

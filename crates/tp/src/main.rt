@@ -4,8 +4,9 @@
 use build_meter::Meter;
 use commands::run_words;
 use disk_model::{FileDisk, FileFault};
+use feed_files::{list_folder, open_feed};
 use folder_teller::FolderTeller;
-use program_inputs::{given_words, list_folder, open_feed, out_of_memory, texts, unread};
+use options::{given_words, out_of_memory, texts, unread};
 use recovery::is_begun;
 use std::fs::File;
 use std::hash::RandomState;

@@ -6,7 +6,7 @@ use Rattle.recovery.specs.Kinds.{IsOfKind}
 use Rattle.recovery.specs.declared.fault.RecoverFault.TheVariants.{Device, NotAStore}
 use Rattle.recovery.specs.declared.kind.FileKind.{FileKind}
 use Rattle.recovery.specs.declared.kind.FileKind.TheVariants.{Foreign}
-use Rattle.program_inputs.specs.declared.fault.Fault.TheVariants as faults
+use Rattle.faults.specs.declared.fault.Fault.TheVariants as faults
 use Rattle.commands.proofs.opening.open_ready.Goals as goal
 
 pub returns-in-Ok-Foreign-clause-kept_out : goal.returns-in-Ok-Foreign-clause-kept_out

@@ -1,0 +1,4 @@
+pub mod Options
+pub mod Settings
+pub mod Statuses
+pub mod Values
