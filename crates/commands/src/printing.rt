@@ -10,7 +10,7 @@ ghost use Rattle.commands.specs.Prints.{IsTextPrinted, statuses};
 ghost use Rattle.faults.specs.Faults.{status_of};
 
 use answer_lines::{Answer, PrintFault, Report, print};
-use faults::Fault;
+use faults::{Fault, FaultLines};
 use feed_report::FeedReport;
 use options::{out_of_memory, unwritten};
 use std::alloc::Global;
@@ -25,15 +25,12 @@ pub fn status<'a>(fault: &Fault<'a>) -> u8
     fault.status()
 }
 
-/// Tells a fault on `err`, behind `tp: `, with a line beneath it where it has one that says what to do. Gives the fault's status.
+/// Tells a fault on `err`, by its lines. Gives the fault's status.
 pub fn tell_fault<E: Write>(fault: &Fault<'_>, err: &mut E) -> u8
     ensures status { result ≡ status_of fault.now }
     ensures statuses { Contains statuses result }
 {
-    let _ = writeln!(err, "tp: {fault}");
-    if let Some(advice) = fault.advice() {
-        let _ = writeln!(err, "{advice}");
-    }
+    let _ = write!(err, "{}", FaultLines(fault));
     status(fault)
 }
 

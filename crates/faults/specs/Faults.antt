@@ -1,5 +1,5 @@
 -- The faults that the programs tell, and the status that each ends them with.
-use Rattle.std.specs.Prelude.{ℕ, Bool, true, false}
+use Rattle.std.specs.Prelude.{ℕ}
 use Rattle.gtfs_rows.specs.declared.fault.FaultKind.{FaultKind}
 use Rattle.gtfs_rows.specs.declared.fault.FaultKind.TheVariants as kinds
 use Rattle.gtfs_rows.specs.declared.fault.FeedFault.{FeedFault}
@@ -64,35 +64,3 @@ of_store stores.OtherTimetable = fault.Store stores.OtherTimetable
 of_store stores.OtherRides = fault.Store stores.OtherRides
 of_store (stores.Damaged number) = fault.Store (stores.Damaged number)
 of_store stores.Device = fault.Store stores.Device
-
--- a program prints advice beneath a fault of a date, a time, the covered days or a store, of a moment that isn't covered, of a stop whose
--- tree the store lacks, and of want of randomness
-abbrev pub days_have_advice : DayFault → Bool
-days_have_advice days.BadRange = true
-days_have_advice days.BadZone = false
-days_have_advice days.ZoneJump = false
-days_have_advice days.Memory = false
-
-abbrev pub store_has_advice : RecoverFault → Bool
-store_has_advice stores.Memory = false
-store_has_advice stores.NotAStore = true
-store_has_advice stores.OtherTimetable = true
-store_has_advice stores.OtherRides = true
-store_has_advice (stores.Damaged number) = true
-store_has_advice stores.Device = true
-
-abbrev pub has_advice : Fault → Bool
-has_advice fault.BadDate = true
-has_advice fault.BadTime = true
-has_advice fault.NoRandomness = true
-has_advice (fault.Feed f) = false
-has_advice (fault.Days f) = days_have_advice f
-has_advice (fault.Store f) = store_has_advice f
-has_advice fault.GateDamaged = true
-has_advice fault.StoreInUse = true
-has_advice fault.PutFailed = true
-has_advice (fault.UnknownStop id) = false
-has_advice fault.NotCovered = true
-has_advice (fault.NotStored id) = true
-has_advice fault.TooLarge = false
-has_advice fault.Memory = false

@@ -1,1 +1,4 @@
+pub mod Advice
 pub mod Faults
+pub mod Lines
+pub mod Texts

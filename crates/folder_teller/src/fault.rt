@@ -1,6 +1,6 @@
 //! Faults for machines.
 
-use faults::Fault;
+use faults::{Fault, file_name};
 use itinerary_texts::{FaultText, fault_text_json};
 use std::alloc::{AllocError, Global};
 use std::format;
@@ -22,10 +22,10 @@ fn words_of(shown: &str) -> (Option<&str>, &str) {
 }
 
 // The name of the feed's file that is at fault.
-fn file_of(alloc: Global, fault: &Fault<'_>) -> Result<Option<String>, AllocError> {
+fn file_of(fault: &Fault<'_>) -> Option<&'static str> {
     match fault {
-        Fault::Feed(fault) => Ok(Some(format!(in alloc; "{}", fault.file)?)),
-        _ => Ok(None),
+        Fault::Feed(fault) => Some(file_name(fault.file)),
+        _ => None,
     }
 }
 
@@ -77,11 +77,9 @@ pub(crate) fn named_fault_json(
 /// A fault as an object of JSON, on one line, without a line's end. It fails only if memory runs out.
 pub(crate) fn fault_json<'a>(alloc: Global, fault: &'a Fault<'a>) -> Result<String, AllocError> {
     let shown = format!(in alloc; "{fault}")?;
-    let file = file_of(alloc, fault)?;
-    let name = file.as_ref().map(|name| name.as_str());
     let text = text_of(
         shown.as_str(),
-        name,
+        file_of(fault),
         row_of(fault),
         id_of(fault),
         fault.status(),

@@ -1,0 +1,43 @@
+-- What to do about a fault, as a line to print beneath it. The lines themselves stand in the code, and are cited from there.
+use Rattle.std.specs.Prelude.{ℕ, List, Option, None, Some}
+use Rattle.service_days.specs.declared.fault.DayFault.{DayFault}
+use Rattle.service_days.specs.declared.fault.DayFault.TheVariants as days
+use Rattle.recovery.specs.declared.fault.RecoverFault.{RecoverFault}
+use Rattle.recovery.specs.declared.fault.RecoverFault.TheVariants as stores
+use Rattle.faults.specs.declared.fault.Fault.{Fault}
+use Rattle.faults.specs.declared.fault.Fault.TheVariants as fault
+use Rattle.faults.specs.declared.advice.TheConstants.{BAD_DATE, BAD_RANGE, BAD_TIME, DAMAGED, DEVICE, GATE_DAMAGED, IN_USE, NOT_A_STORE, NOT_COVERED}
+use Rattle.faults.specs.declared.advice.TheConstants.{NOT_STORED, NO_RANDOMNESS, OTHER_RIDES, OTHER_TIMETABLE, PUT_FAILED}
+
+-- of the faults of the covered days, a range that can't be covered has advice
+abbrev pub days_advice : DayFault → Option (List ℕ)
+days_advice days.BadRange = Some BAD_RANGE.now
+days_advice days.BadZone = None
+days_advice days.ZoneJump = None
+days_advice days.Memory = None
+
+-- each fault of a store has, but for want of memory
+abbrev pub store_advice : RecoverFault → Option (List ℕ)
+store_advice stores.Memory = None
+store_advice stores.NotAStore = Some NOT_A_STORE.now
+store_advice stores.OtherTimetable = Some OTHER_TIMETABLE.now
+store_advice stores.OtherRides = Some OTHER_RIDES.now
+store_advice (stores.Damaged number) = Some DAMAGED.now
+store_advice stores.Device = Some DEVICE.now
+
+-- a date, a time, covered days, a store, a moment that isn't covered, a stop whose tree the store lacks, and want of randomness have advice
+abbrev pub advice_of : Fault → Option (List ℕ)
+advice_of fault.BadDate = Some BAD_DATE.now
+advice_of fault.BadTime = Some BAD_TIME.now
+advice_of fault.NoRandomness = Some NO_RANDOMNESS.now
+advice_of (fault.Feed f) = None
+advice_of (fault.Days f) = days_advice f
+advice_of (fault.Store f) = store_advice f
+advice_of fault.GateDamaged = Some GATE_DAMAGED.now
+advice_of fault.StoreInUse = Some IN_USE.now
+advice_of fault.PutFailed = Some PUT_FAILED.now
+advice_of (fault.UnknownStop id) = None
+advice_of fault.NotCovered = Some NOT_COVERED.now
+advice_of (fault.NotStored id) = Some NOT_STORED.now
+advice_of fault.TooLarge = None
+advice_of fault.Memory = None
