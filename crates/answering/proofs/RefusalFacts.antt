@@ -6,7 +6,7 @@ use Rattle.feed_ids.specs.Names.{stops_at}
 use Rattle.planner.specs.Questions as planner
 use Rattle.planner.specs.declared.fault.AskFault.{AskFault}
 use Rattle.planner.specs.declared.fault.AskFault.TheVariants as faults
-use Rattle.command_line.specs.declared.job.Question.{Question}
+use Rattle.question_lines.specs.declared.question.Question.{Question}
 use Rattle.feed_basis.specs.Basis.{BasisData}
 use Rattle.answering.specs.Refusals.{IsCovered, IsMissing, IsUnanswered, of_ask}
 

@@ -5,7 +5,7 @@ use Rattle.timetable.specs.Table.{Table}
 use Rattle.pattern_query.specs.Answer.{PointData, AreBest, numbers}
 use Rattle.feed_ids.specs.Names.{stops_at}
 use Rattle.planner.specs.Questions.{AreComplete, Held, IsStored, ReachesBetween}
-use Rattle.command_line.specs.declared.job.Question.{Question}
+use Rattle.question_lines.specs.declared.question.Question.{Question}
 use Rattle.feed_basis.specs.Basis.{BasisData}
 use Rattle.answering.specs.Answers.{IsJourneyOf}
 

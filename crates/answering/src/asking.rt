@@ -10,11 +10,11 @@ ghost use Rattle.feed_basis.specs.Ids.{stop_alone};
 ghost use Rattle.answering.specs.Refusals.{IsCovered, IsMissing, IsUnanswered, NoneMissing, of_ask};
 
 use answer_lines::Answer;
-use command_line::Question;
 use direct_connections::Network;
 use faults::Fault;
 use feed_basis::Basis;
 use planner::{AskFault, Trees, ask_on};
+use question_lines::Question;
 use rounds::Rides;
 use scanned_journeys::scan_journeys;
 use std::alloc::{AllocError, Global};

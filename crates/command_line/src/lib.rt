@@ -1,13 +1,16 @@
-//! The command line of the journey planner's program: from its words to what it is asked to do.
+//! The command line of the journey planner's program: from its words to what it is asked to do, with days and times read.
 #![tactic(auto)]
 
 mod format;
 mod job;
 mod program;
+mod question;
+mod unread;
 mod words;
 mod workers;
 
 pub use format::{Format, Style};
-pub use job::{Command, Job, Plan, Question, Task};
+pub use job::{Command, Job, Plan, Task};
+pub use unread::Unread;
 pub use words::read_words;
 pub use workers::Workers;

@@ -1,5 +1,3 @@
-pub mod Words
-pub mod Errands
 pub mod Feeds
 pub mod Files
 pub mod Prints

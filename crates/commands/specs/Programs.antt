@@ -4,25 +4,34 @@ use Rattle.std.specs.Io.KnownBytes.{Keeps}
 use Rattle.clap.specs.Words.{Text, fault_of, subcommand_of}
 use Rattle.gtfs_tables.specs.Feed.{Feed}
 use Rattle.command_line.specs.CommandLine.{program_app}
-use Rattle.command_line.specs.Jobs.{IsJob, NamesNoJob}
-use Rattle.command_line.specs.Tasks.{feed_of}
+use Rattle.command_line.specs.Jobs.{IsJob}
+use Rattle.command_line.specs.Folders.{feed_of}
+use Rattle.command_line.specs.Misreads.{IsUnread}
 use Rattle.command_line.specs.declared.job.Job.{Job}
 use Rattle.command_line.specs.declared.job.Job.TheVariants as jobs
+use Rattle.command_line.specs.declared.unread.Unread.{Unread}
+use Rattle.command_line.specs.declared.unread.Unread.TheVariants as unread
 use Rattle.feed_report.specs.Reports.{Names}
-use Rattle.options.specs.Statuses.{IsShown, IsStatus}
-use Rattle.faults.specs.declared.fault.Fault.TheVariants.{Memory}
+use Rattle.options.specs.Statuses.{IsShown}
+use Rattle.faults.specs.declared.fault.Fault.TheVariants.{BadDate, BadTime, Memory}
 use Rattle.commands.specs.Files.{Opening}
 use Rattle.commands.specs.Runs.{IsCheckRun, IsRun, Run, Tells}
 use Rattle.commands.specs.Tellings.{IsStopsText, Telling}
 
--- the words give no job: help was asked for and is shown, or there is a fault of words, or memory ran out, and nothing is printed
-pub record IsNoJob (words : List Text) (run : Run) : Type 0 where
-  pub status : ℕ
-  pub is : IsStatus (fault_of program_app words) (NamesNoJob (subcommand_of program_app words)) status
-  pub shown : IsShown status run.status
-  pub nothing : ¬ (status ≡ 0) → Keeps run.before run.after
+-- what comes of words that give no job: what is to be shown is shown, and only help on standard output; or the fault of a day or of a time
+-- is reported
+abbrev pub IsRefused : Unread → Run → Type 0
+IsRefused (unread.Shown status) run = IsShown status run.status × (¬ (status ≡ 0) → Keeps run.before run.after)
+IsRefused (unread.BadDate style) run = Tells (λ f. f ≡ BadDate) run
+IsRefused (unread.BadTime style) run = Tells (λ f. f ≡ BadTime) run
 
--- the words give this job, and nothing in them is at fault
+-- the words give no job for this cause: help was asked for, or there is a fault of words, or memory ran out
+pub record IsNoJob (words : List Text) (run : Run) : Type 0 where
+  pub why : Unread
+  pub is : IsUnread (fault_of program_app words) (subcommand_of program_app words) why
+  pub refused : IsRefused why run
+
+-- the words give this job, with its days and its time, and nothing in them is at fault
 pub record NameJob (words : List Text) (job : Job) : Type 0 where
   pub faultless : fault_of program_app words ≡ []
   pub is : IsJob (subcommand_of program_app words) job

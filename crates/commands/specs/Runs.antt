@@ -1,21 +1,23 @@
 -- What a run of the program over a feed and the disk of a store leaves.
-use Rattle.std.specs.Prelude.{◌≡◌, ◌↔◌, ◌⊎◌, ℕ, List, Option, None, Some, Result, Ok, Err, IfErr, Bool, true, false}
+use Rattle.std.specs.Prelude.{◌≡◌, ◌↔◌, ◌⊎◌, ℕ, List, Option, None, Some, Result, Ok, IfErr, Bool, true, false}
 use Rattle.disk_model.specs.Disk.{State}
 use Rattle.gtfs_tables.specs.Feed.{Feed}
 use Rattle.recovery.specs.Kinds.{CanOpen}
+use Rattle.service_days.specs.Answers.{IsMoment}
 use Rattle.section_store.specs.Sections.{Form}
 use Rattle.command_line.specs.declared.format.Style.{Style}
 use Rattle.command_line.specs.declared.format.Style.TheVariants as styles
 use Rattle.command_line.specs.declared.job.Command.{Command}
 use Rattle.command_line.specs.declared.job.Command.TheVariants as commands
 use Rattle.command_line.specs.declared.job.Plan.{Plan}
-use Rattle.command_line.specs.declared.job.Question.{Question}
 use Rattle.command_line.specs.declared.job.Task.{Task}
 use Rattle.command_line.specs.declared.job.Task.TheVariants as tasks
+use Rattle.question_lines.specs.declared.question.Question.{Question}
 use Rattle.faults.specs.declared.fault.Fault.{Fault}
 use Rattle.faults.specs.declared.fault.Fault.TheVariants as faults
 use Rattle.options.specs.declared.settings.Settings.{Settings}
 use Rattle.feed_basis.specs.Basis.{BasisData}
+use Rattle.feed_basis.specs.BasisFaults.{IsBasisFault}
 use Rattle.feed_report.specs.Counts.{AreCounts, IsCheckFault}
 use Rattle.feed_report.specs.Reports.{Names, report_text}
 use Rattle.feed_report.specs.declared.report.FeedReport.{FeedReport}
@@ -30,7 +32,7 @@ use Rattle.serving.specs.Tellings.{Telling as ReplyTelling}
 use Rattle.store_answers.specs.Replies.{IsServing}
 use Rattle.store_answers.specs.Stores.{IsUnopened, OnlyFailing, form_over}
 use Rattle.store_answers.specs.declared.served.Served.{Served}
-use Rattle.commands.specs.Feeds.{IsGround, IsGroundFault, LeavesAt}
+use Rattle.commands.specs.Feeds.{IsGround}
 use Rattle.commands.specs.Files.{IsKeptOut, Opening}
 use Rattle.commands.specs.Prints.{AreReportLines, IsFaulted, IsPrint, served_status}
 use Rattle.commands.specs.Tellings.{IsAnswerPrint, IsReportPrint, Telling, tells_legs, tells_reply}
@@ -128,19 +130,20 @@ IsServeIn o t style basis k input path run disk =
     ⊎ IsOverStore o (form_over basis k) path
     (IsServeRun (λ question reply text. tells_reply t style basis question reply text) (tells_legs style false) basis k input) run disk
 
--- a question, over the timetable, at the moment of its words
-abbrev pub IsTaskRun : {D : Type 0} → Opening D → Telling → Style → BasisData → ℕ → Option ℕ → Task → Run → Option D → Type 0
-IsTaskRun o t style basis k moment (tasks.Direct question) run disk =
+-- a question, over the timetable, at its moment
+abbrev pub IsTaskRun : {D : Type 0} → Opening D → Telling → Style → BasisData → ℕ → Option ℕ → Question → Task → Run → Option D → Type 0
+IsTaskRun o t style basis k moment question tasks.Direct run disk =
     IsStopRun t style basis moment question (IsDirect basis) run × (disk ≡ None)
-IsTaskRun o t style basis k moment (tasks.Scan question legs) run disk =
+IsTaskRun o t style basis k moment question (tasks.Scan legs) run disk =
     IsStopRun t style basis moment question (ArePoints basis k (tells_legs style legs)) run × (disk ≡ None)
-IsTaskRun o t style basis k moment (tasks.Ask question on legs store) run disk =
+IsTaskRun o t style basis k moment question (tasks.Ask legs store) run disk =
     IsOverStore o (form_over basis k) store.now (IsAskRun t style basis k moment question legs) run disk
 
 -- a command, over the timetable, and over the bytes of standard input where they are known
 abbrev pub IsCommandRun : {D : Type 0} → Opening D → Telling → Option (List ℕ) → Style → Settings → BasisData → Command → Run → Option D → Type 0
-IsCommandRun o t input style settings basis (commands.Answer task) run disk =
-    (moment : Option ℕ) × LeavesAt settings task basis moment × IsTaskRun o t style basis settings.rides moment task run disk
+IsCommandRun o t input style settings basis (commands.Answer task question) run disk =
+    (moment : Option ℕ) × IsMoment basis.cover question.day question.seconds moment
+    × IsTaskRun o t style basis settings.rides moment question task run disk
 IsCommandRun o t input style settings basis (commands.Build store workers progress) run disk =
     IsOverStore o (form_over basis settings.rides) store.now (IsBuildRun basis settings.rides) run disk
 IsCommandRun o t input style settings basis (commands.List store) run disk =
@@ -148,12 +151,12 @@ IsCommandRun o t input style settings basis (commands.List store) run disk =
 IsCommandRun o t input style settings basis (commands.Serve store workers) run disk =
     IsServeIn o t style basis settings.rides input store.now run disk
 
--- What a run leaves, in the order in which faults are looked for: the words, the feed and its days; then the store, and then the question.
--- The store is opened only where the feed and its days are without fault.
+-- What a run leaves, in the order in which faults are looked for: the feed and its days; then the store, and then the question. The store
+-- is opened only where the feed and its days are without fault.
 abbrev pub IsRun : {D : Type 0} → Opening D → Telling → Option (List ℕ) → Bool → Feed → Plan → Run → Option D → Type 0
 IsRun o t input keyed feed plan run disk =
-    (Tells (IsGroundFault keyed feed plan) run × (disk ≡ None))
-    ⊎ ((basis : BasisData) × IsGround keyed feed plan.settings basis × IsCommandRun o t input plan.style plan.settings basis plan.command run disk)
+    (Tells (IsBasisFault keyed feed plan.settings plan.first) run × (disk ≡ None))
+    ⊎ ((basis : BasisData) × IsGround keyed feed plan basis × IsCommandRun o t input plan.style plan.settings basis plan.command run disk)
 
 -- the lines that tell what the feed has, and what else is among the names that its folder was said to have
 abbrev pub AreFeedLines : {E : Type 0} → (Result Names E → Type 0) → Bool → Feed → List ℕ → ℕ → Type 0

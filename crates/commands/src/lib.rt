@@ -3,7 +3,6 @@
 #![tactic(auto)]
 
 mod checking;
-mod errand;
 mod opening;
 mod printing;
 mod program;
@@ -13,7 +12,6 @@ mod served;
 mod storing;
 mod telling;
 
-pub use errand::Leaving;
 pub use program::run_words;
 pub use running::run;
 pub use telling::{Asked, Teller};

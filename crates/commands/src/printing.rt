@@ -25,7 +25,7 @@ pub fn status<'a>(fault: &Fault<'a>) -> u8
     fault.status()
 }
 
-/// Tells a fault on `err`, by its lines. Gives the fault's status.
+/// Prints the lines of a fault on `err`. Gives the fault's status.
 pub fn tell_fault<E: Write>(fault: &Fault<'_>, err: &mut E) -> u8
     ensures status { result ≡ status_of fault.now }
     ensures statuses { Contains statuses result }

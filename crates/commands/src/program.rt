@@ -4,15 +4,16 @@ ghost use Rattle.std.specs.Prelude.{is_some, map};
 ghost use Rattle.std.specs.Fn.{FnOnceReturnsAt};
 ghost use Rattle.gtfs_tables.specs.Feed.{AreReaders};
 ghost use Rattle.commands.specs.Files.{opening_of};
-ghost use Rattle.commands.specs.Programs.{IsProgramRun};
+ghost use Rattle.commands.specs.Programs.{IsProgramRun, IsRefused};
 ghost use Rattle.commands.specs.Runs.{run_of};
 ghost use Rattle.commands.specs.Tellings.{telling_of};
 
 use crate::checking::run_check;
 use crate::running::run;
-use crate::telling::{Teller, run_stops};
-use command_line::{Command, Job, Plan, read_words};
+use crate::telling::{Teller, run_stops, tell_word_fault};
+use command_line::{Command, Job, Plan, Unread, read_words};
 use disk_model::{Disk, FileFault};
+use faults::Fault;
 use gtfs_tables::Files;
 use options::{out_of_memory, show};
 use precomputing::Progress;
@@ -26,6 +27,24 @@ use std::thread::Threads;
 // Whether the words ask that progress is shown.
 fn shows_progress(plan: &Plan<'_>) -> bool {
     matches!(plan.command, Command::Build { progress: true, .. })
+}
+
+// Shows what is to be shown of words that give no job, or reports the fault of a day or a time. Gives the status.
+fn tell_unread<T: Teller, W: Write, E: Write>(
+    alloc: Global,
+    teller: &T,
+    why: Unread,
+    shown: &[u8],
+    out: &mut W,
+    err: &mut E,
+) -> u8
+    ensures { IsRefused why (run_of (W.contents out.old) (W.contents out.new) result) }
+{
+    match why {
+        Unread::Shown(status) => show("tp", shown, status, out, err),
+        Unread::BadDate(style) => tell_word_fault(alloc, teller, style, &Fault::BadDate, err),
+        Unread::BadTime(style) => tell_word_fault(alloc, teller, style, &Fault::BadTime, err),
+    }
 }
 
 /// Reads the program's words, the first of which is its name, and does what they say: `open_feed` opens the files of the feed in the
@@ -78,8 +97,8 @@ pub fn run_words<
     let mut shown = Vec::new(alloc);
     let job = match read_words(alloc, words, &mut shown) {
         Ok(job) => job,
-        Err(status) => {
-            let status = show("tp", shown.as_slice(), status, &mut out, err);
+        Err(why) => {
+            let status = tell_unread(alloc, teller, why, shown.as_slice(), &mut out, err);
             return (status, None, out);
         }
     };

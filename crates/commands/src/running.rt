@@ -1,23 +1,19 @@
 //! Running a plan.
 
-ghost use Rattle.std.specs.Prelude.{IfOk, IfErr, is_some};
+ghost use Rattle.std.specs.Prelude.{is_some};
 ghost use Rattle.std.specs.Fn.{FnOnceReturnsAt};
 ghost use Rattle.std.specs.List.{Contains};
 ghost use Rattle.gtfs_tables.specs.Feed.{Feed, AreReaders};
-ghost use Rattle.commands.specs.Errands.{IsErrand};
-ghost use Rattle.commands.specs.Feeds.{IsGround, IsGroundFault};
 ghost use Rattle.commands.specs.Files.{opening_of};
 ghost use Rattle.commands.specs.Prints.{statuses};
 ghost use Rattle.commands.specs.Tellings.{telling_of};
 ghost use Rattle.commands.specs.Runs.{IsRun, IsTaskRun, run_of};
 
-use crate::errand::{Errand, words_of};
 use crate::storing::{run_ask, run_build, run_list, run_serve};
 use crate::telling::{Asked, Teller, print_answer_as, tell_plan_fault, tells_legs};
 use answering::{direct, scan};
-use command_line::{Plan, Task};
+use command_line::{Command, Plan, Task};
 use disk_model::{Disk, FileFault};
-use faults::Fault;
 use feed_basis::{Basis, basis_of};
 use gtfs_tables::Files;
 use precomputing::Progress;
@@ -42,63 +38,32 @@ fn run_task<D: Disk, S: FnOnce(&str) -> Result<D, FileFault>, T: Teller, W: Writ
 ) -> (u8, Option<D>)
     requires { S.IsAlwaysCallable open_store }
     ensures run { IsTaskRun (opening_of (FnOnceReturnsAt S.FnOnce open_store) D.honest D.state D.failures)
-        (telling_of T.tells T.reports T.finds T.replies) asked.now.plan.style basis.now rides moment asked.now.task
+        (telling_of T.tells T.reports T.finds T.replies) asked.now.plan.now.style basis.now rides moment asked.now.question.now
+        asked.now.task.now
         (run_of (W.contents out.old) (W.contents out.new) result.0) result.1 }
     ensures statuses { Contains statuses result.0 }
 {
     let style = asked.plan.style;
-    match &asked.task {
-        Task::Direct(question) => {
-            let answer = direct(alloc, basis, question, moment);
+    match asked.task {
+        Task::Direct => {
+            let answer = direct(alloc, basis, asked.question, moment);
             (
                 print_answer_as(alloc, teller, asked, basis, answer, out, err),
                 None,
             )
         }
-        Task::Scan { question, legs } => {
-            let answer = scan(
-                alloc,
-                basis,
-                question,
-                moment,
-                rides,
-                tells_legs(style, *legs),
-            );
+        Task::Scan { legs } => {
+            let legs = tells_legs(style, *legs);
+            let answer = scan(alloc, basis, asked.question, moment, rides, legs);
             (
                 print_answer_as(alloc, teller, asked, basis, answer, out, err),
                 None,
             )
         }
-        Task::Ask {
-            question,
-            legs,
-            store,
-            ..
-        } => run_ask(
-            alloc, teller, asked, basis, rides, moment, question, *legs, store, open_store, out,
-            err,
+        Task::Ask { legs, store } => run_ask(
+            alloc, teller, asked, basis, rides, moment, *legs, store, open_store, out, err,
         ),
     }
-}
-
-// What the plan stands on: the timetable of the feed, and the command with its words read.
-fn ground<'a, R: Read + Drop>(
-    alloc: Global,
-    hash_keys: Option<RandomState>,
-    plan: &Plan<'a>,
-    files: Files<R>,
-) -> Result<(Basis, Errand<'a>), Fault<'a>>
-    ensures ground { (feed : Feed) → AreReaders R.remaining files feed
-        → IfOk result (λ ground. IsGround (is_some hash_keys) feed plan.now.settings ground.0) }
-    ensures errand { IfOk result (λ ground. IsErrand plan.now.settings.date.now plan.now.command ground.1) }
-    ensures fault { (feed : Feed) → AreReaders R.remaining files feed → IfErr result (IsGroundFault (is_some hash_keys) feed plan.now) }
-{
-    let words = match words_of(plan) {
-        Ok(words) => words,
-        Err(fault) => return Err(fault),
-    };
-    let basis = basis_of(alloc, hash_keys, &plan.settings, words.first, files)?;
-    Ok((basis, words.errand))
 }
 
 /// Does the plan over the feed's files, and over the disk of the store that it names: `open_store` opens the file of that path, and is
@@ -106,8 +71,8 @@ fn ground<'a, R: Read + Drop>(
 /// beneath it where there is something to do about it. In a style that isn't lines, `teller` has the texts. A build has its workers in
 /// threads of `rt`; while it goes on, `progress` is told how far it is. Questions that are asked line by line stand in `input`.
 ///
-/// Gives the status to end with, the disk where it was opened, and the output: 0 done; 1 the feed or its days are at fault; 2 the dates or
-/// the time are; 3 a stop has no tree, since it would be too large, memory was refused for it, or the questions ended before it was built;
+/// Gives the status to end with, the disk where it was opened, and the output: 0 done; 1 the feed or its days are at fault; 3 a
+/// stop has no tree, since it would be too large, memory was refused for it, or the questions ended before it was built;
 /// 4 the store is at fault, or its device; 6 the question is at fault; 7 memory ran out; 8 `out` refused a write. Ids are looked up under
 /// `hash_keys`: where the system gave no randomness for them, that is the fault.
 pub fn run<
@@ -140,39 +105,39 @@ pub fn run<
         (run_of (W.contents out) (W.contents result.2) result.0) result.1 }
     ensures statuses { Contains statuses result.0 }
 {
-    let (basis, errand) = match ground(alloc, hash_keys, plan, files) {
-        Ok(ground) => ground,
+    let basis = match basis_of(alloc, hash_keys, &plan.settings, plan.first, files) {
+        Ok(basis) => basis,
         Err(fault) => return (tell_plan_fault(alloc, teller, plan, &fault, err), None, out),
     };
     let rides = Rides::new(plan.settings.rides);
     let mut out = out;
-    match errand {
-        Errand::Answer(task, leaving) => {
-            let moment = basis.moment(leaving.day, leaving.seconds);
+    match &plan.command {
+        Command::Answer { task, question } => {
+            let moment = basis.moment(question.day, question.seconds);
             let asked = Asked {
-                plan: *plan,
+                plan,
                 task,
-                leaving,
+                question,
             };
             let (status, disk) = run_task(
                 alloc, teller, &basis, rides, moment, &asked, open_store, &mut out, err,
             );
             (status, disk, out)
         }
-        Errand::Build { path, workers } => {
+        Command::Build { store, workers, .. } => {
             let (status, disk) = run_build(
-                alloc, rt, &basis, rides, path, workers, open_store, progress, &mut out, err,
+                alloc, rt, &basis, rides, store, *workers, open_store, progress, &mut out, err,
             );
             (status, disk, out)
         }
-        Errand::List(path) => {
+        Command::List { store } => {
             let (status, disk) = run_list(
-                alloc, teller, plan, &basis, rides, path, open_store, &mut out, err,
+                alloc, teller, plan, &basis, rides, store, open_store, &mut out, err,
             );
             (status, disk, out)
         }
-        Errand::Serve { path, workers } => run_serve(
-            alloc, rt, teller, plan, &basis, rides, path, workers, open_store, input, out, err,
+        Command::Serve { store, workers } => run_serve(
+            alloc, rt, teller, plan, &basis, rides, store, *workers, open_store, input, out, err,
         ),
     }
 }

@@ -15,7 +15,7 @@ use crate::served::tell_serving;
 use crate::telling::{
     Asked, Teller, print_answer_as, print_report_as, tell_plan_fault, tells_legs,
 };
-use command_line::{Plan, Question, Style, Workers};
+use command_line::{Plan, Style, Workers};
 use disk_model::{Disk, FileFault};
 use faults::Fault;
 use feed_basis::Basis;
@@ -205,7 +205,6 @@ pub fn run_ask<D: Disk, S: FnOnce(&str) -> Result<D, FileFault>, T: Teller, W: W
     basis: &Basis,
     rides: Rides,
     moment: Option<u32>,
-    question: &Question<'_>,
     legs: bool,
     path: &str,
     open_store: S,
@@ -215,20 +214,29 @@ pub fn run_ask<D: Disk, S: FnOnce(&str) -> Result<D, FileFault>, T: Teller, W: W
     requires { S.IsAlwaysCallable open_store }
     ensures run { IsOverStore (opening_of (FnOnceReturnsAt S.FnOnce open_store) D.honest D.state D.failures)
         (form_over basis.now rides) path.now
-        (IsAskRun (telling_of T.tells T.reports T.finds T.replies) asked.now.plan.style basis.now rides moment question.now legs)
+        (IsAskRun (telling_of T.tells T.reports T.finds T.replies) asked.now.plan.now.style basis.now rides moment
+        asked.now.question.now legs)
         (run_of (W.contents out.old) (W.contents out.new) result.0) result.1 }
     ensures statuses { Contains statuses result.0 }
 {
     match open_ready(alloc, basis, rides, path, open_store) {
         Err((fault, disk)) => (
-            tell_plan_fault(alloc, teller, &asked.plan, &fault, err),
+            tell_plan_fault(alloc, teller, asked.plan, &fault, err),
             disk,
         ),
         Ok(ready) => {
             let Ready { disk, is_new } = ready;
             tell_new(path, is_new, err);
             let legs = tells_legs(asked.plan.style, legs);
-            let (answer, disk) = ask_stored(alloc, basis, rides, disk, question, moment, legs);
+            let (answer, disk) = ask_stored(
+                alloc,
+                basis,
+                rides,
+                disk,
+                asked.question,
+                moment,
+                legs,
+            );
             let status = print_answer_as(alloc, teller, asked, basis, answer, out, err);
             (status, Some(disk))
         }

@@ -15,7 +15,6 @@ ghost use Rattle.serving.specs.Tellings.{Telling};
 ghost use Rattle.commands.specs.Prints.{statuses};
 ghost use Rattle.commands.specs.Tellings.{IsAnswerText, IsPrintedOf, IsReportText, IsStopsFault, IsStopsText, tells_legs};
 
-use crate::errand::Leaving;
 use crate::printing::{print_text, status, tell_fault};
 use answer_lines::{Answer, Report};
 use command_line::{Format, Plan, Style, Task};
@@ -27,12 +26,12 @@ use serving::Reply;
 use std::alloc::{AllocError, Global};
 use std::io::Write;
 
-/// What an answer is told of beside itself: the words that asked, and when one leaves.
+/// What the text of an answer is made of beside the answer: the plan that asked, and its question.
 #[derive(Clone, Copy)]
 pub struct Asked<'a> {
-    pub plan: Plan<'a>,
-    pub task: Task<'a>,
-    pub leaving: Leaving,
+    pub plan: &'a Plan<'a>,
+    pub task: &'a Task<'a>,
+    pub question: &'a Question<'a>,
 }
 
 /// Tells answers, reports, replies and faults in formats beside their lines. A text ends with a line's end.
@@ -107,6 +106,38 @@ pub trait Teller: Copy {
     fn near(&self, alloc: Global, folder: &str, id: &str) -> Option<String>;
 }
 
+// The text of a fault in a style; none if the style has it as lines.
+fn fault_text_as<T: Teller>(
+    alloc: Global,
+    teller: &T,
+    style: Style,
+    fault: &Fault<'_>,
+) -> Option<String> {
+    match style {
+        Style::Lines => None,
+        Style::Told(format) => teller.fault(alloc, format, fault),
+    }
+}
+
+/// Reports a fault of the words on `err` in a style. Gives the fault's status.
+pub fn tell_word_fault<T: Teller, E: Write>(
+    alloc: Global,
+    teller: &T,
+    style: Style,
+    fault: &Fault<'_>,
+    err: &mut E,
+) -> u8
+    ensures { result ≡ status_of fault.now }
+{
+    match fault_text_as(alloc, teller, style, fault) {
+        Some(text) => {
+            let _ = err.write_all(text.as_bytes());
+            status(fault)
+        }
+        None => tell_fault(fault, err),
+    }
+}
+
 /// Tells a fault of a plan on `err`, as its style has it. Gives the fault's status.
 pub fn tell_plan_fault<T: Teller, E: Write>(
     alloc: Global,
@@ -118,9 +149,7 @@ pub fn tell_plan_fault<T: Teller, E: Write>(
     ensures status { result ≡ status_of fault.now }
     ensures statuses { Contains statuses result }
 {
-    if let Style::Told(format) = plan.style
-        && let Some(text) = teller.fault(alloc, format, fault)
-    {
+    if let Some(text) = fault_text_as(alloc, teller, plan.style, fault) {
         let _ = err.write_all(text.as_bytes());
         return status(fault);
     }
@@ -170,14 +199,14 @@ pub fn print_answer_as<T: Teller, W: Write, E: Write>(
     err: &mut E,
 ) -> u8
     ensures told { MatchResult answer.entry
-        (λ answer. IsAnswerText (λ format. T.tells format basis.now answer) asked.now.plan.style answer
+        (λ answer. IsAnswerText (λ format. T.tells format basis.now answer) asked.now.plan.now.style answer
         (W.contents out.old) (W.contents out.new) result)
         (λ fault. (result ≡ status_of fault) × Keeps (W.contents out.old) (W.contents out.new)) }
     ensures statuses { Contains statuses result }
 {
     let answer = match answer {
         Ok(answer) => answer,
-        Err(fault) => return tell_plan_fault(alloc, teller, &asked.plan, &fault, err),
+        Err(fault) => return tell_plan_fault(alloc, teller, asked.plan, &fault, err),
     };
     match asked.plan.style {
         Style::Lines => print_text(alloc, format_args!("{answer}\n"), 0, out, err),

@@ -6,8 +6,8 @@ use Rattle.recovery.specs.declared.fault.RecoverFault.{RecoverFault}
 use Rattle.recovery.specs.declared.fault.RecoverFault.TheVariants as stores
 use Rattle.faults.specs.declared.fault.Fault.{Fault}
 use Rattle.faults.specs.declared.fault.Fault.TheVariants as fault
-use Rattle.faults.specs.declared.advice.TheConstants.{BAD_DATE, BAD_RANGE, BAD_TIME, DAMAGED, DEVICE, GATE_DAMAGED, IN_USE, NOT_A_STORE, NOT_COVERED}
-use Rattle.faults.specs.declared.advice.TheConstants.{NOT_STORED, NO_RANDOMNESS, OTHER_RIDES, OTHER_TIMETABLE, PUT_FAILED}
+use Rattle.faults.specs.declared.advice.TheConstants.{BAD_DATE, BAD_RANGE, BAD_TIME, DAMAGED, DEVICE, GATE_DAMAGED, IN_USE, NOT_A_STORE}
+use Rattle.faults.specs.declared.advice.TheConstants.{NOT_COVERED, NOT_STORED, NO_RANDOMNESS, OTHER_RIDES, OTHER_TIMETABLE, PUT_FAILED}
 
 -- of the faults of the covered days, a range that can't be covered has advice
 abbrev pub days_advice : DayFault → Option (List ℕ)

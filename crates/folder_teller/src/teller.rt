@@ -2,8 +2,8 @@
 
 use crate::fault::fault_json;
 use crate::replies::{Lookup, MEMORY_REFUSED, reply_text};
-use crate::texts::{itinerary_text, line, stops_text};
-use answer_lines::{Answer, DayTime, Report};
+use crate::texts::{asked_by, itinerary_text, line, stops_text};
+use answer_lines::{Answer, Report};
 use command_line::{Format, Plan, Task};
 use commands::{Asked, Teller};
 use faults::Fault;
@@ -101,24 +101,9 @@ impl<'r> FolderTeller<'r> {
 // The command of a task.
 fn command_of(task: &Task<'_>) -> &'static str {
     match task {
-        Task::Direct(_) => "direct",
+        Task::Direct => "direct",
         Task::Scan { .. } => "scan",
         Task::Ask { .. } => "ask",
-    }
-}
-
-// What was asked, for an answer in a format.
-fn asked_for<'a>(format: Format, asked: &Asked<'a>) -> AskedFor<'a> {
-    let question = asked.task.question();
-    AskedFor {
-        command: command_of(&asked.task),
-        from: question.from,
-        to: question.to,
-        departs: DayTime {
-            date: asked.leaving.day,
-            seconds: asked.leaving.seconds,
-        },
-        through: format == Format::GeoJson,
     }
 }
 
@@ -143,7 +128,7 @@ impl Teller for FolderTeller<'_> {
         answer: &Answer,
     ) -> Result<String, AllocError> {
         let settings = &asked.plan.settings;
-        let asked = asked_for(format, asked);
+        let asked = asked_by(command_of(asked.task), asked.question, format);
         let itinerary = self.itinerary(alloc, settings, &asked, basis, answer)?;
         itinerary_text(alloc, format, &itinerary)
     }

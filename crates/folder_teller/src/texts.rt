@@ -1,10 +1,27 @@
 //! Texts in formats, each with a line's end. Each call fails only if memory runs out.
 
+use answer_lines::DayTime;
 use command_line::Format;
+use itineraries::Asked;
 use itinerary_texts::{
     Itinerary, StopList, geojson, itinerary_json, people_text, stops_geojson, stops_json,
 };
+use question_lines::Question;
 use std::alloc::{AllocError, Global};
+
+/// What was asked by a command, for an answer in a format.
+pub(crate) fn asked_by<'a>(command: &'a str, question: &Question<'a>, format: Format) -> Asked<'a> {
+    Asked {
+        command,
+        from: question.from,
+        to: question.to,
+        departs: DayTime {
+            date: question.day,
+            seconds: question.seconds,
+        },
+        through: format == Format::GeoJson,
+    }
+}
 
 /// A text with a line's end behind it.
 pub(crate) fn line(text: String) -> Result<String, AllocError> {

@@ -9,10 +9,10 @@ pub returns-in-Direct-clause-run : goal.returns-in-Direct-clause-run
 returns-in-Direct-clause-run g c =
     let basis = c.args.basis.now in
     let moment = c.args.moment in
-    let right = IsAnswered (stop_alone basis.names) (IsDirect basis) basis.timetable moment c.in-Direct.question in
-    let wrong = IsUnanswered (stop_alone basis.names) NoneMissing basis.timetable moment c.in-Direct.question in
+    let right = IsAnswered (stop_alone basis.names) (IsDirect basis) basis.timetable moment c.args.asked.now.question.now in
+    let wrong = IsUnanswered (stop_alone basis.names) NoneMissing basis.timetable moment c.args.asked.now.question.now in
     rw c.in-Direct.is (
-      answer_printed_as (λ format. g.T.Teller.tells format basis) c.args.asked.now.plan.style c.direct-answer.result right wrong
+      answer_printed_as (λ format. g.T.Teller.tells format basis) c.args.asked.now.plan.now.style c.direct-answer.result right wrong
           (g.W.Write.contents c.args.out.now) (g.W.Write.contents c.print_answer_as.new.out) c.print_answer_as.result
           (matched c.direct-answer.result right wrong c.direct-answer.ensures.answer c.direct-answer.ensures.refusal) c.print_answer_as.ensures.told,
       refl,
@@ -22,10 +22,10 @@ pub returns-in-Scan-clause-run : goal.returns-in-Scan-clause-run
 returns-in-Scan-clause-run g c =
     let basis = c.args.basis.now in
     let moment = c.args.moment in
-    let right = IsAnswered (stop_alone basis.names) (ArePoints basis c.args.rides c.tells_legs.result) basis.timetable moment c.in-Scan.question in
-    let wrong = IsUnanswered (stop_alone basis.names) NoneMissing basis.timetable moment c.in-Scan.question in
-    rw (c.in-Scan.is, ← c.tells_legs.ensures) (
-      answer_printed_as (λ format. g.T.Teller.tells format basis) c.args.asked.now.plan.style c.scan-answer.result right wrong
+    let right = IsAnswered (stop_alone basis.names) (ArePoints basis c.args.rides c.tells_legs-legs.result) basis.timetable moment c.args.asked.now.question.now in
+    let wrong = IsUnanswered (stop_alone basis.names) NoneMissing basis.timetable moment c.args.asked.now.question.now in
+    rw (c.in-Scan.is, ← c.tells_legs-legs.ensures) (
+      answer_printed_as (λ format. g.T.Teller.tells format basis) c.args.asked.now.plan.now.style c.scan-answer.result right wrong
           (g.W.Write.contents c.args.out.now) (g.W.Write.contents c.print_answer_as-in-Scan.new.out) c.print_answer_as-in-Scan.result
           (matched c.scan-answer.result right wrong c.scan-answer.ensures.answer c.scan-answer.ensures.refusal) c.print_answer_as-in-Scan.ensures.told,
       refl,
