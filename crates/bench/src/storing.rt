@@ -1,6 +1,6 @@
 //! A store of trees: its opening, beside a plain read of its file, and puts to it, beside the calls of the disk that they make.
 
-ghost use Rattle.std.specs.Prelude.{◌≡◌};
+ghost use Rattle.std.specs.Prelude.{◌≡◌, ◌≤◌, length};
 ghost use Rattle.std.specs.Arc.{arc_value};
 ghost use Rattle.rounds.specs.Scratch.{IsMadeFor, rides_of};
 
@@ -110,11 +110,11 @@ fn measure_puts(
 }
 
 // A piece is written at the end, and synced; a byte is written over in it, and synced.
-fn write_piece(disk: &mut FileDisk, end: u64, piece: &[u8]) -> Result<(), DiskFault> {
-    disk.write_at(end, piece)?;
-    disk.sync()?;
-    disk.write_at(end, &[0xA5])?;
-    disk.sync()
+fn write_piece<D: Disk>(disk: &mut D, end: u64, piece: &[u8]) -> Result<(), DiskFault>
+    requires { D.honest disk.old → end ≤ length (D.state disk.old).read }
+{
+    write_and_sync(disk, end, piece)?;
+    write_and_sync(disk, end, &[0xA5])
 }
 
 // Makes the calls of the disk that the puts of the trees make, at the end of the file, behind its last gate.

@@ -1,5 +1,6 @@
--- What clauses see of a file of the operating system: how many calls have failed, and nothing of what it holds.
+-- What clauses see of a file of the operating system: how many calls have failed, and what is granted of it.
 use Rattle.std.specs.Prelude.{ℕ}
+use Rattle.file_premise.specs.Premise.{IsGranted}
 use Rattle.disk_model.specs.Disk.{State, empty_disk}
 use Rattle.disk_model.specs.declared.file.FileDisk.{FileDisk}
 
@@ -7,6 +8,10 @@ use Rattle.disk_model.specs.declared.file.FileDisk.{FileDisk}
 abbrev pub failures_in : FileDisk → ℕ
 failures_in disk = disk.failures
 
--- stands where a state has to be named; no clause speaks of it, since such a disk isn't taken to be honest
-abbrev pub unknown_state : State
-unknown_state = empty_disk
+-- the system's file does as an honest disk does: nobody can prove it, and a reader may grant it
+abbrev pub IsHonestFile : FileDisk → Type 0
+IsHonestFile disk = IsGranted disk.file
+
+-- What reads of the file give, and what a crash may leave of it. The body is shut: no clause says what a file holds.
+pub file_state : FileDisk → State
+file_state disk = empty_disk

@@ -2,7 +2,9 @@
 
 ghost use Rattle.std.specs.Prelude.{◌≡◌, ◌+◌, min, IfOk};
 ghost use Rattle.disk_model.specs.Disk.{last_count};
-ghost use Rattle.disk_model.specs.File.{failures_in, unknown_state};
+ghost use Rattle.file_premise.specs.Premise.{granted_gives};
+ghost use Rattle.disk_model.specs.Image.{IsOutcome};
+ghost use Rattle.disk_model.specs.File.{failures_in, file_state, IsHonestFile};
 
 use crate::disk::Disk;
 use crate::fault::{DiskFault, FileFault};
@@ -13,9 +15,10 @@ use std::rt::Files;
 
 /// A file of the operating system.
 ///
-/// No contract can say what such a file holds, so nothing is promised but that each call that failed is counted and that
-/// a read says no more bytes than its buffer has. What a store over it promises rests on the file doing as an honest disk
-/// does: a read gives what was written last, and after `sync` the bytes and the length stand through a crash.
+/// No contract can say what such a file holds. So it is proved only that each call that failed is counted and that a read says no
+/// more bytes than its buffer has. That the file does as an honest disk does is a premise, `IsHonestFile`: a read gives what was written
+/// last, and after `sync` the bytes and the length stand through a crash. No proof can open that premise, and nothing shows it. If a reader
+/// grants it, each clause that begins with `honest` holds of the file, with some state that no clause names.
 ///
 /// A second process that writes the file would break that. So a disk that writes holds the system's exclusive lock of its
 /// file, and disks that only read share one: no disk writes while another has the file open. The system drops the lock
@@ -82,8 +85,8 @@ fn open_shared<R: Files<File = File>>(rt: &R, path: &str) -> Result<File, FileFa
 
 impl FileDisk {
     /// Opens a file for reading and writing, and makes it empty if it isn't there. The file is locked as long as the
-    /// disk lives: `InUse` comes if it is open as a disk already, in this process or another. `Failed` comes where the
-    /// system refuses, as for a folder, without leave to write, or where the folder that the file lies in can't be synced.
+    /// disk lives: `InUse` comes if it is open as a disk already, in this process or another. `Failed` comes if the
+    /// system refuses, as for a folder or without leave to write, or if the folder that the file lies in can't be synced.
     pub fn open<R: Files<File = File>>(rt: &R, path: &str) -> Result<FileDisk, FileFault>
         ensures { IfOk result (λ disk. failures_in disk ≡ 0) }
     {
@@ -103,7 +106,8 @@ impl FileDisk {
 
     // Counts a call that failed.
     fn fault(&mut self) -> DiskFault
-        ensures { failures_in self.new ≡ min (failures_in self.old + 1) last_count }
+        ensures counted { failures_in self.new ≡ min (failures_in self.old + 1) last_count }
+        ensures file { self.new.file ≡ self.old.file }
     {
         self.failures = self.failures.saturating_add(1);
         DiskFault::Failed
@@ -111,15 +115,15 @@ impl FileDisk {
 }
 
 impl Disk for FileDisk {
-    ghost state = { λ _. unknown_state };
+    ghost state = { file_state };
 
-    ghost honest = { λ _. ⊥ };
+    ghost honest = { IsHonestFile };
 
     ghost failures = { failures_in };
 
     ghost told_to_fail = { λ _. ⊥ };
 
-    ghost may_stay = { λ disk h. absurd h };
+    ghost may_stay = { λ disk h. granted_gives disk.file (IsOutcome (file_state disk).now (file_state disk).read) h };
 
     fn len(&mut self) -> Result<u64, DiskFault> {
         match self.file.metadata() {

@@ -9,15 +9,15 @@ use Rattle.disk_model.specs.Moments.{Leaves, LeavesOnly}
 use Rattle.disk_model.proofs.Moments.{leaves_last}
 use Rattle.pattern_tree.specs.Content.{Content}
 use Rattle.pattern_tree.specs.Finished.{FinishedTree}
-use Rattle.section_store.specs.Lasting.{IsExact}
+use Rattle.section_store.specs.Lasting.{IsExact, LosesNothing}
 use Rattle.section_store.specs.Sections.{Form, IsSections, IsBeforeOrAfter, open_gate, sources}
 use Rattle.section_store.specs.declared.fault.PutFault.{PutFault}
 use Rattle.section_store.specs.Store.{IsRest, IsBody, IsDurable, IsOpened, WroteBody, BodyFailed}
-use Rattle.section_store.specs.declared.store.Receipt.{Receipt}
+use Rattle.section_store.specs.StoreView.{ReceiptView}
 use Rattle.section_store.specs.declared.step.Step.{Step}
 use Rattle.section_store.specs.declared.step.Step.TheVariants as N
 use Rattle.planner_core.specs.Archive.{IsPutting, IsResting, IsStage, IsArchive}
-use Rattle.planner_core.specs.Calls.{OpensGate, WritesSection, extent_of}
+use Rattle.planner_core.specs.Calls.{OpensGate, SyncsGate, SyncsSection, WritesSection, extent_of}
 use Rattle.planner_core.specs.Views.{ArchiveView}
 use Rattle.planner_core.proofs.Files.{rest_leaves, source_more}
 
@@ -121,19 +121,25 @@ settled_archive form form' stored stored' storing acknowledged acknowledged' sou
       stage = record { rest = rest; storing_are = is.stage.storing_are ∙ sym (source_more is.trees is.stage.tree) };
     })
 
+-- the source of the put is the one that the store has noted
+pub same_source : (form : Form) (stored storing acknowledged : List ℕ) (source place extent : ℕ) (old : State) → IsArchive form stored storing acknowledged N.SyncGate source place extent old → (told : ℕ)
+    → storing ≡ stored ++ told ∷ [] → told ≡ source
+same_source form stored storing acknowledged source place extent old is told storing_is =
+    let both : stored ++ told ∷ [] ≡ stored ++ source ∷ [] =
+    sym storing_is ∙ is.stage.storing_are ∙ ap (λ (l : List ℕ). l ++ is.stage.tree.source ∷ []) (sym is.stored_are)
+    ∙ ap (λ (n : ℕ). stored ++ n ∷ []) is.stage.at.0 in
+    cc (append_cancel_left stored (told ∷ []) (source ∷ []) both)
+
 -- what the last call of a put leaves
 pub after_sync_gate : (form form' : Form) (stored stored' storing acknowledged acknowledged' : List ℕ) (source place extent : ℕ) (old : State)
-    (is : IsArchive form stored storing acknowledged N.SyncGate source place extent old) (r : Result Receipt PutFault) (source' place' extent' : ℕ) (new : State) (next : Step) (told : ℕ)
+    (is : IsArchive form stored storing acknowledged N.SyncGate source place extent old) (r : Result ReceiptView PutFault) (source' place' extent' : ℕ) (new : State) (next : Step) (told : ℕ)
     → ((trees : List Content) → IsOpened form trees (place + extent) old → OnOk r (IsRest form trees place' new))
     → MatchResult r (λ _. new ≡ after_sync old) (λ _. new ≡ old) → MatchResult r (λ _. next ≡ N.WriteBody) (λ _. next ≡ N.Failed)
     → MatchResult r (λ _. stored' ≡ stored ++ source ∷ []) (λ _. stored' ≡ stored) → form' ≡ form → storing ≡ stored ++ told ∷ []
     → MatchBool (is_ok r) (acknowledged' ≡ acknowledged ++ told ∷ []) (acknowledged' ≡ acknowledged)
     → IsArchive form' stored' storing acknowledged' next source' place' extent' new
 after_sync_gate form form' stored stored' storing acknowledged acknowledged' source place extent old is (Ok receipt) source' place' extent' new next told rest sync going more same storing_is ack =
-    let both : stored ++ told ∷ [] ≡ stored ++ source ∷ [] =
-    sym storing_is ∙ is.stage.storing_are ∙ ap (λ (l : List ℕ). l ++ is.stage.tree.source ∷ []) (sym is.stored_are)
-    ∙ ap (λ (n : ℕ). stored ++ n ∷ []) is.stage.at.0 in
-    let one : told ≡ source = cc (append_cancel_left stored (told ∷ []) (source ∷ []) both) in
+    let one : told ≡ source = same_source form stored storing acknowledged source place extent old is told storing_is in
     rw going (settled_archive form form' stored stored' storing acknowledged acknowledged' source source' place place' extent extent' old new is same
     more (rest (is.trees ++ is.stage.tree ∷ []) is.stage.at.1) (ack ∙ ap (λ (n : ℕ). acknowledged ++ n ∷ []) one))
 after_sync_gate form form' stored stored' storing acknowledged acknowledged' source place extent old is (Err e) source' place' extent' new next told rest sync going more same storing_is ack =
@@ -161,24 +167,47 @@ same_view a b c d e f g h = rw (a, b, c, d, e, f, g, h) refl
 pub gate_case : (r : Result Unit PutFault) (fails : Bool) (a : ArchiveView) (form : Form) (stored : List ℕ) (place extent : ℕ) (next : Step) (disk : State) (storing acknowledged : List ℕ)
     → fails ≡ not (is_ok r) → Writes a.place (open_gate ∷ []) r a.disk disk → MatchResult r (λ _. next ≡ N.SyncGate) (λ _. next ≡ N.Failed)
     → form ≡ a.form → stored ≡ a.stored → place ≡ a.place → extent ≡ a.extent → storing ≡ a.storing → acknowledged ≡ a.acknowledged
-    → OpensGate fails a (record { form = form; stored = stored; place = place; extent = extent_of next extent; next = next; disk = disk; storing = storing; acknowledged = acknowledged })
-gate_case (Ok u) fails a form stored place extent next disk storing acknowledged made written going e1 e2 e3 e4 e5 e6 =
-    rw (made, going) (same_view e1 e2 e3 e4 refl written e5 e6)
-gate_case (Err e) fails a form stored place extent next disk storing acknowledged made written going e1 e2 e3 e4 e5 e6 =
-    rw (made, going) (disk, written, same_view e1 e2 e3 refl refl refl e5 e6)
+    → LosesNothing a.form a.disk disk → OpensGate fails a (record { form = form; stored = stored; place = place; extent = extent_of next extent; next = next; disk = disk; storing = storing; acknowledged = acknowledged })
+gate_case (Ok u) fails a form stored place extent next disk storing acknowledged made written going e1 e2 e3 e4 e5 e6 lasts =
+    rw (made, going) (same_view e1 e2 e3 e4 refl written e5 e6, lasts)
+gate_case (Err e) fails a form stored place extent next disk storing acknowledged made written going e1 e2 e3 e4 e5 e6 lasts =
+    rw (made, going) (disk, written, same_view e1 e2 e3 refl refl refl e5 e6, lasts)
 
 -- the section was written
 pub section_made : (fails : Bool) (t : FinishedTree) (a : ArchiveView) (form : Form) (stored : List ℕ) (place extent : ℕ) (next : Step) (disk : State) (storing acknowledged : List ℕ)
-    → fails ≡ false → WroteBody t a.place extent a.disk disk → next ≡ N.SyncBody → form ≡ a.form → stored ≡ a.stored → place ≡ a.place
-    → storing ≡ a.storing ++ t.tree.source ∷ [] → acknowledged ≡ a.acknowledged
+    → fails ≡ false → WroteBody a.form t.tree a.place extent a.disk disk → next ≡ N.SyncBody → form ≡ a.form → stored ≡ a.stored → place ≡ a.place
+    → storing ≡ a.storing ++ t.tree.source ∷ [] → acknowledged ≡ a.acknowledged → LosesNothing a.form a.disk disk
     → WritesSection fails t a (record { form = form; stored = stored; place = place; extent = extent_of next extent; next = next; disk = disk; storing = storing; acknowledged = acknowledged })
-section_made fails t a form stored place extent next disk storing acknowledged made wrote going e1 e2 e3 e4 e5 =
-    rw (made, going) (extent, disk, wrote, same_view e1 e2 e3 refl refl refl e4 e5)
+section_made fails t a form stored place extent next disk storing acknowledged made wrote going e1 e2 e3 e4 e5 lasts =
+    rw (made, going) (extent, disk, wrote, same_view e1 e2 e3 refl refl refl e4 e5, lasts)
 
 -- its write failed
 pub section_failed : (fails : Bool) (t : FinishedTree) (a : ArchiveView) (form : Form) (stored : List ℕ) (place extent : ℕ) (next : Step) (disk : State) (storing acknowledged : List ℕ)
-    → fails ≡ true → BodyFailed t a.place a.disk disk → next ≡ N.Failed → form ≡ a.form → stored ≡ a.stored → place ≡ a.place
-    → storing ≡ a.storing ++ t.tree.source ∷ [] → acknowledged ≡ a.acknowledged
+    → fails ≡ true → BodyFailed a.form t.tree a.place a.disk disk → next ≡ N.Failed → form ≡ a.form → stored ≡ a.stored → place ≡ a.place
+    → storing ≡ a.storing ++ t.tree.source ∷ [] → acknowledged ≡ a.acknowledged → LosesNothing a.form a.disk disk
     → WritesSection fails t a (record { form = form; stored = stored; place = place; extent = extent_of next extent; next = next; disk = disk; storing = storing; acknowledged = acknowledged })
-section_failed fails t a form stored place extent next disk storing acknowledged made wrote going e1 e2 e3 e4 e5 =
-    rw (made, going) (disk, wrote, same_view e1 e2 e3 refl refl refl e4 e5)
+section_failed fails t a form stored place extent next disk storing acknowledged made wrote going e1 e2 e3 e4 e5 lasts =
+    rw (made, going) (disk, wrote, same_view e1 e2 e3 refl refl refl e4 e5, lasts)
+
+-- the section was brought to the disk, or not
+pub synced_case : (r : Result Unit PutFault) (fails : Bool) (a : ArchiveView) (form : Form) (stored : List ℕ) (place extent : ℕ) (next : Step) (disk : State) (storing acknowledged : List ℕ)
+    → fails ≡ not (is_ok r) → Syncs r a.disk disk → MatchResult r (λ _. next ≡ N.OpenGate) (λ _. next ≡ N.Failed)
+    → form ≡ a.form → stored ≡ a.stored → place ≡ a.place → extent ≡ a.extent → storing ≡ a.storing → acknowledged ≡ a.acknowledged
+    → LosesNothing a.form a.disk disk
+    → SyncsSection fails a (record { form = form; stored = stored; place = place; extent = extent_of next extent; next = next; disk = disk; storing = storing; acknowledged = acknowledged })
+synced_case (Ok u) fails a form stored place extent next disk storing acknowledged made synced going e1 e2 e3 e4 e5 e6 lasts =
+    rw (made, going) (same_view e1 e2 e3 e4 refl synced e5 e6, lasts)
+synced_case (Err e) fails a form stored place extent next disk storing acknowledged made synced going e1 e2 e3 e4 e5 e6 lasts =
+    rw (made, going) (same_view e1 e2 e3 refl refl synced e5 e6, lasts)
+
+-- the open gate was brought to the disk, or not
+pub receipt_case : (r : Result ReceiptView PutFault) (fails : Bool) (source : ℕ) (a : ArchiveView) (form : Form) (stored : List ℕ) (place extent : ℕ) (next : Step) (disk : State) (storing acknowledged : List ℕ)
+    → fails ≡ not (is_ok r) → MatchResult r (λ _. disk ≡ after_sync a.disk) (λ _. disk ≡ a.disk) → MatchResult r (λ _. next ≡ N.WriteBody) (λ _. next ≡ N.Failed)
+    → form ≡ a.form → MatchResult r (λ _. stored ≡ a.stored ++ source ∷ []) (λ _. stored ≡ a.stored)
+    → MatchResult r (λ _. place ≡ a.place + a.extent) (λ _. place ≡ a.place) → storing ≡ a.storing
+    → MatchBool (is_ok r) (acknowledged ≡ a.acknowledged ++ source ∷ []) (acknowledged ≡ a.acknowledged) → LosesNothing a.form a.disk disk
+    → SyncsGate fails source a (record { form = form; stored = stored; place = place; extent = extent_of next extent; next = next; disk = disk; storing = storing; acknowledged = acknowledged })
+receipt_case (Ok receipt) fails source a form stored place extent next disk storing acknowledged made synced going e1 e2 e3 e4 e5 lasts =
+    rw (made, going) (same_view e1 e2 e3 refl refl synced e4 e5, lasts)
+receipt_case (Err e) fails source a form stored place extent next disk storing acknowledged made synced going e1 e2 e3 e4 e5 lasts =
+    rw (made, going) (same_view e1 e2 e3 refl refl synced e4 e5, lasts)

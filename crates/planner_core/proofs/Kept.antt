@@ -134,7 +134,7 @@ receipt_goes false u m reply kept s c =
     ap (λ (l : List ℕ). l ++ h.source ∷ []) s.stored ∙ ap (λ (n : ℕ). sources kept ++ n ∷ []) (sym held.2) ∙ sym (source_more kept tree) in (
       more,
       rw c.5 (h, held.0, c.2, held.1, held.2, refl),
-      rw (c.6, c.4) (record {
+      rw (c.6, c.4.0) (record {
         stored = stored;
         board = All-weaker (IsShownOf kept) (IsShownOf more)
             (λ shown is. record { tree = is.tree; has = Contains-append_left kept (tree ∷ []) is.tree is.has; shows = is.shows }) u.board s.board;

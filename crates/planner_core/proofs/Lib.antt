@@ -3,6 +3,7 @@ pub mod Calling
 pub mod Files
 pub mod Hands
 pub mod Kept
+pub mod Lasting
 pub mod Lifts
 pub mod Runs
 pub mod Sound

@@ -2,6 +2,7 @@
 use Rattle.std.specs.Prelude.{◌≡◌, ℕ, ◌+◌, Bool, true, false, [], ◌∷◌, ◌++◌}
 use Rattle.disk_model.specs.Disk.{State, after_sync, after_write, WriteFailed}
 use Rattle.pattern_tree.specs.Finished.{FinishedTree}
+use Rattle.section_store.specs.Lasting.{LosesNothing}
 use Rattle.section_store.specs.Sections.{open_gate}
 use Rattle.section_store.specs.Store.{WroteBody, BodyFailed}
 use Rattle.section_store.specs.declared.step.Step.{Step}
@@ -28,33 +29,38 @@ after_call next disk a = record a { next = next; disk = disk }
 abbrev pub with_put : ℕ → ArchiveView → ArchiveView
 with_put source a = record a { storing = a.storing ++ source ∷ [] }
 
+-- what each outcome held, each outcome holds: a source, and trees with which the list begins
+abbrev pub Lasts : ArchiveView → ArchiveView → Type 0
+Lasts old new = LosesNothing old.form old.disk new.disk
+
 -- the section of a tree is written behind the closed gate
 abbrev pub WritesSection : Bool → FinishedTree → ArchiveView → ArchiveView → Type 0
 WritesSection true t old new =
-    (disk : State) × BodyFailed t old.place old.disk disk × (new ≡ after_failure disk (with_put t.tree.source old))
+    (disk : State) × BodyFailed old.form t.tree old.place old.disk disk × (new ≡ after_failure disk (with_put t.tree.source old))
+    × Lasts old new
 WritesSection false t old new =
-    (size : ℕ) × (disk : State) × WroteBody t old.place size old.disk disk
-    × (new ≡ record old { extent = size; next = SyncBody; disk = disk; storing = old.storing ++ t.tree.source ∷ [] })
+    (size : ℕ) × (disk : State) × WroteBody old.form t.tree old.place size old.disk disk
+    × (new ≡ record old { extent = size; next = SyncBody; disk = disk; storing = old.storing ++ t.tree.source ∷ [] }) × Lasts old new
 
 -- it is brought to the disk
 abbrev pub SyncsSection : Bool → ArchiveView → ArchiveView → Type 0
-SyncsSection true old new = new ≡ after_failure old.disk old
-SyncsSection false old new = new ≡ after_call OpenGate (after_sync old.disk) old
+SyncsSection true old new = (new ≡ after_failure old.disk old) × Lasts old new
+SyncsSection false old new = (new ≡ after_call OpenGate (after_sync old.disk) old) × Lasts old new
 
 -- the gate before it is opened
 abbrev pub OpensGate : Bool → ArchiveView → ArchiveView → Type 0
-OpensGate true old new = (disk : State) × WriteFailed old.place 1 old.disk disk × (new ≡ after_failure disk old)
-OpensGate false old new = new ≡ after_call SyncGate (after_write old.place (open_gate ∷ []) old.disk) old
+OpensGate true old new = (disk : State) × WriteFailed old.place 1 old.disk disk × (new ≡ after_failure disk old) × Lasts old new
+OpensGate false old new = (new ≡ after_call SyncGate (after_write old.place (open_gate ∷ []) old.disk) old) × Lasts old new
 
 -- that is brought to the disk, and then the source has its receipt: its tree is stored, and the closed gate stands behind it
 abbrev pub SyncsGate : Bool → ℕ → ArchiveView → ArchiveView → Type 0
-SyncsGate true source old new = new ≡ after_failure old.disk old
+SyncsGate true source old new = (new ≡ after_failure old.disk old) × Lasts old new
 SyncsGate false source old new =
-    new ≡ record old {
+    (new ≡ record old {
       stored = old.stored ++ source ∷ [];
       place = old.place + old.extent;
       extent = 0;
       next = WriteBody;
       disk = after_sync old.disk;
       acknowledged = old.acknowledged ++ source ∷ [];
-    }
+    }) × Lasts old new

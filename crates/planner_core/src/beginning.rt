@@ -68,10 +68,10 @@ pub(crate) fn begin(
 ) -> Result<Running, MemDisk>
     requires form { store.form ≡ tools.now.form }
     requires ready { store.next ≡ Step.WriteBody }
-    requires holds { Holds store.form trees.now store.place store.stored.items (state_of store.disk) }
+    requires holds { Holds store.form trees.now store.place store.stored (state_of store.disk) }
     requires exact { All (IsExact store.form) trees.now }
     requires known { All (λ tree. tree.source < stops_of store.form.table) trees.now }
-    requires held { All (Contains store.stored.items) acknowledged.items }
+    requires held { All (Contains store.stored) acknowledged.items }
     ensures begins { IfOk result (λ running. Begins tools.now trees.now (running_of running)) }
     ensures disk { MatchResult result (λ running. running.archive.disk ≡ state_of store.disk) (λ disk. disk ≡ store.disk) }
     ensures acknowledged { IfOk result (λ running. running.archive.acknowledged ≡ acknowledged.items) }

@@ -48,7 +48,7 @@ fn prepare(
 impl<D: Disk> Desk<D> {
     /// Opens the store of that timetable, and of journeys of at most `rides` rides, that a file holds: it is recovered, and each tree
     /// is made into the patterns that questions are asked of, and let go. The desk has the trees of the list that the bytes stand
-    /// for. The disk comes back with each fault; want of memory, also behind the recovery, is the fault `Memory`.
+    /// for. The disk comes back with each fault; want of memory, also after the recovery, is the fault `Memory`.
     ///
     /// A fresh file is begun; to any other nothing is written. A tree that is whole in the file is whole at the desk; of a trusted disk
     /// each tree is right.

@@ -5,7 +5,7 @@ ghost use Rattle.std.specs.Prelude.{◌<◌, ◌≤◌};
 use crate::gate::Gate;
 use crate::stop::Stop;
 
-/// So many workers, who is told of each build, and the flag that they look at before each claim.
+/// How many workers build, the gate that is told of each build, and the flag that each worker looks at before it claims.
 #[derive(Drop)]
 pub struct Crew<'a, G: Gate> {
     pub workers: usize,

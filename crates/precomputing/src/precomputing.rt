@@ -122,7 +122,7 @@ pub fn precompute_telling<D: Disk + Drop, R: Threads + Wait + Sync, G: Gate + Sy
     }
 }
 
-/// The same by so many workers, where nobody is told how many are stored.
+/// The same with `workers` workers, but how many trees are stored is reported to nobody.
 pub fn precompute_until<D: Disk + Drop, R: Threads + Wait + Sync, G: Gate + Sync>(
     alloc: Global,
     rt: &R,

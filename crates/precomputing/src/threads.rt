@@ -33,8 +33,8 @@ fn leave_one<B: Basis, R: Wait, G: Gate>(workshop: &Workshop<'_, B, R, G>) {
     }
 }
 
-// Starts so many workers, and stores what they hand in, as the seat says. They have all ended when this returns. None where no thread
-// could be made, so that nothing was done.
+// Starts `workers` workers, and stores what they hand in, as the seat says. All of them have ended when this returns. The end is none if
+// no thread could be made; then nothing was done.
 fn run<
     B: Basis + Send + Sync,
     D: Disk + Drop,

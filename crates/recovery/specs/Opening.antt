@@ -11,9 +11,10 @@ use Rattle.recovery.specs.Recovery.{StandsAsBefore}
 abbrev pub StandsForSources : Form → List ℕ → List ℕ → Type 0
 StandsForSources form list bytes = (trees : List Content) × Stands form bytes trees × (list ≡ sources trees)
 
--- Each outcome at each moment of an opening stands for what some outcome on entry stood for, no source that was held was lost, and a
--- trusted disk has stayed trusted.
+-- Each outcome at each moment of an opening stands for what some outcome on entry stood for. What each outcome held at some moment, each
+-- outcome has held from then on. A trusted disk has stayed trusted. The bytes still stand for the trees for which they stood.
 pub record IsOpening (form : Form) (old new : State) : Type 0 where
   pub leaves : LeavesOnly old new (StandsAsBefore form old)
   pub loses : LosesNothing form old new
   pub trusts : StaysTrusted form old new
+  pub still : (trees : List Content) → Stands form old.read trees → Stands form new.read trees

@@ -4,13 +4,13 @@ ghost use Rattle.std.specs.Prelude.{◌≡◌, ◌↔◌, ◌⊎◌, ◌<◌, If
 ghost use Rattle.std.specs.Arc.{arc_value};
 ghost use Rattle.std.specs.List.{All};
 ghost use Rattle.disk_model.specs.Disk.{after_sync, Grew};
-ghost use Rattle.disk_model.specs.Moments.{LeavesOnly};
 ghost use Rattle.timetable.specs.Table.{stops_of};
-ghost use Rattle.section_store.specs.Lasting.{LosesNothing, StaysTrusted, IsTrusted, IsExact};
+ghost use Rattle.section_store.specs.Lasting.{IsTrusted, IsExact};
 ghost use Rattle.section_store.specs.Sections.{IsFresh, Stands, form_of, sources};
 ghost use Rattle.section_store.specs.Store.{Holds};
 ghost use Rattle.recovery.specs.Excerpts.{IsExcerpt};
-ghost use Rattle.recovery.specs.Recovery.{IsLeftAlone, IsOutside, StandsAsBefore, StandsForNoList, CauseOf};
+ghost use Rattle.recovery.specs.Opening.{IsOpening};
+ghost use Rattle.recovery.specs.Recovery.{IsLeftAlone, IsOutside, StandsForNoList, CauseOf};
 
 use crate::fault::RecoverFault;
 use crate::opening::open;
@@ -35,21 +35,15 @@ pub fn recover<D: Disk>(
 ) -> Result<Recovered<D>, (RecoverFault, D)>
     ensures stands { D.honest disk → IfOk result (λ r. Stands (form_of (arc_value table.now) rides) (D.state disk).read r.trees.items) }
     ensures holds { D.honest disk → IfOk result (λ r.
-        Holds (form_of (arc_value table.now) rides) r.trees.items r.store.place r.store.stored.items (D.state r.store.disk)) }
+        Holds (form_of (arc_value table.now) rides) r.trees.items r.store.place r.store.stored (D.state r.store.disk)) }
     ensures refused { D.honest disk → IfErr result
         (λ e. IsOutside e.0 ⊎ StandsForNoList (form_of (arc_value table.now) rides) (D.state disk).read) }
     ensures cause { D.honest disk → IfErr result (λ e. CauseOf (form_of (arc_value table.now) rides) (D.state disk).read e.0) }
     ensures device { MatchResult result (λ r. D.failures r.store.disk ≡ D.failures disk)
         (λ e. e.0 ≡ RecoverFault.Device → Grew (D.failures disk) (D.failures e.1)) }
-    ensures moments { D.honest disk → MatchResult result
-        (λ r. LeavesOnly (D.state disk) (D.state r.store.disk) (StandsAsBefore (form_of (arc_value table.now) rides) (D.state disk)))
-        (λ e. LeavesOnly (D.state disk) (D.state e.1) (StandsAsBefore (form_of (arc_value table.now) rides) (D.state disk))) }
-    ensures lasting { D.honest disk → MatchResult result
-        (λ r. LosesNothing (form_of (arc_value table.now) rides) (D.state disk) (D.state r.store.disk))
-        (λ e. LosesNothing (form_of (arc_value table.now) rides) (D.state disk) (D.state e.1)) }
-    ensures trusted { D.honest disk → MatchResult result
-        (λ r. StaysTrusted (form_of (arc_value table.now) rides) (D.state disk) (D.state r.store.disk))
-        (λ e. StaysTrusted (form_of (arc_value table.now) rides) (D.state disk) (D.state e.1)) }
+    ensures opening { D.honest disk → MatchResult result
+        (λ r. IsOpening (form_of (arc_value table.now) rides) (D.state disk) (D.state r.store.disk))
+        (λ e. IsOpening (form_of (arc_value table.now) rides) (D.state disk) (D.state e.1)) }
     ensures exact { D.honest disk → IsTrusted (form_of (arc_value table.now) rides) (D.state disk)
         → IfOk result (λ r. All (IsExact (form_of (arc_value table.now) rides)) r.trees.items) }
     ensures written { D.honest disk → ¬ IsFresh (D.state disk).read → MatchResult result
@@ -58,7 +52,7 @@ pub fn recover<D: Disk>(
     ensures alone { D.honest disk → IfErr result (λ e. IsOutside e.0 ⊎ IsLeftAlone (D.state disk) (D.state e.1)) }
     ensures honest { MatchResult result (λ r. D.honest disk ↔ D.honest r.store.disk) (λ e. D.honest disk ↔ D.honest e.1) }
     ensures ready { IfOk result (λ r. (r.store.next ≡ Step.WriteBody) × (r.store.form ≡ form_of (arc_value table.now) rides)) }
-    ensures stored { IfOk result (λ r. r.store.stored.items ≡ sources r.trees.items) }
+    ensures stored { IfOk result (λ r. r.store.stored ≡ sources r.trees.items) }
     ensures known { IfOk result (λ r. All (λ tree. tree.source < stops_of (arc_value table.now)) r.trees.items) }
 {
     trusted_trees();
@@ -75,22 +69,16 @@ pub fn recover_trees_of<D: Disk>(
     stops: &[StopId],
 ) -> Result<Recovered<D>, (RecoverFault, D)>
     ensures excerpt { D.honest disk → IfOk result (λ r. IsExcerpt (form_of (arc_value table.now) rides) (D.state disk) stops.now
-        r.trees.items r.store.place r.store.stored.items (D.state r.store.disk)) }
-    ensures known { IfOk result (λ r. All (λ s. s < stops_of (arc_value table.now)) r.store.stored.items) }
+        r.trees.items r.store.place r.store.stored (D.state r.store.disk)) }
+    ensures known { IfOk result (λ r. All (λ s. s < stops_of (arc_value table.now)) r.store.stored) }
     ensures refused { D.honest disk → IfErr result
         (λ e. IsOutside e.0 ⊎ StandsForNoList (form_of (arc_value table.now) rides) (D.state disk).read) }
     ensures cause { D.honest disk → IfErr result (λ e. CauseOf (form_of (arc_value table.now) rides) (D.state disk).read e.0) }
     ensures device { MatchResult result (λ r. D.failures r.store.disk ≡ D.failures disk)
         (λ e. e.0 ≡ RecoverFault.Device → Grew (D.failures disk) (D.failures e.1)) }
-    ensures moments { D.honest disk → MatchResult result
-        (λ r. LeavesOnly (D.state disk) (D.state r.store.disk) (StandsAsBefore (form_of (arc_value table.now) rides) (D.state disk)))
-        (λ e. LeavesOnly (D.state disk) (D.state e.1) (StandsAsBefore (form_of (arc_value table.now) rides) (D.state disk))) }
-    ensures lasting { D.honest disk → MatchResult result
-        (λ r. LosesNothing (form_of (arc_value table.now) rides) (D.state disk) (D.state r.store.disk))
-        (λ e. LosesNothing (form_of (arc_value table.now) rides) (D.state disk) (D.state e.1)) }
-    ensures trusted { D.honest disk → MatchResult result
-        (λ r. StaysTrusted (form_of (arc_value table.now) rides) (D.state disk) (D.state r.store.disk))
-        (λ e. StaysTrusted (form_of (arc_value table.now) rides) (D.state disk) (D.state e.1)) }
+    ensures opening { D.honest disk → MatchResult result
+        (λ r. IsOpening (form_of (arc_value table.now) rides) (D.state disk) (D.state r.store.disk))
+        (λ e. IsOpening (form_of (arc_value table.now) rides) (D.state disk) (D.state e.1)) }
     ensures written { D.honest disk → ¬ IsFresh (D.state disk).read → MatchResult result
         (λ r. D.state r.store.disk ≡ after_sync (D.state disk))
         (λ e. (D.state e.1 ≡ D.state disk) ⊎ (D.state e.1 ≡ after_sync (D.state disk))) }

@@ -91,10 +91,8 @@ fn can_begin<D: Disk>(
     if end > 1 + whole.len() as u64 {
         return Ok(false);
     }
-    match read_bytes(disk, 0, end, piece) {
-        Err(fault) => Err(fault),
-        Ok(()) => Ok(is_unfinished(piece, &whole)),
-    }
+    read_bytes(disk, 0, end, piece)?;
+    Ok(is_unfinished(piece, &whole))
 }
 
 // Whether these first bytes are those of a file that isn't fresh.
@@ -114,10 +112,8 @@ pub fn is_begun<D: Disk>(alloc: Global, disk: &mut D) -> Result<bool, RecoverFau
     ensures outside { OnlyOutside result (D.failures disk.old) (D.failures disk.new) }
 {
     let mut head = Vec::new(alloc);
-    match read_bytes(disk, 0, SHORTEST as u64, &mut head) {
-        Err(fault) => Err(fault),
-        Ok(()) => Ok(is_old(&head)),
-    }
+    read_bytes(disk, 0, SHORTEST as u64, &mut head)?;
+    Ok(is_old(&head))
 }
 
 /// What the file of a disk is to a store of that timetable, and of journeys of at most `rides` rides. Nothing is written. A program that
@@ -138,10 +134,7 @@ pub fn file_kind<D: Disk>(
     let Ok(end) = disk.len() else {
         return Err(RecoverFault::Device);
     };
-    match read_bytes(disk, 0, SHORTEST as u64, &mut piece) {
-        Err(fault) => return Err(fault),
-        Ok(()) => {}
-    }
+    read_bytes(disk, 0, SHORTEST as u64, &mut piece)?;
     if is_old(&piece) {
         return Ok(FileKind::Old);
     }

@@ -6,6 +6,7 @@ mod canonical;
 mod fault;
 mod header;
 mod kind;
+pub mod laws;
 mod opening;
 mod reading;
 mod recovered;

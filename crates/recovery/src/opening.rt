@@ -3,15 +3,14 @@
 ghost use Rattle.std.specs.Prelude.{◌≡◌, ◌↔◌, ◌⊎◌, ◌≤◌, ◌<◌, OnOk, OnErr, IfOk, IfErr, IfSome, MatchResult, MatchOption, drop};
 ghost use Rattle.std.specs.Arc.{arc_value};
 ghost use Rattle.disk_model.specs.Disk.{after_sync, Grew};
-ghost use Rattle.disk_model.specs.Moments.{LeavesOnly};
 ghost use Rattle.std.specs.List.{All};
 ghost use Rattle.timetable.specs.Table.{stops_of};
-ghost use Rattle.section_store.specs.Lasting.{LosesNothing, StaysTrusted, IsTrusted, IsExact};
 ghost use Rattle.section_store.specs.Sections.{IsFresh, Stands, form_of, sources};
 ghost use Rattle.section_store.specs.Sources.{IsSetOf};
 ghost use Rattle.section_store.specs.Store.{Holds};
 ghost use Rattle.recovery.specs.Reading.{OnlyCounted, IsRead, IsSoFar, IsShut, IsRefusal};
-ghost use Rattle.recovery.specs.Recovery.{IsLeftAlone, IsOutside, StandsAsBefore, StandsForNoList, CauseOf};
+ghost use Rattle.recovery.specs.Opening.{IsOpening};
+ghost use Rattle.recovery.specs.Recovery.{IsLeftAlone, IsOutside, StandsForNoList, CauseOf};
 
 use crate::fault::RecoverFault;
 use crate::header::first_gate;
@@ -85,23 +84,17 @@ pub(crate) fn open<D: Disk>(
     table: &Arc<Timetable>,
     rides: Rides,
 ) -> Result<Recovered<D>, (RecoverFault, D)>
-    ensures read { IfOk result (λ r. IsRead (form_of (arc_value table.now) rides) wanted.now r.trees.items r.store.stored.items
+    ensures read { IfOk result (λ r. IsRead (form_of (arc_value table.now) rides) wanted.now r.trees.items r.store.stored
         (λ trees. D.honest disk → Stands (form_of (arc_value table.now) rides) (D.state disk).read trees
-        × Holds (form_of (arc_value table.now) rides) trees r.store.place r.store.stored.items (D.state r.store.disk))) }
+        × Holds (form_of (arc_value table.now) rides) trees r.store.place r.store.stored (D.state r.store.disk))) }
     ensures refused { D.honest disk → IfErr result
         (λ e. IsOutside e.0 ⊎ StandsForNoList (form_of (arc_value table.now) rides) (D.state disk).read) }
     ensures cause { D.honest disk → IfErr result (λ e. CauseOf (form_of (arc_value table.now) rides) (D.state disk).read e.0) }
     ensures device { MatchResult result (λ r. D.failures r.store.disk ≡ D.failures disk)
         (λ e. e.0 ≡ RecoverFault.Device → Grew (D.failures disk) (D.failures e.1)) }
-    ensures moments { D.honest disk → MatchResult result
-        (λ r. LeavesOnly (D.state disk) (D.state r.store.disk) (StandsAsBefore (form_of (arc_value table.now) rides) (D.state disk)))
-        (λ e. LeavesOnly (D.state disk) (D.state e.1) (StandsAsBefore (form_of (arc_value table.now) rides) (D.state disk))) }
-    ensures lasting { D.honest disk → MatchResult result
-        (λ r. LosesNothing (form_of (arc_value table.now) rides) (D.state disk) (D.state r.store.disk))
-        (λ e. LosesNothing (form_of (arc_value table.now) rides) (D.state disk) (D.state e.1)) }
-    ensures trusted { D.honest disk → MatchResult result
-        (λ r. StaysTrusted (form_of (arc_value table.now) rides) (D.state disk) (D.state r.store.disk))
-        (λ e. StaysTrusted (form_of (arc_value table.now) rides) (D.state disk) (D.state e.1)) }
+    ensures opening { D.honest disk → MatchResult result
+        (λ r. IsOpening (form_of (arc_value table.now) rides) (D.state disk) (D.state r.store.disk))
+        (λ e. IsOpening (form_of (arc_value table.now) rides) (D.state disk) (D.state e.1)) }
     ensures written { D.honest disk → ¬ IsFresh (D.state disk).read → MatchResult result
         (λ r. D.state r.store.disk ≡ after_sync (D.state disk))
         (λ e. (D.state e.1 ≡ D.state disk) ⊎ (D.state e.1 ≡ after_sync (D.state disk))) }

@@ -1,16 +1,17 @@
 -- How a store goes on.
 use Rattle.std.proofs.Common.{◌≡◌, inl, inr, ℕ, zero, suc, List, [], ◌∷◌, ◌++◌, append_assoc, get_or, arith, sym, ◌∙◌, ap, subst}
-use Rattle.std.specs.List.{Contains}
-use Rattle.std.proofs.lemmas.List.{append-nil, map-append, get_or_default}
+use Rattle.std.specs.List.{All, Contains}
+use Rattle.std.proofs.lemmas.List.{append-nil, append_cancel_left, map-append, get_or_default}
 use Rattle.disk_model.specs.Image.{Image, IsOutcome}
 use Rattle.disk_model.specs.Disk.{State}
 use Rattle.disk_model.specs.Moments.{moments, Leaves, LeavesOnly}
 use Rattle.disk_model.proofs.Moments.{still, goes_on, weaker, leaves_last, only_settled}
 use Rattle.pattern_tree.specs.Content.{Content}
-use Rattle.section_store.specs.Going.{IsFront, StandsForFront, HoldsAll, IsKept, GoesOn}
-use Rattle.section_store.specs.Lasting.{HasSource, LosesNothing, IsTrustedFile, StaysTrusted}
+use Rattle.section_store.specs.Going.{IsFront, StandsForMore, StandsForFront, HoldsAll, IsKept, GoesOn}
+use Rattle.section_store.specs.Lasting.{HasSource, BeginsWith, LosesNothing, IsTrustedFile, StaysTrusted}
 use Rattle.section_store.specs.Sections.{Form, Stands, IsBeforeOrAfter, sources}
-use Rattle.section_store.specs.Store.{IsRest}
+use Rattle.section_store.specs.Laws.{StandsForOne}
+use Rattle.section_store.specs.Store.{IsRest, Holds}
 use Rattle.section_store.proofs.Lasting.{in_turn, lasts}
 
 module _ (form : Form) where
@@ -27,14 +28,6 @@ module _ (form : Form) where
         of = rest.begins.of;
         apart = rest.begins.apart;
       })
-
-  pub kept_front : (place : ℕ) (list storing : List ℕ) (disk : State) → IsKept form place list disk → IsFront list storing → Leaves (StandsForFront form list storing) disk.now
-  kept_front place list storing disk kept front = λ bytes left. record {
-    trees = kept.0;
-    stands = rest_stands kept.0 place disk kept.1.rest bytes left;
-    holds = ([], sym kept.1.stored_are ∙ sym (append-nil list));
-    front = (front.0, front.1 ∙ ap (λ (l : List ℕ). l ++ front.0) kept.1.stored_are);
-  }
 
   pub kept_holds : (place : ℕ) (list : List ℕ) (disk : State) → IsKept form place list disk → HoldsAll form list disk
   kept_holds place list disk kept = λ k d below bytes left.
@@ -53,7 +46,7 @@ module _ (form : Form) where
       (record {
         since = loses.since;
         are = loses.are;
-        each = λ i image inside. loses.each zero (suc i) image (omega arith) (omega (arith, inside)) s (holds k d below);
+        each = λ i image inside. (loses.each zero (suc i) image (omega arith) (omega (arith, inside))).sources s (holds k d below);
       })
       (holds k d below)
 
@@ -128,3 +121,59 @@ module _ (form : Form) where
         loses = in_turn form old mid new first.loses second.loses;
         trusts = trusts_on old mid new first.trusts second.trusts;
       }
+
+-- two facts of each outcome at each moment
+both : (old new : State) (P Q : List ℕ → Type 0) → LeavesOnly old new P → LeavesOnly old new Q → LeavesOnly old new (λ bytes. P bytes × Q bytes)
+both old new P Q first second =
+    let same : first.since ≡ second.since = append_cancel_left (moments old) first.since second.since (sym first.are ∙ second.are) in
+    let others : All (Leaves Q) first.since = subst (All (Leaves Q)) (sym same) second.each in
+    record { since = first.since; are = first.are; each = λ i image inside bytes left. (first.each i image inside bytes left, others i image inside bytes left) }
+
+-- by the trees
+module _ (form : Form) where
+  held_first : (trees : List Content) (place : ℕ) (list : List ℕ) (disk : State) → Holds form trees place list disk → Leaves (BeginsWith form trees) disk.now
+  held_first trees place list disk holds = λ bytes left. record {
+    more = [];
+    stands = subst (Stands form bytes) (sym (append-nil trees)) (rest_stands form trees place disk holds.rest bytes left);
+  }
+
+  pub held_more : (trees : List Content) (place : ℕ) (list storing : List ℕ) (disk : State)
+      → Holds form trees place list disk → IsFront list storing → Leaves (StandsForMore form trees storing) disk.now
+  held_more trees place list storing disk holds front = λ bytes left.
+      let own : IsFront (sources trees) storing = subst (λ (l : List ℕ). IsFront l storing) holds.stored_are front in
+      record {
+        more = [];
+        stands = subst (Stands form bytes) (sym (append-nil trees)) (rest_stands form trees place disk holds.rest bytes left);
+        front = subst (λ (l : List Content). IsFront (sources l) storing) (sym (append-nil trees)) own;
+      }
+
+  -- what each outcome begins with, each outcome begins with from then on
+  first_on : (tree : Content) (later : List Content) (old new : State) → LosesNothing form old new
+      → Leaves (BeginsWith form (tree ∷ later)) old.now → LeavesOnly old new (BeginsWith form (tree ∷ later))
+  first_on tree later old new loses here = record {
+    since = loses.since;
+    are = loses.are;
+    each = λ i image inside. (loses.each zero (suc i) image (omega arith) (omega (arith, inside))).trees tree later here;
+  }
+
+  one_more : StandsForOne → (trees : List Content) (list storing bytes : List ℕ) → StandsForFront form list storing bytes → BeginsWith form trees bytes
+      → StandsForMore form trees storing bytes
+  one_more one_list trees list storing bytes is begins =
+      let same : is.trees ≡ trees ++ begins.more = one_list form bytes is.trees (trees ++ begins.more) is.stands begins.stands in
+      record {
+        more = begins.more;
+        stands = begins.stands;
+        front = subst (λ (l : List Content). IsFront (sources l) storing) same is.front;
+      }
+
+  pub by_trees : StandsForOne → (trees : List Content) (place : ℕ) (list storing : List ℕ) (old new : State)
+      → Holds form trees place list old → GoesOn form list storing old new → LeavesOnly old new (StandsForMore form trees storing)
+  by_trees one_list [] place list storing old new holds goes =
+      weaker old new (StandsForFront form list storing) (StandsForMore form [] storing)
+      (λ bytes is. record { more = is.trees; stands = is.stands; front = is.front }) goes.leaves
+  by_trees one_list (tree ∷ later) place list storing old new holds goes =
+      let Front = StandsForFront form list storing in
+      let First = BeginsWith form (tree ∷ later) in
+      weaker old new (λ bytes. Front bytes × First bytes) (StandsForMore form (tree ∷ later) storing)
+      (λ bytes is. one_more one_list (tree ∷ later) list storing bytes is.0 is.1)
+      (both old new Front First goes.leaves (first_on tree later old new goes.loses (held_first (tree ∷ later) place list old holds)))

@@ -1,17 +1,15 @@
 -- How long a text is, and where its length stands.
-use Rattle.std.proofs.Common.{◌≡◌, ℕ, ◌+◌, ◌-◌, ◌*◌, ◌≤◌, List, [], ◌∷◌, ◌++◌, length, take, drop, ap, ◌∙◌, arith, length-append}
+use Rattle.std.proofs.Common.{◌≡◌, ℕ, ◌+◌, ◌-◌, ◌*◌, ◌<◌, ◌≤◌, List, [], ◌∷◌, ◌++◌, length, drop, ap, ◌∙◌, arith, length-append}
 use Rattle.std.proofs.lemmas.List.{drop_at}
 use Rattle.std.specs.Int.{to_be_bytes, w32}
 use Rattle.byteorder.specs.Endian.{big_bytes}
 use Rattle.byteorder.specs.Numbers.{length-bytes_high_first}
 use Rattle.pattern_tree.specs.Forest.{Forest, none, node, node_count, end_count}
 use Rattle.pattern_tree.specs.Content.{Content}
-use Rattle.pattern_tree.specs.Finished.{FinishedTree, IsFinished}
-use Rattle.pattern_tree.proofs.WithinFacts.{within as finished_within}
+use Rattle.pattern_tree.specs.Within.{IsWithin}
 use Rattle.tree_codec.proofs.Within.{within as stops_within}
 use Rattle.tree_codec.specs.Text.{TreeText, numbers_text, nodes_text, siblings}
 use Rattle.section_store.specs.Sections.{sized}
-use Rattle.timetable.specs.Table.{IsTable, stops_of}
 
 numbers_long : (xs : List ℕ) → length (numbers_text 2 xs) ≡ 2 * length xs
 numbers_long [] = omega arith
@@ -55,7 +53,6 @@ size_written front text all four is =
     let long : length all - 4 ≡ length text = omega (arith, ap length is, length-append front text, four) in
     ap (λ (n : ℕ). to_be_bytes w32 n ++ drop 4 all) long ∙ ap (λ (l : List ℕ). to_be_bytes w32 (length text) ++ l) (ap (λ (l : List ℕ). drop 4 l) is ∙ drop_at front text 4 four)
 
--- a finished tree's text has stops of its timetable alone
-pub text_within : (f : FinishedTree) → IsTable f.table → IsFinished f → (text : List ℕ) → TreeText 2 65534 text f.tree → TreeText 2 (stops_of f.table) text f.tree
-text_within f table finished text is =
-    (stops_within 2 65534 (stops_of f.table) text f.tree (omega (arith, table.few_stops)) is).1 (finished_within f table finished)
+-- the text of a tree with these stops alone
+pub text_within : (stops : ℕ) → stops < 65_536 → (text : List ℕ) (tree : Content) → IsWithin stops tree → TreeText 2 65534 text tree → TreeText 2 stops text tree
+text_within stops few text tree within is = (stops_within 2 65534 stops text tree (omega (arith, few)) is).1 within

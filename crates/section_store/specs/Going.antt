@@ -12,7 +12,13 @@ use Rattle.section_store.specs.Store.{Holds}
 abbrev pub IsFront : List ℕ → List ℕ → Type 0
 IsFront front list = (rest : List ℕ) × (list ≡ front ++ rest)
 
--- the bytes stand for a front of the storing order that holds the list
+-- the bytes stand for these trees, in this order, and for others after them; the sources of all are a front of the storing order
+pub record StandsForMore (form : Form) (trees : List Content) (storing bytes : List ℕ) : Type 0 where
+  pub more : List Content
+  pub stands : Stands form bytes (trees ++ more)
+  pub front : IsFront (sources (trees ++ more)) storing
+
+-- of the sources only: the bytes stand for a front of the storing order that holds the list
 pub record StandsForFront (form : Form) (list storing bytes : List ℕ) : Type 0 where
   pub trees : List Content
   pub stands : Stands form bytes trees
@@ -27,8 +33,8 @@ HoldsAll form list disk = All (λ s. Leaves (HasSource form s) disk.now) list
 abbrev pub IsKept : Form → ℕ → List ℕ → State → Type 0
 IsKept form place list disk = (trees : List Content) × Holds form trees place list disk
 
--- since the old state each outcome at each moment has stood for a front of the storing order that holds the list, no source that
--- was held was lost, and a trusted disk has stayed trusted
+-- Since the old state each outcome at each moment has stood for a front of the storing order that holds the list. What each outcome held
+-- at some moment, trees by all that they have, each outcome has held from then on. A trusted disk has stayed trusted.
 pub record GoesOn (form : Form) (list storing : List ℕ) (old new : State) : Type 0 where
   pub leaves : LeavesOnly old new (StandsForFront form list storing)
   pub loses : LosesNothing form old new

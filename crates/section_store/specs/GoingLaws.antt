@@ -3,15 +3,16 @@ use Rattle.std.specs.Prelude.{◌≡◌, ℕ, List, [], ◌∷◌, ◌++◌}
 use Rattle.disk_model.specs.Disk.{State}
 use Rattle.disk_model.specs.Moments.{Leaves, LeavesOnly}
 use Rattle.pattern_tree.specs.Content.{Content}
-use Rattle.section_store.specs.Going.{IsFront, StandsForFront, HoldsAll, IsKept, GoesOn}
+use Rattle.section_store.specs.Going.{IsFront, StandsForMore, HoldsAll, IsKept, GoesOn}
 use Rattle.section_store.specs.Lasting.{LosesNothing, StaysTrusted}
 use Rattle.section_store.specs.Sections.{Form, IsBeforeOrAfter, sources}
+use Rattle.section_store.specs.Store.{Holds}
 
--- a crash of a store at rest leaves its list, however the storing order goes on
-abbrev pub KeptStandsForFront : Type 0
-KeptStandsForFront =
-    (form : Form) (place : ℕ) (list storing : List ℕ) (disk : State)
-    → IsKept form place list disk → IsFront list storing → Leaves (StandsForFront form list storing) disk.now
+-- a crash of a store at rest leaves the trees that it holds, by all that they have, however the storing order goes on
+abbrev pub HeldStandsForMore : Type 0
+HeldStandsForMore =
+    (form : Form) (trees : List Content) (place : ℕ) (list storing : List ℕ) (disk : State)
+    → Holds form trees place list disk → IsFront list storing → Leaves (StandsForMore form trees storing) disk.now
 
 -- what a store at rest has stored, each outcome holds
 abbrev pub KeptIsHeld : Type 0
@@ -38,6 +39,13 @@ GoesOnInTurn =
     (form : Form) (list storing more : List ℕ) (old mid new : State)
     → IsFront list storing → GoesOn form list storing old mid → GoesOn form storing (storing ++ more) mid new
     → GoesOn form list (storing ++ more) old new
+
+-- while a store goes on, each outcome begins with the trees that the store held: none of them is replaced, not even by another tree of
+-- its source
+abbrev pub GoesOnByTrees : Type 0
+GoesOnByTrees =
+    (form : Form) (trees : List Content) (place : ℕ) (list storing : List ℕ) (old new : State)
+    → Holds form trees place list old → GoesOn form list storing old new → LeavesOnly old new (StandsForMore form trees storing)
 
 -- a disk that stayed trusted, and stayed so from then on, stayed trusted altogether
 abbrev pub TrustInTurn : Type 0

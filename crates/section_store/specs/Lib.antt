@@ -7,5 +7,7 @@ pub mod Laws
 pub mod ReadingLaws
 pub mod Sections
 pub mod Sources
+pub mod Stages
 pub mod Step
 pub mod Store
+pub mod StoreView

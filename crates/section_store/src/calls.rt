@@ -7,17 +7,18 @@ ghost use Rattle.disk_model.specs.Disk.{Writes, Syncs, after_sync};
 ghost use Rattle.disk_model.specs.Moments.{LeavesOnly};
 ghost use Rattle.pattern_tree.specs.Content.{Content};
 ghost use Rattle.section_store.specs.Fault.{HasCause, OnlyDevice, IsTooLarge};
-ghost use Rattle.section_store.specs.Lasting.{IsExact, LosesNothing};
-ghost use Rattle.section_store.specs.Sections.{Form, IsSections, IsBeforeOrAfter, IsNew, open_gate};
+ghost use Rattle.section_store.specs.Lasting.{LosesNothing};
+ghost use Rattle.section_store.specs.Sections.{Form, IsSections, IsBeforeOrAfter, IsNew, MayStand, open_gate};
 ghost use Rattle.section_store.specs.Store.{IsRest, IsBody, IsDurable, IsOpened, Holds, WroteBody, BodyFailed};
 
 use crate::body::fill_body;
 use crate::fault::PutFault;
 use crate::laws::stands_for_one;
+use crate::receipt::Receipt;
 use crate::step::Step;
-use crate::store::{Receipt, SectionStore};
+use crate::store::SectionStore;
 use disk_model::Disk;
-use pattern_tree::Finished;
+use pattern_tree::PatternTree;
 
 // The most bytes of a store's file.
 const LIMIT: u64 = 1_099_511_627_776;
@@ -26,16 +27,16 @@ const LIMIT: u64 = 1_099_511_627_776;
 const OPEN: u8 = 0xA5;
 
 impl<D: Disk> SectionStore<D> {
-    /// Writes the length and the text of a tree, which is for the store's timetable and rides, behind the closed gate, and a closed gate
-    /// behind them. All else that a put can be refused for, but a fault of the disk, it is refused for here, before the call.
-    pub fn write_body(&mut self, tree: &Finished) -> Result<(), PutFault>
-        requires own { (tree.now.table ≡ self.old.form.table) × (tree.now.rides ≡ self.old.form.rides) }
+    /// Writes the length and the text of a tree that may stand in the store after the closed gate, and a closed gate after them. Each
+    /// refusal of a put but a fault of the disk comes here, before the call.
+    pub fn write_body(&mut self, tree: &PatternTree) -> Result<(), PutFault>
+        requires may { MayStand self.old.form tree.now }
         ensures body { (trees : List Content) → D.honest self.old.disk
-            → Holds self.old.form trees self.old.place self.old.stored.items (D.state self.old.disk)
-            → OnOk result (IsBody self.old.form trees tree.now.tree self.new.place self.new.extent (D.state self.new.disk)) }
+            → Holds self.old.form trees self.old.place self.old.stored (D.state self.old.disk)
+            → OnOk result (IsBody self.old.form trees tree.now self.new.place self.new.extent (D.state self.new.disk)) }
         ensures written { D.honest self.old.disk → MatchResult result
-            (λ _. WroteBody tree.now self.old.place self.new.extent (D.state self.old.disk) (D.state self.new.disk))
-            (λ fault. fault ≡ PutFault.Device → BodyFailed tree.now self.old.place (D.state self.old.disk) (D.state self.new.disk)) }
+            (λ _. WroteBody self.old.form tree.now self.old.place self.new.extent (D.state self.old.disk) (D.state self.new.disk))
+            (λ fault. fault ≡ PutFault.Device → BodyFailed self.old.form tree.now self.old.place (D.state self.old.disk) (D.state self.new.disk)) }
         ensures moments { (trees : List Content) → D.honest self.old.disk
             → IsRest self.old.form trees self.old.place (D.state self.old.disk)
             → LeavesOnly (D.state self.old.disk) (D.state self.new.disk) (λ bytes. IsSections self.old.form bytes trees) }
@@ -45,9 +46,9 @@ impl<D: Disk> SectionStore<D> {
         ensures told { D.told_to_fail self.old.disk → IsErr result }
         ensures honest { D.honest self.old.disk ↔ D.honest self.new.disk }
         ensures cause { HasCause result (self.old.next ≡ Step.WriteBody)
-            ((tree.now.table ≡ self.old.form.table) × (tree.now.rides ≡ self.old.form.rides))
-            (IsNew tree.now.tree.source self.old.stored.items)
-            (IsTooLarge self.old.form tree.now.tree self.old.place)
+            (MayStand self.old.form tree.now)
+            (IsNew tree.now.source self.old.stored)
+            (IsTooLarge self.old.form tree.now self.old.place)
             (D.failures self.old.disk) (D.failures self.new.disk) }
         ensures same { IfErr result (λ fault. ¬ (fault ≡ PutFault.Device)
             → (self.new.disk ≡ self.old.disk) × (self.new.extent ≡ self.old.extent) × (self.new.next ≡ self.old.next)) }
@@ -55,15 +56,15 @@ impl<D: Disk> SectionStore<D> {
         ensures next { OnOk result (self.new.next ≡ Step.SyncBody) }
         ensures place { self.new.place ≡ self.old.place }
         ensures form { self.new.form ≡ self.old.form }
-        ensures stored { self.new.stored.items ≡ self.old.stored.items }
-        ensures source { OnOk result (self.new.source ≡ tree.now.tree.source) }
-        ensures exact { OnOk result (IsExact self.old.form tree.now.tree) }
+        ensures stored { self.new.stored ≡ self.old.stored }
+        ensures source { OnOk result (self.new.source ≡ tree.now.source) }
     {
         stands_for_one();
+        let _valid = self.form.timetable().stops();
         if self.next != Step::WriteBody {
             return Err(PutFault::Failed);
         }
-        if self.present.contains(tree.tree().source()) {
+        if self.present.contains(tree.source()) {
             return Err(PutFault::AlreadyStored);
         }
         if self.stored.reserve(1).is_err() {
@@ -79,7 +80,7 @@ impl<D: Disk> SectionStore<D> {
         match self.disk.write_at(self.place + 1, &self.body) {
             Ok(()) => {
                 self.extent = extent;
-                self.source = tree.tree().source();
+                self.source = tree.source();
                 self.next = Step::SyncBody;
                 Ok(())
             }
@@ -109,7 +110,7 @@ impl<D: Disk> SectionStore<D> {
         ensures place { self.new.place ≡ self.old.place }
         ensures extent { self.new.extent ≡ self.old.extent }
         ensures form { self.new.form ≡ self.old.form }
-        ensures stored { self.new.stored.items ≡ self.old.stored.items }
+        ensures stored { self.new.stored ≡ self.old.stored }
         ensures source { self.new.source ≡ self.old.source }
     {
         match self.disk.sync() {
@@ -145,7 +146,7 @@ impl<D: Disk> SectionStore<D> {
         ensures place { self.new.place ≡ self.old.place }
         ensures extent { self.new.extent ≡ self.old.extent }
         ensures form { self.new.form ≡ self.old.form }
-        ensures stored { self.new.stored.items ≡ self.old.stored.items }
+        ensures stored { self.new.stored ≡ self.old.stored }
         ensures source { self.new.source ≡ self.old.source }
     {
         stands_for_one();
@@ -181,9 +182,9 @@ impl<D: Disk> SectionStore<D> {
             (λ _. self.new.place ≡ self.old.place + self.old.extent) (λ _. self.new.place ≡ self.old.place) }
         ensures form { self.new.form ≡ self.old.form }
         ensures stored { MatchResult result
-            (λ _. self.new.stored.items ≡ self.old.stored.items ++ self.old.source ∷ [])
-            (λ _. self.new.stored.items ≡ self.old.stored.items) }
-        ensures receipt { IfOk result (λ r. (r.source ≡ self.old.source) × (r.number ≡ length self.old.stored.items)) }
+            (λ _. self.new.stored ≡ self.old.stored ++ self.old.source ∷ [])
+            (λ _. self.new.stored ≡ self.old.stored) }
+        ensures receipt { IfOk result (λ r. (r.source ≡ self.old.source) × (r.number ≡ length self.old.stored)) }
     {
         match self.disk.sync() {
             Ok(()) => {
@@ -193,10 +194,7 @@ impl<D: Disk> SectionStore<D> {
                 self.place += self.extent;
                 self.extent = 0;
                 self.next = Step::WriteBody;
-                Ok(Receipt {
-                    source: self.source,
-                    number,
-                })
+                Ok(Receipt::new(self.source, number))
             }
             Err(_) => {
                 self.next = Step::Failed;

@@ -127,7 +127,7 @@ pub fn begin<D: Disk>(
 ) -> Result<SectionStore<D>, (PutFault, D)>
     requires { D.honest disk → IsFreshRest (D.state disk) }
     ensures holds { D.honest disk → IfOk result (λ store.
-        Holds (form_of (arc_value table.now) rides) [] store.place store.stored.items (D.state store.disk)) }
+        Holds (form_of (arc_value table.now) rides) [] store.place store.stored (D.state store.disk)) }
     ensures moments { D.honest disk → MatchResult result
         (λ store. LeavesOnly (D.state disk) (D.state store.disk) (StandsForNone (form_of (arc_value table.now) rides)))
         (λ e. LeavesOnly (D.state disk) (D.state e.1) (StandsForNone (form_of (arc_value table.now) rides))) }
@@ -141,7 +141,7 @@ pub fn begin<D: Disk>(
     ensures cause { MatchResult result (λ store. D.failures store.disk ≡ D.failures disk)
         (λ e. ((e.0 ≡ PutFault.Memory) × (e.1 ≡ disk)) ⊎ ((e.0 ≡ PutFault.Device) × Grew (D.failures disk) (D.failures e.1))) }
     ensures ready { IfOk result (λ store. (store.next ≡ Step.WriteBody) × (store.form ≡ form_of (arc_value table.now) rides)) }
-    ensures stored { IfOk result (λ store. store.stored.items ≡ []) }
+    ensures stored { IfOk result (λ store. store.stored ≡ []) }
 {
     let Ok(kept) = Arc::try_clone(table) else {
         return Err((PutFault::Memory, disk));

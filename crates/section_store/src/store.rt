@@ -1,44 +1,22 @@
 //! A store: a file to which trees are put.
 
-ghost use Rattle.std.specs.Prelude.{◌≡◌, ◌<◌, ◌≤◌, ◌+◌, ◌^◌, ◌==◌, ℕ, length, vec_len, vec_capacity};
+ghost use Rattle.std.specs.Prelude.{◌≡◌, ◌<◌, ◌==◌, ℕ};
 ghost use Rattle.disk_model.specs.MemDisk.{state_of, failures_of, is_told};
 ghost use Rattle.timetable.specs.Table.{stops_of};
+ghost use Rattle.section_store.specs.Going.{IsKept};
 ghost use Rattle.section_store.specs.Sources.{IsSetOf, is_among};
-ghost use Rattle.section_store.specs.Step.{IsBegun};
 
 use crate::form::Form;
 use crate::step::Step;
 use crate::stop_set::StopSet;
 use disk_model::{Disk, MemDisk};
 use std::alloc::Global;
+use std::marker::Model;
 use timetable::StopId;
-
-/// That a source is stored, and its number in the list, from 0.
-#[derive(Debug, Drop)]
-pub struct Receipt {
-    pub source: StopId,
-    pub number: usize,
-}
-
-impl Receipt {
-    /// The stop whose tree is stored.
-    pub fn source(&self) -> StopId
-        ensures { result ≡ self.now.source }
-    {
-        self.source
-    }
-
-    /// Its number in the list, from 0.
-    pub fn number(&self) -> usize
-        ensures { result ≡ self.now.number }
-    {
-        self.number
-    }
-}
 
 /// A file of finished trees, and what is known of it: what it is a store of, where the closed gate stands, how long the
 /// section that was written behind it is and whose, and whose trees are stored, in order and as a set. The bytes of a
-/// section are made in a buffer that is kept.
+/// section are made in a buffer that is kept. By its type the file of an honest disk has what it should, at each call of a put.
 #[derive(Drop)]
 pub struct SectionStore<D: Disk> {
     pub(crate) disk: D,
@@ -50,10 +28,27 @@ pub struct SectionStore<D: Disk> {
     pub(crate) present: StopSet,
     pub(crate) next: Step,
     pub(crate) body: Vec<u8>,
-    ghost inside: { D.honest disk → place + extent + 1 ≤ length (D.state disk).read },
-    ghost low: { place + extent < 2 ^ 64 },
-    ghost set: { IsSetOf (stops_of form.table) present stored.items },
-    ghost room: { IsBegun next → vec_len stored < vec_capacity stored },
+}
+
+impl<D: Disk> Model for SectionStore<D> {
+    ghost use Rattle.std.specs.Prelude.{vec_len, vec_capacity};
+    ghost use Rattle.section_store.specs.Stages.{IsStore};
+    ghost use Rattle.section_store.specs.StoreView.{StoreView};
+
+    ghost Value = { StoreView D };
+
+    ghost view = { λ s. record {
+      form = s.form;
+      stored = s.stored.items;
+      next = s.next;
+      place = s.place;
+      extent = s.extent;
+      source = s.source;
+      disk = s.disk;
+    } };
+
+    ghost invariant = { λ s. IsStore (D.honest s.disk) s.form s.stored.items s.present (vec_len s.stored) (vec_capacity s.stored) s.next
+        s.place s.extent s.source (D.state s.disk) };
 }
 
 impl<D: Disk> SectionStore<D> {
@@ -67,12 +62,12 @@ impl<D: Disk> SectionStore<D> {
         present: StopSet,
         place: u64,
     ) -> Self
-        requires inside { D.honest disk → place < length (D.state disk).read }
+        requires kept { D.honest disk → IsKept form place stored.items (D.state disk) }
         requires set { IsSetOf (stops_of form.table) present stored.items }
         ensures disk { result.disk ≡ disk }
         ensures form { result.form ≡ form }
         ensures place { result.place ≡ place }
-        ensures stored { result.stored ≡ stored }
+        ensures stored { result.stored ≡ stored.items }
         ensures next { result.next ≡ Step.WriteBody }
     {
         SectionStore {
@@ -88,16 +83,24 @@ impl<D: Disk> SectionStore<D> {
         }
     }
 
+    /// Between puts the file of an honest disk holds trees of the stored sources, whatever came before. Nothing is run.
+    pub fn is_kept(&self)
+        ensures { D.honest self.now.disk → self.now.next ≡ Step.WriteBody
+            → IsKept self.now.form self.now.place self.now.stored (D.state self.now.disk) }
+    {
+        let _place = &self.place;
+    }
+
     /// Whose trees are stored, in storing order.
     pub fn stored(&self) -> &[StopId]
-        ensures { result.now ≡ self.now.stored.items }
+        ensures { result.now ≡ self.now.stored }
     {
         &self.stored
     }
 
     /// Whether the tree of a stop of the timetable is stored, by one look.
     pub fn has(&self, stop: StopId) -> bool
-        ensures { stop < stops_of self.now.form.table → result ≡ is_among stop self.now.stored.items }
+        ensures { stop < stops_of self.now.form.table → result ≡ is_among stop self.now.stored }
     {
         self.present.contains(stop)
     }

@@ -83,6 +83,7 @@ pub fn build<'a, D: Disk + Drop, T: Threads + Wait + Sync, P: Progress>(
     ensures device { IfErr result.0 (OnlyFailing (D.failures disk) (D.failures result.1)) }
     ensures honest { D.honest disk ↔ D.honest result.1 }
 {
+    opening_goes_on();
     goes_on();
     loses_nothing_in_turn();
     let OpenStore {

@@ -6,10 +6,11 @@ ghost use Rattle.timetable.specs.Table.{stops_of};
 ghost use Rattle.section_store.specs.Sections.{form_of};
 
 use board::{Reader, Stored, Writer, open};
+use disk_model::MemDisk;
 use pattern_building::finish;
 use pattern_tree::{Arena, Finished};
 use rounds::Scratch;
-use section_store::Receipt;
+use section_store::begin;
 use std::alloc::{AllocError, Global};
 use std::sync::{Arc, Wait};
 use std::test::Fail;
@@ -28,13 +29,15 @@ pub fn tree(alloc: Global, table: &Arc<Timetable>, source: u16) -> Result<Finish
     Ok(finish(alloc, table, source, rides, &mut scratch, &mut arena)?)
 }
 
-/// A tree with a receipt.
+/// A tree with the receipt of a store in memory that has no other tree. Such a disk fails only if memory runs out.
 pub fn stored(alloc: Global, tree: Finished) -> Result<Stored, AllocError>
     ensures { IfOk result (λ stored. stored.form ≡ form_of tree.table tree.rides) }
 {
-    let receipt = Receipt {
-        source: tree.tree().source(),
-        number: 0,
+    let Ok(mut store) = begin(alloc, MemDisk::new(alloc), tree.timetable(), tree.k()) else {
+        return Err(AllocError);
+    };
+    let Ok(receipt) = store.put(&tree) else {
+        return Err(AllocError);
     };
     Stored::new(alloc, tree, receipt).map_err(|_| AllocError)
 }

@@ -152,12 +152,26 @@ fn what_a_crash_leaves(rt: HostRuntime) -> Result<(), Fail> {
     Ok(())
 }
 
-// Does the writes, and syncs.
+// Does the writes, none of them past the end, and syncs.
 fn put(disk: &mut FileDisk, writes: &[(u64, &[u8])]) -> Result<(), Fail> {
     for (pos, bytes) in writes {
+        let end = disk.len()?;
+        if *pos > end {
+            return Err(Fail::new("a write past the end"));
+        }
         disk.write_at(*pos, bytes)?;
     }
     disk.sync()?;
+    Ok(())
+}
+
+// Cuts the file to a length, not past the end.
+fn shorten(disk: &mut FileDisk, len: u64) -> Result<(), Fail> {
+    let end = disk.len()?;
+    if len > end {
+        return Err(Fail::new("a cut past the end"));
+    }
+    disk.cut(len)?;
     Ok(())
 }
 
@@ -168,7 +182,7 @@ fn a_file_as_a_disk(rt: HostRuntime) -> Result<(), Fail> {
     let mut disk = FileDisk::open(&rt, path)?;
     put(&mut disk, &[(0, &[1, 2, 3, 4]), (1, &[7, 8]), (4, &[5])])?;
     assert!(rt; gives(&mut disk, &[1, 7, 8, 4, 5])?);
-    disk.cut(2)?;
+    shorten(&mut disk, 2)?;
     drop(disk);
     let mut disk = FileDisk::open(&rt, path)?;
     assert!(rt; gives(&mut disk, &[1, 7])? && disk.failures() == 0);

@@ -31,7 +31,7 @@ returns-in-Err-clause-trusted c =
     let same : form ≡ c.args.tools.now.form = rw (c.table.ensures, c.rides.ensures) refl in
     let trusted : IsTrusted form (state_of c.args.disk) = rw same c.requires in
     subst (λ (f : Form). IsTrusted f (state_of c.in-Err.refused.1)) same
-    (c.trust_lasts.ensures form (state_of c.args.disk) (state_of c.in-Err.refused.1) trusted (c.in-Err.ensures.trusted tt))
+    (c.trust_lasts.ensures form (state_of c.args.disk) (state_of c.in-Err.refused.1) trusted (c.in-Err.ensures.opening tt).trusts)
 
 pub returns-in_default-clause-trusted : goal.returns-in_default-clause-trusted
 returns-in_default-clause-trusted c =
@@ -40,7 +40,7 @@ returns-in_default-clause-trusted c =
     let trusted : IsTrusted form (state_of c.args.disk) = rw same c.requires in
     let disk = c.in-Ok.recovered.store.disk in
     rw c.into_disk.ensures (subst (λ (f : Form). IsTrusted f (state_of disk)) same
-    (c.trust_lasts.ensures form (state_of c.args.disk) (state_of disk) trusted (c.in-Ok.ensures.trusted tt)))
+    (c.trust_lasts.ensures form (state_of c.args.disk) (state_of disk) trusted (c.in-Ok.ensures.opening tt).trusts))
 
 pub begin-requires-clause-exact : goal.begin-requires-clause-exact
 begin-requires-clause-exact c =
@@ -52,7 +52,7 @@ begin-requires-clause-exact c =
 
 pub begin-requires-clause-held : goal.begin-requires-clause-held
 begin-requires-clause-held c =
-    let list = c.in-Ok.recovered.store.stored.items in
+    let list = c.in-Ok.recovered.store.stored in
     subst (λ l. All (Contains list) l) (sym (c.in-Ok-from_slice.ensures.items ∙ c.stored.ensures)) (All-contains_itself list)
 
 pub returns-in-Ok-begin-clause-opened : goal.returns-in-Ok-begin-clause-opened
@@ -84,7 +84,7 @@ returns-clause-trusted c =
     let trusted : IsTrusted form (state_of c.args.disk) = rw same c.requires in
     let disk = c.in-Ok.recovered.store.disk in
     rw c.in-Err-begin.ensures.disk (subst (λ (f : Form). IsTrusted f (state_of disk)) same
-    (c.trust_lasts.ensures form (state_of c.args.disk) (state_of disk) trusted (c.in-Ok.ensures.trusted tt)))
+    (c.trust_lasts.ensures form (state_of c.args.disk) (state_of disk) trusted (c.in-Ok.ensures.opening tt).trusts))
 
 pub returns-in-Err-clause-given_back : goal.returns-in-Err-clause-given_back
 returns-in-Err-clause-given_back c =
@@ -92,7 +92,7 @@ returns-in-Err-clause-given_back c =
     let same : form ≡ c.args.tools.now.form = rw (c.table.ensures, c.rides.ensures) refl in
     let is = c.in-Err.ensures in
     subst (λ (f : Form). IsGivenBack f (state_of c.args.disk) (state_of c.in-Err.refused.1)) same
-    (record { leaves = is.moments tt; loses = is.lasting tt; trusts = is.trusted tt; written = is.written tt })
+    (record { opening = is.opening tt; written = is.written tt })
 
 pub returns-in_default-clause-given_back : goal.returns-in_default-clause-given_back
 returns-in_default-clause-given_back c =
@@ -100,7 +100,7 @@ returns-in_default-clause-given_back c =
     let same : form ≡ c.args.tools.now.form = rw (c.table.ensures, c.rides.ensures) refl in
     let is = c.in-Ok.ensures in
     rw c.into_disk.ensures (subst (λ (f : Form). IsGivenBack f (state_of c.args.disk) (state_of c.in-Ok.recovered.store.disk)) same
-    (record { leaves = is.moments tt; loses = is.lasting tt; trusts = is.trusted tt; written = λ old. inr (is.written tt old) }))
+    (record { opening = is.opening tt; written = λ old. inr (is.written tt old) }))
 
 pub returns-clause-given_back : goal.returns-clause-given_back
 returns-clause-given_back c =
@@ -108,4 +108,4 @@ returns-clause-given_back c =
     let same : form ≡ c.args.tools.now.form = rw (c.table.ensures, c.rides.ensures) refl in
     let is = c.in-Ok.ensures in
     rw c.in-Err-begin.ensures.disk (subst (λ (f : Form). IsGivenBack f (state_of c.args.disk) (state_of c.in-Ok.recovered.store.disk)) same
-    (record { leaves = is.moments tt; loses = is.lasting tt; trusts = is.trusted tt; written = λ old. inr (is.written tt old) }))
+    (record { opening = is.opening tt; written = λ old. inr (is.written tt old) }))

@@ -1,11 +1,12 @@
 use Rattle.std.proofs.Common.{◌≡◌, ◌<◌, ◌∙◌, List, All, refl, sym, subst, inl, inr}
 use Rattle.std.specs.Arc.{arc_value}
 use Rattle.std.specs.List.{Contains}
+use Rattle.disk_model.specs.Disk.{State}
 use Rattle.disk_model.specs.MemDisk.{state_of}
 use Rattle.timetable.specs.Table.{stops_of}
 use Rattle.pattern_tree.specs.Content.{Content}
 use Rattle.section_store.specs.Going.{IsFront}
-use Rattle.section_store.specs.Lasting.{IsExact}
+use Rattle.section_store.specs.Lasting.{IsExact, LosesNothing}
 use Rattle.section_store.specs.Sections.{Form, Stands, form_of, sources}
 use Rattle.planner_core.specs.Cores.{running_of}
 use Rattle.planner_core.specs.Safety.{IsSafeDisk}
@@ -56,6 +57,8 @@ returns-in-Ok-begin-clause-steps c =
       begins = subst (λ (l : List Content). Begins c.args.tools.now l (running_of c.in-Ok-begin.running)) c.deref.ensures.value c.in-Ok-begin.ensures.begins;
       written = λ fresh. c.in-Ok-begin.ensures.disk ∙ c.in-Ok.ensures.written tt fresh;
       acknowledged = c.in-Ok-begin.ensures.acknowledged;
+      lasts = subst (λ (f : Form). LosesNothing f (state_of d.disk) c.in-Ok-begin.running.archive.disk) same
+          (subst (λ (s : State). LosesNothing (form_of (arc_value c.table.result.now) c.rides.result) (state_of d.disk) s) (sym c.in-Ok-begin.ensures.disk) (c.in-Ok.ensures.opening tt).loses);
     }
 
 pub returns-in-Ok-begin-clause-sound : goal.returns-in-Ok-begin-clause-sound

@@ -18,7 +18,7 @@ pub returns-clause-holds : goal.returns-clause-holds
 returns-clause-holds g c = λ honest.
     let form = form_of (arc_value c.args.table.now) c.args.rides in
     IfOk-weaker c.open.result _ _
-    (λ r read. subst (λ (l : List Content). Holds form l r.store.place r.store.stored.items (g.D.Disk.state r.store.disk)) (sym read.kept_are) (read.known honest).1)
+    (λ r read. subst (λ (l : List Content). Holds form l r.store.place r.store.stored (g.D.Disk.state r.store.disk)) (sym read.kept_are) (read.known honest).1)
     c.open.ensures.read
 
 pub returns-clause-exact : goal.returns-clause-exact

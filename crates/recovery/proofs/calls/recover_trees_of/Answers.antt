@@ -22,4 +22,4 @@ returns-clause-excerpt g c = λ honest.
 pub returns-clause-known : goal.returns-clause-known
 returns-clause-known g c =
     IfOk-weaker c.open.result _ _
-    (λ r read. sources_below (stops_of (arc_value c.args.table.now)) read.trees r.store.stored.items read.stored_are read.stops) c.open.ensures.read
+    (λ r read. sources_below (stops_of (arc_value c.args.table.now)) read.trees r.store.stored read.stored_are read.stops) c.open.ensures.read

@@ -13,11 +13,11 @@ returns-in-Ok-false-clause-kind g c = λ honest.
     let read = (g.D.Disk.state c.args.disk.now).read in
     let head = c.read_bytes.new.out.items in
     let there = c.in-Ok.ensures.honest.0 honest in
-    let seen = c.in-Ok-read_bytes.ensures.same there ∙ c.in-Ok.ensures.same honest in
-    let is : head ≡ take 15 read = c.in-Ok-read_bytes.ensures.bytes there ∙ ap (λ (s : State). take 15 s.read) (c.in-Ok.ensures.same honest) in
+    let seen = c.in_ok-read_bytes.ensures.same there ∙ c.in-Ok.ensures.same honest in
+    let is : head ≡ take 15 read = c.in_ok-read_bytes.ensures.bytes there ∙ ap (λ (s : State). take 15 s.read) (c.in-Ok.ensures.same honest) in
     let shut : (length head < 15) ⊎ (get_or head 0 0 ≢ open_gate) = search rules in
     let none : CanBegin form read → ⊥ = λ can.
-    false≢true (sym c.in-Ok-false.field-0-test ∙ (c.in-Ok-false.ensures.can (c.in-Ok-read_bytes.ensures.honest.0 there)).1 (subst (λ (s : State). CanBegin form s.read) (sym seen) can)) in
+    false≢true (sym c.in-Ok-false.field-0-test ∙ (c.in-Ok-false.ensures.can (c.in_ok-read_bytes.ensures.honest.0 there)).1 (subst (λ (s : State). CanBegin form s.read) (sym seen) can)) in
     (kept_out read head is form shut none, named_read read head is (subst IsNamedBehindGate c.deref-2.ensures.value (c.is_named-named.ensures.0 c.if-named.true)))
 
 pub returns-clause-kind : goal.returns-clause-kind
@@ -26,11 +26,11 @@ returns-clause-kind g c = λ honest.
     let read = (g.D.Disk.state c.args.disk.now).read in
     let head = c.read_bytes.new.out.items in
     let there = c.in-Ok.ensures.honest.0 honest in
-    let seen = c.in-Ok-read_bytes.ensures.same there ∙ c.in-Ok.ensures.same honest in
-    let is : head ≡ take 15 read = c.in-Ok-read_bytes.ensures.bytes there ∙ ap (λ (s : State). take 15 s.read) (c.in-Ok.ensures.same honest) in
+    let seen = c.in_ok-read_bytes.ensures.same there ∙ c.in-Ok.ensures.same honest in
+    let is : head ≡ take 15 read = c.in_ok-read_bytes.ensures.bytes there ∙ ap (λ (s : State). take 15 s.read) (c.in-Ok.ensures.same honest) in
     let shut : (length head < 15) ⊎ (get_or head 0 0 ≢ open_gate) = search rules in
     let none : CanBegin form read → ⊥ = λ can.
-    false≢true (sym c.in-Ok-false.field-0-test ∙ (c.in-Ok-false.ensures.can (c.in-Ok-read_bytes.ensures.honest.0 there)).1 (subst (λ (s : State). CanBegin form s.read) (sym seen) can)) in (
+    false≢true (sym c.in-Ok-false.field-0-test ∙ (c.in-Ok-false.ensures.can (c.in_ok-read_bytes.ensures.honest.0 there)).1 (subst (λ (s : State). CanBegin form s.read) (sym seen) can)) in (
       kept_out read head is form shut none,
       λ named.
           false≢true (sym c.if-named.false ∙ c.is_named-named.ensures.1 (subst IsNamedBehindGate (sym c.deref-2.ensures.value) (named_head read head is named))),

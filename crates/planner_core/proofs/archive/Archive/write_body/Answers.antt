@@ -1,9 +1,10 @@
-use Rattle.std.proofs.Common.{◌≡◌, ◌∙◌, ◌++◌, [], ◌∷◌, ap, inl, inr, refl, subst, sym, not, true, false}
+use Rattle.std.proofs.Common.{rules, ◌≡◌, ◌∙◌, ◌++◌, [], ◌∷◌, ap, inl, inr, refl, subst, sym, not, true, false}
 use Rattle.disk_model.specs.MemDisk.{state_of}
 use Rattle.pattern_tree.specs.Content.{Content}
 use Rattle.section_store.specs.Fault.{CauseOf, IsTooLarge}
-use Rattle.section_store.specs.Lasting.{IsExact}
-use Rattle.section_store.specs.Sections.{Form}
+use Rattle.section_store.specs.Lasting.{IsExact, LosesNothing}
+use Rattle.timetable.specs.Table.{IsTable}
+use Rattle.section_store.specs.Sections.{Form, MayStand}
 use Rattle.section_store.specs.Store.{WroteBody, BodyFailed}
 use Rattle.section_store.specs.declared.step.Step.TheVariants as N
 use Rattle.planner_core.specs.Views.{ArchiveView}
@@ -19,7 +20,7 @@ invariant_of-self-in-Err-TooLarge c =
     let new = c.write_body.new.self in
     let same = c.tell.ensures.same in
     let section = c.tell.ensures.section in
-    let stored = ap (λ v. v.items) c.tell.ensures.stored in
+    let stored = c.tell.ensures.stored in
     let next : store.next ≡ N.WriteBody = ap (λ (a : ArchiveView). a.next) c.self.view_is ∙ c.requires.ready in
     let is = as_before same.2 stored refl refl (sym next) section.1 same.0 section.0 c.tell.ensures.state c.self.invariant in
     let kept = c.in-Err-TooLarge.ensures.same (λ device. cc (device, c.in-Err-TooLarge.field-0-is)) in
@@ -35,7 +36,7 @@ invariant_of-self-in-Err-Memory c =
     let new = c.write_body.new.self in
     let same = c.tell.ensures.same in
     let section = c.tell.ensures.section in
-    let stored = ap (λ v. v.items) c.tell.ensures.stored in
+    let stored = c.tell.ensures.stored in
     let next : store.next ≡ N.WriteBody = ap (λ (a : ArchiveView). a.next) c.self.view_is ∙ c.requires.ready in
     let is = as_before same.2 stored refl refl (sym next) section.1 same.0 section.0 c.tell.ensures.state c.self.invariant in
     let kept = c.in-Err-Memory.ensures.same (λ device. cc (device, c.in-Err-Memory.field-0-is)) in
@@ -51,17 +52,18 @@ invariant_of-self-in_err-as_told c =
     let new = c.write_body.new.self in
     let same = c.tell.ensures.same in
     let section = c.tell.ensures.section in
-    let stored = ap (λ v. v.items) c.tell.ensures.stored in
+    let stored = c.tell.ensures.stored in
     let next : store.next ≡ N.WriteBody = ap (λ (a : ArchiveView). a.next) c.self.view_is ∙ c.requires.ready in
     let is = as_before same.2 stored refl refl (sym next) section.1 same.0 section.0 c.tell.ensures.state c.self.invariant in
-    let tree = c.args.tree.now.tree in
+    let tree = c.tree-content.result.now in
     let more : c.push_reserved.new.self.items ≡ at.storing.items ++ tree.source ∷ [] =
-    c.push_reserved.ensures.items ∙ ap (λ l. l ++ c.source.result ∷ []) c.reserve.ensures.items ∙ ap (λ n. at.storing.items ++ n ∷ []) (c.source.ensures ∙ ap (λ (t : Content). t.source) c.tree.ensures.value) in
-    let finished = c.tree.ensures.finished in
+    c.push_reserved.ensures.items ∙ ap (λ l. l ++ c.source.result ∷ []) c.reserve.ensures.items ∙ ap (λ n. at.storing.items ++ n ∷ []) c.source.ensures in
+    let finished = c.tree-content.ensures.finished in
     let form = same.2 ∙ ap (λ (a : ArchiveView). a.form) c.self.view_is in
     let table : c.args.tree.now.table ≡ told.form.table = c.requires.table ∙ sym (ap (λ (f : Form). f.table) form) in
     let rides : c.args.tree.now.rides ≡ told.form.rides = c.requires.rides ∙ sym (ap (λ (f : Form). f.rides) form) in
-    let exact : IsExact told.form tree = record { complete = rw (← table, ← rides) finished.complete; earned = rw (← table, ← rides) finished.earned } in
+    let of_tree : IsExact told.form c.args.tree.now.tree = record { complete = rw (← table, ← rides) finished.complete; earned = rw (← table, ← rides) finished.earned } in
+    let exact : IsExact told.form tree = rw c.tree-content.ensures.value of_tree in
     still_archive is c.write_body.ensures.form c.write_body.ensures.stored
     (after_write_body told.form is.trees at.storing.items c.push_reserved.new.self.items tree new.source told.place new.place new.extent (state_of told.disk) (state_of new.disk) new.next
     is.stage (c.write_body.ensures.moments is.trees tt is.stage.rest) exact more
@@ -78,17 +80,18 @@ invariant_of-self-2 c =
     let new = c.write_body.new.self in
     let same = c.tell.ensures.same in
     let section = c.tell.ensures.section in
-    let stored = ap (λ v. v.items) c.tell.ensures.stored in
+    let stored = c.tell.ensures.stored in
     let next : store.next ≡ N.WriteBody = ap (λ (a : ArchiveView). a.next) c.self.view_is ∙ c.requires.ready in
     let is = as_before same.2 stored refl refl (sym next) section.1 same.0 section.0 c.tell.ensures.state c.self.invariant in
-    let tree = c.args.tree.now.tree in
+    let tree = c.tree-content.result.now in
     let more : c.push_reserved.new.self.items ≡ at.storing.items ++ tree.source ∷ [] =
-    c.push_reserved.ensures.items ∙ ap (λ l. l ++ c.source.result ∷ []) c.reserve.ensures.items ∙ ap (λ n. at.storing.items ++ n ∷ []) (c.source.ensures ∙ ap (λ (t : Content). t.source) c.tree.ensures.value) in
-    let finished = c.tree.ensures.finished in
+    c.push_reserved.ensures.items ∙ ap (λ l. l ++ c.source.result ∷ []) c.reserve.ensures.items ∙ ap (λ n. at.storing.items ++ n ∷ []) c.source.ensures in
+    let finished = c.tree-content.ensures.finished in
     let form = same.2 ∙ ap (λ (a : ArchiveView). a.form) c.self.view_is in
     let table : c.args.tree.now.table ≡ told.form.table = c.requires.table ∙ sym (ap (λ (f : Form). f.table) form) in
     let rides : c.args.tree.now.rides ≡ told.form.rides = c.requires.rides ∙ sym (ap (λ (f : Form). f.rides) form) in
-    let exact : IsExact told.form tree = record { complete = rw (← table, ← rides) finished.complete; earned = rw (← table, ← rides) finished.earned } in
+    let of_tree : IsExact told.form c.args.tree.now.tree = record { complete = rw (← table, ← rides) finished.complete; earned = rw (← table, ← rides) finished.earned } in
+    let exact : IsExact told.form tree = rw c.tree-content.ensures.value of_tree in
     still_archive is c.write_body.ensures.form c.write_body.ensures.stored
     (after_write_body told.form is.trees at.storing.items c.push_reserved.new.self.items tree new.source told.place new.place new.extent (state_of told.disk) (state_of new.disk) new.next
     is.stage (c.write_body.ensures.moments is.trees tt is.stage.rest) exact more
@@ -112,25 +115,40 @@ returns c =
     let state : state_of mid.disk ≡ a.disk = c.tell.ensures.state ∙ ap (λ (x : ArchiveView). x.disk) v in
     let storing : c.push_reserved.new.self.items ≡ a.storing ++ t.tree.source ∷ [] =
     c.push_reserved.ensures.items ∙ ap (λ l. l ++ c.source.result ∷ []) (c.reserve.ensures.items ∙ ap (λ (x : ArchiveView). x.storing) v)
-    ∙ ap (λ n. a.storing ++ n ∷ []) (c.source.ensures ∙ ap (λ (x : Content). x.source) c.tree.ensures.value) in
-    let stored = c.write_body.ensures.stored ∙ ap (λ x. x.items) c.tell.ensures.stored ∙ ap (λ (x : ArchiveView). x.stored) v in
+    ∙ ap (λ n. a.storing ++ n ∷ []) (c.source.ensures ∙ ap (λ (x : Content). x.source) c.tree-content.ensures.value) in
+    let stored = c.write_body.ensures.stored ∙ c.tell.ensures.stored ∙ ap (λ (x : ArchiveView). x.stored) v in
     let acknowledged = ap (λ (x : ArchiveView). x.acknowledged) v in
+    let next : store.next ≡ N.WriteBody = ap (λ (x : ArchiveView). x.next) v ∙ c.requires.ready in
+    let is = as_before same.2 c.tell.ensures.stored refl refl (sym next) c.tell.ensures.section.1 same.0 c.tell.ensures.section.0 c.tell.ensures.state c.self.invariant in
+    let lasts : LosesNothing a.form a.disk (state_of new.disk) = rw (← form, ← state) (c.write_body.ensures.lasting is.trees tt is.stage.rest) in
     elim c.match-write_body.branch [
       | in-Ok w ↦
           let fails : c.args.fails ≡ false = c.in_ok-as_told.ensures ∙ ap not w.made-is in
-          let small : ¬ IsTooLarge a.form t.tree a.place = rw (← form, ← place) w.in-Ok.ensures.cause.3 in
-          let wrote : WroteBody t a.place new.extent a.disk (state_of new.disk) = rw (← place, ← state) (w.in-Ok.ensures.written tt) in (
+          let small : ¬ IsTooLarge a.form t.tree a.place = rw (← form, ← place, ← c.tree-content.ensures.value) w.in-Ok.ensures.cause.3 in
+          let wrote : WroteBody a.form t.tree a.place new.extent a.disk (state_of new.disk) = rw (← form, ← place, ← state, ← c.tree-content.ensures.value) (w.in-Ok.ensures.written tt) in (
             small,
-            section_made c.args.fails t a new.form new.stored.items new.place new.extent new.next (state_of new.disk) c.push_reserved.new.self.items at.acknowledged.items
-                fails wrote w.in-Ok.ensures.next (c.write_body.ensures.form ∙ form) stored (c.write_body.ensures.place ∙ place) storing acknowledged,
+            section_made c.args.fails t a new.form new.stored new.place new.extent new.next (state_of new.disk) c.push_reserved.new.self.items at.acknowledged.items
+                fails wrote w.in-Ok.ensures.next (c.write_body.ensures.form ∙ form) stored (c.write_body.ensures.place ∙ place) storing acknowledged lasts,
           )
       | in-Err-Device w ↦
           let fails : c.args.fails ≡ true = c.in_ok-as_told.ensures ∙ ap not w.made-is in
           let cause = subst (λ f. CauseOf _ _ _ _ _ _ f) w.in-Err-Device.field-0-is w.in-Err-Device.ensures.cause in
-          let small : ¬ IsTooLarge a.form t.tree a.place = rw (← form, ← place) cause.3 in
-          let wrote : BodyFailed t a.place a.disk (state_of new.disk) = rw (← place, ← state) (w.in-Err-Device.ensures.written tt w.in-Err-Device.field-0-is) in (
+          let small : ¬ IsTooLarge a.form t.tree a.place = rw (← form, ← place, ← c.tree-content.ensures.value) cause.3 in
+          let wrote : BodyFailed a.form t.tree a.place a.disk (state_of new.disk) = rw (← form, ← place, ← state, ← c.tree-content.ensures.value) (w.in-Err-Device.ensures.written tt w.in-Err-Device.field-0-is) in (
             small,
-            section_failed c.args.fails t a new.form new.stored.items new.place new.extent new.next (state_of new.disk) c.push_reserved.new.self.items at.acknowledged.items
-                fails wrote (w.in-Err-Device.ensures.failed w.in-Err-Device.field-0-is) (c.write_body.ensures.form ∙ form) stored (c.write_body.ensures.place ∙ place) storing acknowledged,
+            section_failed c.args.fails t a new.form new.stored new.place new.extent new.next (state_of new.disk) c.push_reserved.new.self.items at.acknowledged.items
+                fails wrote (w.in-Err-Device.ensures.failed w.in-Err-Device.field-0-is) (c.write_body.ensures.form ∙ form) stored (c.write_body.ensures.place ∙ place) storing acknowledged lasts,
           )
     ]
+
+pub write_body-requires : goal.write_body-requires
+write_body-requires c =
+    let f = c.args.tree.now in
+    let told = c.tell.new.store in
+    let form = c.tell.ensures.same.2 ∙ ap (λ (a : ArchiveView). a.form) c.self.view_is in
+    let table : f.table ≡ told.form.table = c.requires.table ∙ sym (ap (λ (x : Form). x.table) form) in
+    let rides : f.rides ≡ told.form.rides = c.requires.rides ∙ sym (ap (λ (x : Form). x.rides) form) in
+    let valid : IsTable f.table = search rules in
+    let both = c.finished_may_stand.ensures f valid c.tree-content.ensures.finished in
+    let made : MayStand told.form f.tree = record { within = rw (← table) both.0.within; shallow = rw (← rides) both.0.shallow } in
+    record { may = rw c.tree-content.ensures.value made }

@@ -11,11 +11,7 @@ use Rattle.planner_life.proofs.DeskFacts.{sources_known}
 use Rattle.planner_life.proofs.desk.Desk.open.Goals as goal
 
 pub returns-in-Err-clause-moments : goal.returns-in-Err-clause-moments
-returns-in-Err-clause-moments g c = λ honest. record {
-  leaves = c.in-Err.ensures.moments honest;
-  loses = c.in-Err.ensures.lasting honest;
-  trusts = c.in-Err.ensures.trusted honest;
-}
+returns-in-Err-clause-moments g c = λ honest. c.in-Err.ensures.opening honest
 
 pub invariant_of-result : goal.invariant_of-result
 invariant_of-result g c =
@@ -30,15 +26,11 @@ invariant_of-result g c =
       shows = c.in-Ok-prepare.ensures.shows;
       known = sources_known (stops_of form.table) trees c.in-Ok.ensures.known;
     } in
-    subst (λ (f : Form). IsDesk tools f store.stored.items board) (sym c.in-Ok.ensures.ready.1)
+    subst (λ (f : Form). IsDesk tools f store.stored board) (sym c.in-Ok.ensures.ready.1)
     (subst (λ (l : List ℕ). IsDesk tools form l board) (sym c.in-Ok.ensures.stored) desk)
 
 pub returns-in-Ok-prepare-clause-moments : goal.returns-in-Ok-prepare-clause-moments
-returns-in-Ok-prepare-clause-moments g c = λ honest. record {
-  leaves = c.in-Ok.ensures.moments honest;
-  loses = c.in-Ok.ensures.lasting honest;
-  trusts = c.in-Ok.ensures.trusted honest;
-}
+returns-in-Ok-prepare-clause-moments g c = λ honest. c.in-Ok.ensures.opening honest
 
 pub returns-in-Ok-prepare-clause-written : goal.returns-in-Ok-prepare-clause-written
 returns-in-Ok-prepare-clause-written g c = λ honest fresh. inr (c.in-Ok.ensures.written honest fresh)
@@ -60,24 +52,20 @@ returns-in-Ok-prepare-clause-whole g c = λ honest.
     let store = c.in-Ok.recovered.store in
     let board = c.in-Ok-prepare.board in
     let stands = c.in-Ok.ensures.stands honest in
-    let is : ShowsWhole form s store.stored.items board = record {
+    let is : ShowsWhole form s store.stored board = record {
       trees = trees;
       stands = stands;
       are = c.in-Ok.ensures.stored;
       whole = c.in-Ok-prepare.ensures.whole form;
       trusted = λ trusted. whole_all form s.read trees stands (c.in-Ok.ensures.exact honest trusted);
     } in
-    subst (λ (f : Form). ShowsWhole f s store.stored.items board) (sym c.in-Ok.ensures.ready.1) is
+    subst (λ (f : Form). ShowsWhole f s store.stored board) (sym c.in-Ok.ensures.ready.1) is
 
 pub returns-in-Err-prepare-clause-moments : goal.returns-in-Err-prepare-clause-moments
 returns-in-Err-prepare-clause-moments g c = λ honest.
     let form = form_of (arc_value c.args.table.now) c.args.rides in
     let s = g.D.Disk.state c.args.disk in
-    let opening : IsOpening form s (g.D.Disk.state c.in-Ok.recovered.store.disk) = record {
-      leaves = c.in-Ok.ensures.moments honest;
-      loses = c.in-Ok.ensures.lasting honest;
-      trusts = c.in-Ok.ensures.trusted honest;
-    } in
+    let opening : IsOpening form s (g.D.Disk.state c.in-Ok.recovered.store.disk) = c.in-Ok.ensures.opening honest in
     subst (λ d. IsOpening form s (g.D.Disk.state d)) (sym c.into_disk.ensures) opening
 
 pub returns-in-Ok-prepare-clause-ends : goal.returns-in-Ok-prepare-clause-ends

@@ -25,11 +25,7 @@ returns-in-Err-clause-moments g c = λ honest.
     let t = g.D.Disk.state c.in-Err.refused.1 in
     let form = form_of (arc_value c.shared-table.result.now) c.args.rides in
     let same : form ≡ form_of c.args.network c.args.rides = ap (λ (x : Table). form_of x c.args.rides) c.shared-table.ensures in
-    let is : IsOpening form s t = record {
-      leaves = c.in-Err.ensures.moments honest;
-      loses = c.in-Err.ensures.lasting honest;
-      trusts = c.in-Err.ensures.trusted honest;
-    } in
+    let is : IsOpening form s t = c.in-Err.ensures.opening honest in
     subst (λ (f : Form). IsOpening f s t) same is
 
 pub new-requires-in-Ok-open_board : goal.new-requires-in-Ok-open_board
@@ -38,12 +34,12 @@ new-requires-in-Ok-open_board g c =
     let store = c.in-Ok.recovered.store in
     let form = form_of (arc_value c.shared-table.result.now) c.args.rides in
     let of : store.form ≡ form = c.in-Ok.ensures.ready.1 in
-    let known : All (λ s. s < stops_of form.table) store.stored.items =
+    let known : All (λ s. s < stops_of form.table) store.stored =
     subst (All (λ s. s < stops_of form.table)) (sym c.in-Ok.ensures.stored) (sources_known (stops_of form.table) trees c.in-Ok.ensures.known) in
     record {
       same = c.in-Ok-open_board.ensures.form ∙ sym of;
-      known = subst (λ (f : Form). All (λ s. s < stops_of f.table) store.stored.items) (sym of) known;
-      shows = shows_stored store.stored.items trees c.in-Ok-open_board.writer.told.list c.in-Ok.ensures.stored c.in-Ok-open_board.ensures.trees;
+      known = subst (λ (f : Form). All (λ s. s < stops_of f.table) store.stored) (sym of) known;
+      shows = shows_stored store.stored trees c.in-Ok-open_board.writer.told.list c.in-Ok.ensures.stored c.in-Ok-open_board.ensures.trees;
     }
 
 pub returns-in-Err-open_board-clause-moments : goal.returns-in-Err-open_board-clause-moments
@@ -51,11 +47,7 @@ returns-in-Err-open_board-clause-moments g c = λ honest.
     let s = g.D.Disk.state c.args.disk in
     let form = form_of (arc_value c.shared-table.result.now) c.args.rides in
     let same : form ≡ form_of c.args.network c.args.rides = ap (λ (x : Table). form_of x c.args.rides) c.shared-table.ensures in
-    let is : IsOpening form s (g.D.Disk.state c.in-Ok.recovered.store.disk) = record {
-      leaves = c.in-Ok.ensures.moments honest;
-      loses = c.in-Ok.ensures.lasting honest;
-      trusts = c.in-Ok.ensures.trusted honest;
-    } in
+    let is : IsOpening form s (g.D.Disk.state c.in-Ok.recovered.store.disk) = c.in-Ok.ensures.opening honest in
     subst (λ (f : Form). IsOpening f s (g.D.Disk.state c.into_disk.result)) same
     (subst (λ d. IsOpening form s (g.D.Disk.state d)) (sym c.into_disk.ensures) is)
 
@@ -65,11 +57,7 @@ returns-in-Ok-open_board-clause-moments g c = λ honest.
     let form = form_of (arc_value c.shared-table.result.now) c.args.rides in
     let same : form ≡ form_of c.args.network c.args.rides = ap (λ (x : Table). form_of x c.args.rides) c.shared-table.ensures in
     let desk = c.new-in-Ok-open_board in
-    let is : IsOpening form s (g.D.Disk.state c.in-Ok.recovered.store.disk) = record {
-      leaves = c.in-Ok.ensures.moments honest;
-      loses = c.in-Ok.ensures.lasting honest;
-      trusts = c.in-Ok.ensures.trusted honest;
-    } in
+    let is : IsOpening form s (g.D.Disk.state c.in-Ok.recovered.store.disk) = c.in-Ok.ensures.opening honest in
     subst (λ (f : Form). IsOpening f s (g.D.Disk.state desk.result.disk)) same
     (subst (λ d. IsOpening form s (g.D.Disk.state d)) (sym (ap (λ (v : DeskView _). v.disk) desk.ensures)) is)
 

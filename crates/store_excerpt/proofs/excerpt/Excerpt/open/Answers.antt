@@ -11,17 +11,13 @@ use Rattle.store_excerpt.proofs.ExcerptFacts.{board_own, kept_whole, shows_among
 use Rattle.store_excerpt.proofs.excerpt.Excerpt.open.Goals as goal
 
 pub returns-in-Err-clause-moments : goal.returns-in-Err-clause-moments
-returns-in-Err-clause-moments g c = λ honest. record {
-  leaves = c.in-Err.ensures.moments honest;
-  loses = c.in-Err.ensures.lasting honest;
-  trusts = c.in-Err.ensures.trusted honest;
-}
+returns-in-Err-clause-moments g c = λ honest. c.in-Err.ensures.opening honest
 
 pub invariant_of-result : goal.invariant_of-result
 invariant_of-result g c =
     let store = c.in-Ok.recovered.store in
     let board = c.in-Ok-of.board in (
-      subst (λ (f : Form). All (λ s. s < stops_of f.table) store.stored.items) (sym c.in-Ok.ensures.ready.1) c.in-Ok.ensures.known,
+      subst (λ (f : Form). All (λ s. s < stops_of f.table) store.stored) (sym c.in-Ok.ensures.ready.1) c.in-Ok.ensures.known,
       board_own c.stops.result (sources c.in-Ok.recovered.trees.items) board c.in-Ok-of.ensures.long c.in-Ok-of.ensures.shows,
     )
 
@@ -48,7 +44,7 @@ returns-in-Ok-of-clause-whole g c = λ honest.
     let excerpt = c.in-Ok.ensures.excerpt honest in
     let store = c.in-Ok.recovered.store in
     let board = c.in-Ok-of.board in
-    let is : ShowsWhole form s store.stored.items board = record {
+    let is : ShowsWhole form s store.stored board = record {
       trees = excerpt.trees;
       stands = excerpt.stands;
       are = excerpt.holds.stored_are;
@@ -56,22 +52,14 @@ returns-in-Ok-of-clause-whole g c = λ honest.
           (subst (All (IsWholeAmong form among)) (sym excerpt.kept_are) (kept_whole form among c.args.froms.now excerpt.trees all));
       trusted = λ trusted. whole_all form s.read excerpt.trees excerpt.stands (excerpt.exact trusted);
     } in
-    subst (λ (f : Form). ShowsWhole f s store.stored.items board) (sym c.in-Ok.ensures.ready.1) is
+    subst (λ (f : Form). ShowsWhole f s store.stored board) (sym c.in-Ok.ensures.ready.1) is
 
 pub returns-in-Ok-of-clause-moments : goal.returns-in-Ok-of-clause-moments
-returns-in-Ok-of-clause-moments g c = λ honest. record {
-  leaves = c.in-Ok.ensures.moments honest;
-  loses = c.in-Ok.ensures.lasting honest;
-  trusts = c.in-Ok.ensures.trusted honest;
-}
+returns-in-Ok-of-clause-moments g c = λ honest. c.in-Ok.ensures.opening honest
 
 pub returns-in-Err-of-clause-moments : goal.returns-in-Err-of-clause-moments
 returns-in-Err-of-clause-moments g c = λ honest.
     let form = form_of (arc_value c.args.table.now) c.args.rides in
     let s = g.D.Disk.state c.args.disk in
-    let opening : IsOpening form s (g.D.Disk.state c.in-Ok.recovered.store.disk) = record {
-      leaves = c.in-Ok.ensures.moments honest;
-      loses = c.in-Ok.ensures.lasting honest;
-      trusts = c.in-Ok.ensures.trusted honest;
-    } in
+    let opening : IsOpening form s (g.D.Disk.state c.in-Ok.recovered.store.disk) = c.in-Ok.ensures.opening honest in
     subst (λ d. IsOpening form s (g.D.Disk.state d)) (sym c.into_disk.ensures) opening
