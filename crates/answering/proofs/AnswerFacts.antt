@@ -1,5 +1,5 @@
 -- Answers between single stops, and journeys of trees between places.
-use Rattle.std.proofs.Common.{Option, ◌≡◌, ℕ, zero, suc, ◌<◌, Bool, false, true≢false, List, [], ◌∷◌, map, get_or, Contains, All, arith, refl, sym, subst, subst₂}
+use Rattle.std.proofs.Common.{Option, Some, ◌≡◌, ℕ, zero, suc, ◌<◌, Bool, false, true≢false, List, [], ◌∷◌, map, get_or, Contains, All, arith, refl, sym, subst, subst₂}
 use Rattle.std.specs.List.{AllZip}
 use Rattle.std.proofs.lemmas.List.Elements.{All-cons, All-nil, All-tail, at_from_Contains}
 use Rattle.timetable.specs.declared.parts.Leg.{Leg}
@@ -11,8 +11,8 @@ use Rattle.pattern_tree.specs.Content.{Content}
 use Rattle.pattern_query.specs.Answer.{PointData, numbers, AreBest}
 use Rattle.planner.specs.Questions.{IsAskedPoint, ReachesBetween}
 use Rattle.scanned_journeys.specs.Journeys.{IsJourney}
-use Rattle.answering.specs.Answers.{IsReached, IsRideBetween, TellsReached}
-use Rattle.answering.specs.Found.{IsJourneyBetween}
+use Rattle.answering.specs.Answers.{Journeys, IsReached, IsRideBetween, TellsReached}
+use Rattle.answering.specs.Found.{IsHeldBetween, IsJourneyBetween}
 use Rattle.told_journeys.specs.Points.{TellsNumbers, Tells}
 use Rattle.answer_lines.specs.declared.answer.Point.{Point}
 use Rattle.feed_basis.specs.Basis.{BasisData}
@@ -48,19 +48,19 @@ module _ (table : Table) (k p q d : ℕ) where
   }
 
 -- the numbers alone are shown
-pub shown_numbers : (basis : BasisData) (froms tos : List ℕ) (d : ℕ) (front : List Numbers) (points : List Point)
-    → AllZip (TellsNumbers basis) front points → AllZip (TellsReached basis froms tos d false) front points
-shown_numbers basis froms tos d [] [] h = tt
-shown_numbers basis froms tos d [] (point ∷ points) h = absurd h
-shown_numbers basis froms tos d (n ∷ front) [] h = absurd h
-shown_numbers basis froms tos d (n ∷ front) (point ∷ points) h = (
+pub shown_numbers : (basis : BasisData) (Js : Journeys) (d : ℕ) (front : List Numbers) (points : List Point)
+    → AllZip (TellsNumbers basis) front points → AllZip (TellsReached basis Js d false) front points
+shown_numbers basis Js d [] [] h = tt
+shown_numbers basis Js d [] (point ∷ points) h = absurd h
+shown_numbers basis Js d (n ∷ front) [] h = absurd h
+shown_numbers basis Js d (n ∷ front) (point ∷ points) h = (
   record {
     rides = h.0.rides;
     at = h.0.at;
     told = λ e. absurd (true≢false (sym e));
     untold = λ e. h.0.untold;
   },
-  shown_numbers basis froms tos d front points h.1,
+  shown_numbers basis Js d front points h.1,
 )
 
 -- what holds of all holds of one that is among them
@@ -77,6 +77,16 @@ journey_between table held froms tos d p h = record {
   rides = h.2.counted;
 }
 
+-- it is a journey of the trees
+pub held_between : (table : Table) (held : ℕ → Option Content) (froms tos : List ℕ) (d : ℕ) (p : PointData)
+    → IsAskedPoint table held froms tos d p → IsHeldBetween table held froms tos d p
+held_between table held froms tos d p h = record {
+  is = journey_between table held froms tos d p h;
+  tree = h.0;
+  holds = subst (λ s. held s ≡ Some h.0) (sym h.2.starts) h.1.1;
+  has = h.2.journey.1;
+}
+
 -- so is a journey between two single stops
 pub single_journey : (table : Table) (s t d : ℕ) (p : PointData) → IsJourney table s t d p → IsJourneyBetween table (s ∷ []) (t ∷ []) d p
 single_journey table s t d p h = record {
@@ -87,26 +97,26 @@ single_journey table s t d p h = record {
 }
 
 -- so its numbers are those of a journey
-pub are_reached : (table : Table) (froms tos : List ℕ) (d : ℕ) (journeys : List PointData)
-    → All (IsJourneyBetween table froms tos d) journeys → All (IsReached table froms tos d) (map numbers journeys)
-are_reached table froms tos d [] are = All-nil (IsReached table froms tos d)
-are_reached table froms tos d (p ∷ journeys) are =
-    All-cons (IsReached table froms tos d) (numbers p) (map numbers journeys) (p.from, p.to, p.legs, are 0 p (omega arith))
-    (are_reached table froms tos d journeys (All-tail (IsJourneyBetween table froms tos d) p journeys are))
+pub are_reached : (Js : Journeys) (journeys : List PointData) → All (λ p. Js (numbers p) p.from p.to p.legs) journeys
+    → All (IsReached Js) (map numbers journeys)
+are_reached Js [] are = All-nil (IsReached Js)
+are_reached Js (p ∷ journeys) are =
+    All-cons (IsReached Js) (numbers p) (map numbers journeys) (p.from, p.to, p.legs, are 0 p (omega arith))
+    (are_reached Js journeys (All-tail (λ (x : PointData). Js (numbers x) x.from x.to x.legs) p journeys are))
 
 -- journeys between the stops are told
-pub shown_journeys : (basis : BasisData) (froms tos : List ℕ) (d : ℕ) (wanted : Bool) (journeys : List PointData) (points : List Point)
-    → All (IsJourneyBetween basis.timetable froms tos d) journeys → AllZip (Tells basis d wanted) journeys points
-    → AllZip (TellsReached basis froms tos d wanted) (map numbers journeys) points
-shown_journeys basis froms tos d wanted [] [] are h = tt
-shown_journeys basis froms tos d wanted [] (point ∷ points) are h = absurd h
-shown_journeys basis froms tos d wanted (p ∷ journeys) [] are h = absurd h
-shown_journeys basis froms tos d wanted (p ∷ journeys) (point ∷ points) are h = (
+pub shown_journeys : (basis : BasisData) (Js : Journeys) (d : ℕ) (wanted : Bool) (journeys : List PointData) (points : List Point)
+    → All (λ p. Js (numbers p) p.from p.to p.legs) journeys → AllZip (Tells basis d wanted) journeys points
+    → AllZip (TellsReached basis Js d wanted) (map numbers journeys) points
+shown_journeys basis Js d wanted [] [] are h = tt
+shown_journeys basis Js d wanted [] (point ∷ points) are h = absurd h
+shown_journeys basis Js d wanted (p ∷ journeys) [] are h = absurd h
+shown_journeys basis Js d wanted (p ∷ journeys) (point ∷ points) are h = (
   record {
     rides = h.0.rides;
     at = h.0.at;
     told = λ e. record { from = p.from; to = p.to; legs = p.legs; is = are 0 p (omega arith); told = h.0.told e };
     untold = h.0.untold;
   },
-  shown_journeys basis froms tos d wanted journeys points (All-tail (IsJourneyBetween basis.timetable froms tos d) p journeys are) h.1,
+  shown_journeys basis Js d wanted journeys points (All-tail (λ (x : PointData). Js (numbers x) x.from x.to x.legs) p journeys are) h.1,
 )

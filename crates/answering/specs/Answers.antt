@@ -1,13 +1,14 @@
 -- What the program answers to a question, by the timetable and the covered days.
 -- RAPTOR (Delling, Pajor, Werneck, ALENEX 2012), section 2: the Pareto set of arrival time and number of trips.
-use Rattle.std.specs.Prelude.{◌≡◌, ℕ, ◌≤◌, Bool, true, false, List, [], length, Option, Some}
+use Rattle.std.specs.Prelude.{◌≡◌, ◌⊎◌, ℕ, ◌≤◌, Bool, true, false, List, [], length, Option, Some}
 use Rattle.std.specs.List.{All, AllZip, Contains}
 use Rattle.timetable.specs.declared.parts.Leg.{Leg}
 use Rattle.timetable.specs.declared.parts.Numbers.{Numbers}
-use Rattle.timetable.specs.Journeys.{Journey, Serves, arrives}
+use Rattle.timetable.specs.Journeys.{Journey, Serves, arrives, pattern}
 use Rattle.timetable.specs.Table.{Table}
 use Rattle.pattern_query.specs.Answer.{AreBest}
-use Rattle.planner.specs.Questions.{AreComplete, Held, IsStored, ReachesBetween}
+use Rattle.pattern_tree.specs.Content.{Content}
+use Rattle.planner.specs.Questions.{AreComplete, AskedReaches, Held, IsStored, ReachesBetween}
 use Rattle.answer_lines.specs.declared.answer.Answer.{Answer}
 use Rattle.answer_lines.specs.declared.answer.Answer.TheVariants as answers
 use Rattle.answer_lines.specs.declared.answer.Point.{Point}
@@ -37,43 +38,58 @@ pub record IsJourneyOf (table : Table) (froms tos : List ℕ) (d : ℕ) (n : Num
   pub journey : Journey table from d legs to n.arrival
   pub rides : length legs ≡ n.rides
 
--- some journey has these numbers, of however many rides
-abbrev pub IsReached : Table → List ℕ → List ℕ → ℕ → Numbers → Type 0
-IsReached table froms tos d n = (from : ℕ) × (to : ℕ) × (legs : List Leg) × IsJourneyOf table froms tos d n from to legs
+-- a set of journeys: of each its numbers, its first and its last stop, and its legs
+abbrev pub Journeys : Type 1
+Journeys = Numbers → ℕ → ℕ → List Leg → Type 0
 
--- the stages are the rides and walks of a journey from one of the first stops at d to one of the others, with these numbers
-pub record AreStagesOf (basis : BasisData) (froms tos : List ℕ) (d : ℕ) (n : Numbers) (stages : List Stage) : Type 0 where
+-- some journey of the set has these numbers
+abbrev pub IsReached : Journeys → Numbers → Type 0
+IsReached Js n = (from : ℕ) × (to : ℕ) × (legs : List Leg) × Js n from to legs
+
+-- the stages are the rides and walks of a journey of the set that leaves at d, with these numbers
+pub record AreStagesOf (basis : BasisData) (Js : Numbers → ℕ → ℕ → List Leg → Type 0) (d : ℕ) (n : Numbers) (stages : List Stage) : Type 0 where
   pub from : ℕ
   pub to : ℕ
   pub legs : List Leg
-  pub is : IsJourneyOf basis.timetable froms tos d n from to legs
+  pub is : Js n from to legs
   pub told : AllZip (TellsStage basis) (stages_of basis.timetable from d legs to) stages
 
--- a point has the rides and the arrival of these numbers, and the stages of such a journey where they are wanted
-pub record TellsReached (basis : BasisData) (froms tos : List ℕ) (d : ℕ) (wanted : Bool) (n : Numbers) (point : Point) : Type 0 where
+-- a point has the rides and the arrival of these numbers, and the stages of such a journey if they are wanted
+pub record TellsReached (basis : BasisData) (Js : Numbers → ℕ → ℕ → List Leg → Type 0) (d : ℕ) (wanted : Bool) (n : Numbers)
+    (point : Point) : Type 0 where
   pub rides : point.rides ≡ n.rides
   pub at : TellsMoment basis.cover n.arrival point.at
-  pub told : wanted ≡ true → AreStagesOf basis froms tos d n point.stages.items
+  pub told : wanted ≡ true → AreStagesOf basis Js d n point.stages.items
   pub untold : wanted ≡ false → point.stages.items ≡ []
 
 -- each point tells the numbers of this front at its index
-abbrev pub TellsFront : BasisData → List ℕ → List ℕ → ℕ → Bool → List Numbers → Answer → Type 0
-TellsFront basis froms tos d wanted front answers.NoRide = ⊥
-TellsFront basis froms tos d wanted front (answers.Arrive time) = ⊥
-TellsFront basis froms tos d wanted front (answers.Points points) = AllZip (TellsReached basis froms tos d wanted) front points.items
+abbrev pub TellsFront : BasisData → Journeys → ℕ → Bool → List Numbers → Answer → Type 0
+TellsFront basis Js d wanted front answers.NoRide = ⊥
+TellsFront basis Js d wanted front (answers.Arrive time) = ⊥
+TellsFront basis Js d wanted front (answers.Points points) = AllZip (TellsReached basis Js d wanted) front points.items
 
 -- the best numbers over journeys of at most k rides between these stops, by rising rides
 abbrev pub ArePoints : BasisData → ℕ → Bool → List ℕ → List ℕ → ℕ → Answer → Type 0
 ArePoints basis k wanted froms tos d answer =
-    (front : List Numbers) × AreBest (ReachesBetween basis.timetable k froms tos d) front × TellsFront basis froms tos d wanted front answer
+    (front : List Numbers) × AreBest (ReachesBetween basis.timetable k froms tos d) front
+    × TellsFront basis (IsJourneyOf basis.timetable froms tos d) d wanted front answer
 
--- The answer from the trees that are held: those of the first stops are among them, and each point is a journey with its numbers. Where
--- these trees are complete, the points are the best over all journeys of at most k rides.
+-- the legs are such a journey, and its pattern stands in the tree that is held of its first stop; or it is on foot
+pub record IsHeldJourney (table : Table) (held : Held) (froms tos : List ℕ) (d : ℕ) (n : Numbers) (from to : ℕ) (legs : List Leg) : Type 0 where
+  pub is : IsJourneyOf table froms tos d n from to legs
+  pub tree : Content
+  pub holds : held from ≡ Some tree
+  pub has : (legs ≡ []) ⊎ Contains tree.pairs (pattern table legs, to)
+
+-- The answer from the trees that are held: those of the first stops are among them, and each point is a journey of these trees with its
+-- numbers. The points are the best of all journeys of these trees; if the trees are complete, the best over all journeys of at most k
+-- rides.
 pub record AreTreePoints (basis : BasisData) (held : Held) (wanted : Bool) (froms tos : List ℕ) (d : ℕ) (answer : Answer) : Type 0 where
   pub stored : All (IsStored held) froms
   pub front : List Numbers
-  pub journeys : All (IsReached basis.timetable froms tos d) front
-  pub shown : TellsFront basis froms tos d wanted front answer
+  pub journeys : All (IsReached (IsHeldJourney basis.timetable held froms tos d)) front
+  pub best : AreBest (AskedReaches basis.timetable held froms tos d) front
+  pub shown : TellsFront basis (IsHeldJourney basis.timetable held froms tos d) d wanted front answer
   pub exact : (k : ℕ) → AreComplete basis.timetable held k froms → AreBest (ReachesBetween basis.timetable k froms tos d) front
 
 -- the question's ids stand for these stops, and its moment is this one, which is covered

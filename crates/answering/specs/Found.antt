@@ -4,14 +4,18 @@ use Rattle.std.specs.List.{All}
 use Rattle.timetable.specs.Table.{Table}
 use Rattle.pattern_query.specs.Answer.{PointData, AreBest, numbers}
 use Rattle.feed_ids.specs.Names.{stops_at}
-use Rattle.planner.specs.Questions.{AreComplete, Held, IsStored, ReachesBetween}
+use Rattle.planner.specs.Questions.{AreComplete, AskedReaches, Held, IsStored, ReachesBetween}
 use Rattle.question_lines.specs.declared.question.Question.{Question}
 use Rattle.feed_basis.specs.Basis.{BasisData}
-use Rattle.answering.specs.Answers.{IsJourneyOf}
+use Rattle.answering.specs.Answers.{IsHeldJourney, IsJourneyOf}
 
 -- the point is a journey from one of the first stops at d to one of the others, with its numbers
 abbrev pub IsJourneyBetween : Table → List ℕ → List ℕ → ℕ → PointData → Type 0
 IsJourneyBetween table froms tos d p = IsJourneyOf table froms tos d (numbers p) p.from p.to p.legs
+
+-- so it is, and it is a journey of the trees that are held
+abbrev pub IsHeldBetween : Table → Held → List ℕ → List ℕ → ℕ → PointData → Type 0
+IsHeldBetween table held froms tos d p = IsHeldJourney table held froms tos d (numbers p) p.from p.to p.legs
 
 -- journeys between the stops of the question's ids at d, from the trees of the first; the best of all where these trees are complete
 pub record AreFound (basis : BasisData) (held : Held) (question : Question) (d : ℕ) (points : List PointData) : Type 0 where
@@ -20,6 +24,7 @@ pub record AreFound (basis : BasisData) (held : Held) (question : Question) (d :
   pub leaves : stops_at basis.names question.from.now ≡ Some froms
   pub reaches : stops_at basis.names question.to.now ≡ Some tos
   pub stored : All (IsStored held) froms
-  pub each : All (IsJourneyBetween basis.timetable froms tos d) points
+  pub each : All (IsHeldBetween basis.timetable held froms tos d) points
+  pub best : AreBest (AskedReaches basis.timetable held froms tos d) (map numbers points)
   pub exact : (k : ℕ) → AreComplete basis.timetable held k froms
       → AreBest (ReachesBetween basis.timetable k froms tos d) (map numbers points)

@@ -8,7 +8,7 @@ ghost use Rattle.timetable.specs.Table.{stops_of};
 ghost use Rattle.section_store.specs.Lasting.{IsTrusted};
 ghost use Rattle.section_store.specs.Sections.{Form, IsFresh, form_of, sources};
 ghost use Rattle.recovery.specs.Recovery.{CauseOf, IsOutside, StandsForNoList};
-ghost use Rattle.store_excerpt.specs.Board.{IsBoardOf, AreRight, AreWholeAmong, IsRight, IsWholeAmong};
+ghost use Rattle.store_excerpt.specs.Board.{IsBoardOf, AreOf, AreRight, AreWholeAmong, IsRight, IsWholeAmong};
 ghost use Rattle.recovery.specs.Opening.{StandsForSources, IsOpening};
 ghost use Rattle.store_excerpt.specs.Excerpt.{ShowsWhole, disk_after};
 ghost use Rattle.planner_life.specs.Desk.{IsSound};
@@ -36,6 +36,7 @@ fn prepare(
     ensures tools { IfOk result (λ made. made.0 ≡ form_of (arc_value table.now) rides) }
     ensures long { IfOk result (λ made. length made.1 ≡ stops_of (arc_value table.now)) }
     ensures shows { IfOk result (λ made. IsBoardOf (stops_of (arc_value table.now)) (sources trees.items) made.1) }
+    ensures same { IfOk result (λ made. AreOf trees.items made.1) }
     ensures right { (form : Form) → All (IsRight form) trees.items → IfOk result (λ made. AreRight form made.1) }
     ensures whole { (form : Form) (froms : List ℕ) → All (IsWholeAmong form froms) trees.items
         → IfOk result (λ made. AreWholeAmong form froms made.1) }

@@ -14,6 +14,7 @@ use disk_model::Disk;
 use faults::Fault;
 use feed_basis::Basis;
 use precomputing::{Crew, Free, Outcome, Progress, Stop, precompute_telling};
+use recovery::laws::opening_goes_on;
 use section_store::going_laws::goes_on;
 use section_store::laws::loses_nothing_in_turn;
 use std::alloc::{AllocError, Global};

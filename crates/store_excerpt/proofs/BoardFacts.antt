@@ -7,7 +7,7 @@ use Rattle.std.proofs.lemmas.Bool.{cases_eq, false≢true}
 use Rattle.std.proofs.lemmas.Bool.Decides.{nat_tests}
 use Rattle.std.proofs.lemmas.List.{get_or-set_same, get_or-set_other}
 use Rattle.std.proofs.lemmas.List.Sorted.{Contains-permutation}
-use Rattle.std.proofs.lemmas.List.Elements.{All-cons, All-nil, Contains-append_cases, Contains-append_right, at_from_Contains}
+use Rattle.std.proofs.lemmas.List.Elements.{All-cons, All-nil, Contains-append_cases, Contains-append_left, Contains-append_right, Contains-push, at_from_Contains}
 use Rattle.timetable.specs.Journeys.{Reaches, Unbeaten}
 use Rattle.pattern_tree.specs.Completeness.{IsPathOf, IsTreeOf}
 use Rattle.pattern_tree.specs.Content.{Content, longest}
@@ -15,7 +15,7 @@ use Rattle.pattern_tree.proofs.OrderFacts.{longest_still, tree_still}
 use Rattle.section_store.specs.Lasting.{IsExact}
 use Rattle.section_store.specs.Sections.{Form, IsNew, Stands, AreTexts}
 use Rattle.section_store.specs.Sources.{is_among}
-use Rattle.store_excerpt.specs.Board.{shown, IsSlotOf, IsBoardOf, IsRight, AreRight, IsWhole, IsWholeAmong, AreWholeAmong}
+use Rattle.store_excerpt.specs.Board.{AreOf, IsOneOf, shown, IsSlotOf, IsBoardOf, IsRight, AreRight, IsWhole, IsWholeAmong, AreWholeAmong}
 
 pub in_one : (m s : ℕ) → Contains (m ∷ []) s → s ≡ m
 in_one m s (k, below, is) = let zero' : k ≡ 0 = omega (arith, below) in sym (subst (λ (i : ℕ). get_or (m ∷ []) i s ≡ s) zero' is)
@@ -149,6 +149,17 @@ each_more P board i tree are is = λ s other at. elim (cases_eq s i) [
 
 each_none : (P : Content → Type 0) (board : List (Option Content)) → ((s : ℕ) → shown board s ≡ None) → EachShown P board
 each_none P board bare = λ s tree at. absurd (none_some tree (sym (bare s) ∙ at))
+
+pub same_more : (trees : List Content) (board : List (Option Content)) (tree patterns : Content) → AreOf trees board → patterns.source ≡ tree.source
+    → IsPermutation tree.pairs patterns.pairs → AreOf (trees ++ tree ∷ []) (slice_set board patterns.source (Some patterns))
+same_more trees board tree patterns are source is =
+    each_more (IsOneOf (trees ++ tree ∷ [])) board patterns.source patterns
+    (λ s other at. let h = are s other at in
+    record { one = h.one; among = Contains-append_left trees (tree ∷ []) h.one h.among; source = h.source; pairs = h.pairs })
+    (record { one = tree; among = Contains-push trees tree; source = source; pairs = is })
+
+pub same_none : (board : List (Option Content)) → ((s : ℕ) → shown board s ≡ None) → AreOf [] board
+same_none board = each_none (IsOneOf []) board
 
 pub right_more : (form : Form) (board : List (Option Content)) (i : ℕ) (tree : Content) → AreRight form board → IsRight form tree → AreRight form (slice_set board i (Some tree))
 right_more form = each_more (IsRight form)

@@ -5,13 +5,13 @@ use Rattle.std.specs.List.{Contains, list_any}
 use Rattle.std.proofs.lemmas.Bool.{cases_eq, cases_lt}
 use Rattle.std.proofs.lemmas.Bool.Decides.{nat_tests}
 use Rattle.std.proofs.lemmas.List.{get_or_past}
-use Rattle.std.proofs.lemmas.List.Elements.{All-filter}
+use Rattle.std.proofs.lemmas.List.Elements.{All-contains, All-contains_itself, All-filter}
 use Rattle.std.proofs.lemmas.Map.Views.{any-filter_same}
 use Rattle.pattern_tree.specs.Content.{Content}
 use Rattle.section_store.specs.Sections.{Form, sources}
 use Rattle.section_store.specs.Sources.{is_among}
 use Rattle.recovery.specs.Excerpts.{trees_of}
-use Rattle.store_excerpt.specs.Board.{AreOwn, IsBoardOf, IsSlotOf, IsWholeAmong, ShowsAmong, shown}
+use Rattle.store_excerpt.specs.Board.{AreOf, AreOwn, IsBoardOf, IsSlotOf, IsWholeAmong, ShowsAmong, shown}
 use Rattle.store_excerpt.proofs.BoardFacts.{among_is, none_some, slot_held, slot_missing}
 
 -- the sources of trees, looked at one by one
@@ -47,6 +47,13 @@ shows_among stops froms trees board is = record {
 pub kept_whole : (form : Form) (among froms : List ℕ) (trees : List Content) → All (IsWholeAmong form among) trees
     → All (IsWholeAmong form among) (trees_of froms trees)
 kept_whole form among froms trees all = All-filter (λ (t : Content). is_among t.source froms) (IsWholeAmong form among) trees all
+
+-- those that are kept are among all
+pub kept_of : (froms : List ℕ) (trees : List Content) (board : List (Option Content)) → AreOf (trees_of froms trees) board → AreOf trees board
+kept_of froms trees board are s tree at =
+    let h = are s tree at in
+    let kept = All-filter (λ (t : Content). is_among t.source froms) (Contains trees) trees (All-contains_itself trees) in
+    record { one = h.one; among = All-contains (Contains trees) (trees_of froms trees) h.one kept h.among; source = h.source; pairs = h.pairs }
 
 -- a board of trees has each in its own slot
 pub board_own : (stops : ℕ) (list : List ℕ) (board : List (Option Content)) → length board ≡ stops → IsBoardOf stops list board → AreOwn board

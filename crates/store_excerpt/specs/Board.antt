@@ -1,6 +1,7 @@
 -- The trees that an open store shows.
 use Rattle.std.specs.Prelude.{◌≡◌, ◌<◌, ◌≤◌, ◌↔◌, ℕ, Option, Some, None, List, slice_index_or, is_some}
 use Rattle.std.specs.List.{Contains}
+use Rattle.std.specs.List.Sorted.{IsPermutation}
 use Rattle.pattern_tree.specs.Content.{Content, longest}
 use Rattle.pattern_tree.specs.Completeness.{Complete, IsTreeOf}
 use Rattle.planner.specs.Questions.{IsStored}
@@ -28,6 +29,17 @@ AreOwn board = (s : ℕ) (tree : Content) → shown board s ≡ Some tree → tr
 pub record ShowsAmong (stops : ℕ) (froms list : List ℕ) (board : List (Option Content)) : Type 0 where
   pub held : (s : ℕ) → s < stops → Contains froms s → IsStored (shown board) s ↔ Contains list s
   pub missing : (s : ℕ) → s < stops → Contains froms s → (shown board s ≡ None) ↔ IsNew s list
+
+-- the tree is one of these, with its pairs in any order
+pub record IsOneOf (trees : List Content) (tree : Content) : Type 0 where
+  pub one : Content
+  pub among : Contains trees one
+  pub source : tree.source ≡ one.source
+  pub pairs : IsPermutation one.pairs tree.pairs
+
+-- so is each tree there
+abbrev pub AreOf : List Content → List (Option Content) → Type 0
+AreOf trees board = (s : ℕ) (tree : Content) → shown board s ≡ Some tree → IsOneOf trees tree
 
 -- the tree has the patterns of all best journeys from its source, and no others
 abbrev pub IsRight : Form → Content → Type 0

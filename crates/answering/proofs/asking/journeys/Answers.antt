@@ -4,8 +4,8 @@ use Rattle.feed_ids.specs.NameLists.{NameLists}
 use Rattle.timetable.specs.Table.{Table}
 use Rattle.pattern_tree.specs.Content.{Content}
 use Rattle.planner.specs.Questions as planner
-use Rattle.answering.specs.Found.{IsJourneyBetween}
-use Rattle.answering.proofs.AnswerFacts.{journey_between}
+use Rattle.answering.specs.Found.{IsHeldBetween}
+use Rattle.answering.proofs.AnswerFacts.{held_between}
 use Rattle.answering.proofs.RefusalFacts.{refused}
 use Rattle.answering.proofs.asking.journeys.Goals as goal
 
@@ -24,8 +24,9 @@ returns-in-Ok-clause-found g c =
       leaves = found.leaves;
       reaches = found.arrives;
       stored = found.stored;
-      each = All-weaker (planner.IsAskedPoint table held found.froms found.tos depart) (IsJourneyBetween table found.froms found.tos depart)
-          (journey_between table held found.froms found.tos depart) c.in-Ok.journeys found.points_are;
+      each = All-weaker (planner.IsAskedPoint table held found.froms found.tos depart) (IsHeldBetween table held found.froms found.tos depart)
+          (held_between table held found.froms found.tos depart) c.in-Ok.journeys found.points_are;
+      best = found.best;
       exact = found.exact;
     }
 

@@ -56,6 +56,7 @@ returns-in-Ok-prepare-clause-whole g c = λ honest.
       trees = trees;
       stands = stands;
       are = c.in-Ok.ensures.stored;
+      same = c.in-Ok-prepare.ensures.same;
       whole = c.in-Ok-prepare.ensures.whole form;
       trusted = λ trusted. whole_all form s.read trees stands (c.in-Ok.ensures.exact honest trusted);
     } in

@@ -4,8 +4,8 @@ use Rattle.std.proofs.lemmas.List.{length-set, map-append}
 use Rattle.std.proofs.lemmas.List.Elements.{All-pop}
 use Rattle.pattern_tree.specs.Content.{Content}
 use Rattle.section_store.specs.Sections.{sources}
-use Rattle.store_excerpt.specs.Board.{IsBoardOf, IsRight, AreRight, IsWholeAmong, AreWholeAmong}
-use Rattle.store_excerpt.proofs.BoardFacts.{board_none, board_more, right_none, right_more, right_still, whole_none, whole_more, whole_still}
+use Rattle.store_excerpt.specs.Board.{AreOf, IsBoardOf, IsRight, AreRight, IsWholeAmong, AreWholeAmong}
+use Rattle.store_excerpt.proofs.BoardFacts.{board_none, board_more, same_more, same_none, right_none, right_more, right_still, whole_none, whole_more, whole_still}
 use Rattle.store_excerpt.proofs.board.Board.of.Goals as goal
 
 nothing_left : {X : Type 0} (l : List X) → length l ≡ 0 → l ≡ []
@@ -18,6 +18,7 @@ loop-tree-init c = record {
   count = search rules;
   long = c.in_ok-board.ensures.long;
   shows = board_none c.args.stops c.in_ok-board.board c.in_ok-board.ensures.bare;
+  same = same_none c.in_ok-board.board c.in_ok-board.ensures.bare;
   right = λ form all. right_none form c.in_ok-board.board c.in_ok-board.ensures.bare;
   whole = λ form froms all. whole_none form froms c.in_ok-board.board c.in_ok-board.ensures.bare;
 }
@@ -39,6 +40,8 @@ loop-tree-preserved c =
       long = ap (λ (b : List (Option Content)). length b) set ∙ length-set at.board patterns.source (Some patterns) ∙ at.invariant.long;
       shows = subst (λ (l : List ℕ). IsBoardOf c.args.stops l c.show.new.self) (sym more)
           (subst (λ (b : List (Option Content)). IsBoardOf c.args.stops (sources at.yielded ++ patterns.source ∷ []) b) (sym set) shown);
+      same = subst (AreOf (at.yielded ++ tree ∷ [])) (sym set)
+          (same_more at.yielded at.board tree patterns at.invariant.same source c.in_ok-of.ensures.pairs);
       right = λ form all.
           let both = All-pop (IsRight form) (at.yielded ++ tree ∷ []) at.yielded (Some tree) refl all in
           subst (AreRight form) (sym set)
@@ -73,3 +76,11 @@ returns-clause-whole c = λ form froms whole.
     let empty : into_iter_items at.tree-iterator ≡ [] = nothing_left _ (sym at.invariant.count ∙ none.0) in
     let all = sym (append-nil at.yielded) ∙ rw empty at at.invariant.rest ∙ c.into_iter-tree-iterator.ensures.into_iter_gives.0 in
     at.invariant.whole form froms (subst (All (IsWholeAmong form froms)) (sym all) whole)
+
+pub returns-clause-same : goal.returns-clause-same
+returns-clause-same c =
+    let at = c.loop-tree in
+    let none = c.in-None.ensures.steps in
+    let empty : into_iter_items at.tree-iterator ≡ [] = nothing_left _ (sym at.invariant.count ∙ none.0) in
+    let all = sym (append-nil at.yielded) ∙ rw empty at at.invariant.rest ∙ c.into_iter-tree-iterator.ensures.into_iter_gives.0 in
+    subst (λ (l : List Content). AreOf l at.board) all at.invariant.same

@@ -3,11 +3,11 @@ use Rattle.std.specs.Arc.{arc_value}
 use Rattle.timetable.specs.Table.{stops_of}
 use Rattle.pattern_tree.specs.Content.{Content}
 use Rattle.section_store.specs.Sections.{Form, form_of, sources}
-use Rattle.store_excerpt.specs.Board.{IsBoardOf, IsWholeAmong, ShowsAmong}
+use Rattle.store_excerpt.specs.Board.{AreOf, IsBoardOf, IsWholeAmong, ShowsAmong}
 use Rattle.recovery.specs.Opening.{IsOpening}
 use Rattle.store_excerpt.specs.Excerpt.{ShowsWhole}
 use Rattle.store_excerpt.proofs.BoardFacts.{whole_all}
-use Rattle.store_excerpt.proofs.ExcerptFacts.{board_own, kept_whole, shows_among}
+use Rattle.store_excerpt.proofs.ExcerptFacts.{board_own, kept_of, kept_whole, shows_among}
 use Rattle.store_excerpt.proofs.excerpt.Excerpt.open.Goals as goal
 
 pub returns-in-Err-clause-moments : goal.returns-in-Err-clause-moments
@@ -48,6 +48,8 @@ returns-in-Ok-of-clause-whole g c = λ honest.
       trees = excerpt.trees;
       stands = excerpt.stands;
       are = excerpt.holds.stored_are;
+      same = kept_of c.args.froms.now excerpt.trees board
+          (subst (λ (l : List Content). AreOf l board) excerpt.kept_are c.in-Ok-of.ensures.same);
       whole = λ among all. c.in-Ok-of.ensures.whole form among
           (subst (All (IsWholeAmong form among)) (sym excerpt.kept_are) (kept_whole form among c.args.froms.now excerpt.trees all));
       trusted = λ trusted. whole_all form s.read excerpt.trees excerpt.stands (excerpt.exact trusted);
