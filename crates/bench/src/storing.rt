@@ -5,7 +5,7 @@ ghost use Rattle.std.specs.Arc.{arc_value};
 ghost use Rattle.rounds.specs.Scratch.{IsMadeFor, rides_of};
 
 use crate::clock::{now, tell};
-use disk_model::{Disk, DiskFault, FileDisk, FileFault};
+use disk_model::{Disk, DiskFault, FileDisk, FileFault, write_and_sync};
 use faults::Fault;
 use pattern_building::finish;
 use pattern_tree::{Arena, Finished};

@@ -1,6 +1,10 @@
+pub mod World
+pub mod Errands
 pub mod Feeds
 pub mod Files
-pub mod Prints
-pub mod Tellings
+pub mod Rules
+pub mod Found
+pub mod Stored
+pub mod Served
 pub mod Runs
 pub mod Programs

@@ -1,66 +1,78 @@
 -- What the program leaves, from its words on.
-use Rattle.std.specs.Prelude.{◌≡◌, ◌⊎◌, ℕ, Bool, List, [], Option, None, Result, Ok, Err}
-use Rattle.std.specs.Io.KnownBytes.{Keeps}
+use Rattle.std.specs.Prelude.{◌≡◌, ◌⊎◌, ℕ, List, [], Option, None, Result, Err}
+use Rattle.std.specs.Option.{option_map, unwrap_or}
 use Rattle.clap.specs.Words.{Text, fault_of, subcommand_of}
 use Rattle.gtfs_tables.specs.Feed.{Feed}
 use Rattle.command_line.specs.CommandLine.{program_app}
 use Rattle.command_line.specs.Jobs.{IsJob}
-use Rattle.command_line.specs.Folders.{feed_of}
 use Rattle.command_line.specs.Misreads.{IsUnread}
+use Rattle.command_line.specs.declared.format.Style.TheVariants as styles
 use Rattle.command_line.specs.declared.job.Job.{Job}
 use Rattle.command_line.specs.declared.job.Job.TheVariants as jobs
+use Rattle.command_line.specs.declared.format.Style.{Style}
 use Rattle.command_line.specs.declared.unread.Unread.{Unread}
 use Rattle.command_line.specs.declared.unread.Unread.TheVariants as unread
-use Rattle.feed_report.specs.Reports.{Names}
-use Rattle.options.specs.Statuses.{IsShown}
+use Rattle.printing.specs.Finished.{IsFaulted, IsFinished, IsShown, StreamsData}
+use Rattle.printing.specs.declared.fault.Voice.{Voice}
+use Rattle.printing.specs.declared.told.Told.{Told}
+use Rattle.faults.specs.declared.fault.Fault.{Fault}
 use Rattle.faults.specs.declared.fault.Fault.TheVariants.{BadDate, BadTime, Memory}
-use Rattle.commands.specs.Files.{Opening}
-use Rattle.commands.specs.Runs.{IsCheckRun, IsRun, Run, Tells}
-use Rattle.commands.specs.Tellings.{IsStopsText, Telling}
+use Rattle.tellers.specs.Tellings.{Telling}
+use Rattle.commands.specs.Rules.{AreStops, IsChecked}
+use Rattle.commands.specs.Runs.{IsPlanRun, voice_of}
+use Rattle.commands.specs.World.{SystemView}
+use denote.Ref.{Bor}
 
--- what comes of words that give no job: what is to be shown is shown, and only help on standard output; or the fault of a day or of a time
--- is reported
-abbrev pub IsRefused : Unread → Run → Type 0
-IsRefused (unread.Shown status) run = IsShown status run.status × (¬ (status ≡ 0) → Keeps run.before run.after)
-IsRefused (unread.BadDate style) run = Tells (λ f. f ≡ BadDate) run
-IsRefused (unread.BadTime style) run = Tells (λ f. f ≡ BadTime) run
+-- this fault of the words is said in that style
+pub record IsWordFault (t : Telling) (style : Style) (fault : Fault) (old new : StreamsData) (status : ℕ) : Type 0 where
+  pub voice : Voice
+  pub in_style : voice.style ≡ style
+  pub faulted : IsFaulted t voice fault old new status
+
+-- What comes of words that give no job: a text is shown, help on standard output, a fault of the words on standard error; or the fault of
+-- a day or of a time is said.
+abbrev pub IsRefused : Telling → Unread → StreamsData → StreamsData → ℕ → Type 0
+IsRefused t (unread.Shown meant) old new status = (text : List ℕ) × IsShown text meant old new status
+IsRefused t (unread.BadDate style) old new status = IsWordFault t style BadDate old new status
+IsRefused t (unread.BadTime style) old new status = IsWordFault t style BadTime old new status
 
 -- the words give no job for this cause: help was asked for, or there is a fault of words, or memory ran out
-pub record IsNoJob (words : List Text) (run : Run) : Type 0 where
+pub record IsNoJob (t : Telling) (words : List Text) (old new : StreamsData) (status : ℕ) : Type 0 where
   pub why : Unread
   pub is : IsUnread (fault_of program_app words) (subcommand_of program_app words) why
-  pub refused : IsRefused why run
+  pub refused : IsRefused t why old new status
 
 -- the words give this job, with its days and its time, and nothing in them is at fault
 pub record NameJob (words : List Text) (job : Job) : Type 0 where
   pub faultless : fault_of program_app words ≡ []
   pub is : IsJob (subcommand_of program_app words) job
 
--- What a job over a feed's files leaves: `lists` says which names a folder was said to have, `keyed` whether there are hash keys to look ids
--- up with.
-abbrev pub IsDone : {D N : Type 0} → Opening D → Telling → Option (List ℕ) → (List ℕ → Result Names N → Type 0) → Bool → Feed → Job → Run → Option D → Type 0
-IsDone o t input lists keyed feed (jobs.Check folder) run disk = IsCheckRun (lists folder.now) keyed feed run × (disk ≡ None)
-IsDone o t input lists keyed feed (jobs.Stops folder text all) run disk = ⊥
-IsDone o t input lists keyed feed (jobs.Plan plan) run disk = IsRun o t input keyed feed plan run disk
+-- this is told, or its fault, and no store was opened
+pub record IsPlainRun {D : Type 0} (v : SystemView D) (voice : Voice) (told : Result Told Fault) (old new : StreamsData) (status : ℕ)
+    (disk : Option D) : Type 0 where
+  pub finished : IsFinished v.telling voice told old new status
+  pub none : disk ≡ None
 
--- The job is done over the files that opening the feed's folder gave, whatever feed they are; or memory ran out as they were opened.
-abbrev pub IsJobRun : {F E : Type 0} → (List ℕ → Result F E → Type 0) → (F → Feed → Type 0) → (Feed → Type 0) → Type 0 → List ℕ → Type 0
-IsJobRun {F} {E} opens reads Done Unopened folder =
-    ((files : F) × opens folder (Ok files) × ((feed : Feed) → reads files feed → Done feed))
-    ⊎ ((error : E) × opens folder (Err error) × Unopened)
+-- as lines, over the feed in that folder
+abbrev pub lines_over : Bor (List ℕ) → Voice
+lines_over feed = record { style = styles.Lines; feed = feed }
 
--- The list of stops is as the telling finds them: the files that answers are read from aren't opened for it.
-abbrev pub IsStopsRun : Telling → Job → Run → Type 0
-IsStopsRun t (jobs.Check folder) run = ⊥
-IsStopsRun t (jobs.Stops folder text all) run = IsStopsText (t.finds folder.now) text all run.before run.after run.status
-IsStopsRun t (jobs.Plan plan) run = ⊥
+-- What a job leaves, whatever feed its folder holds. Memory may run out as the files of the feed are opened.
+abbrev pub IsJobRun : {D : Type 0} → SystemView D → Option (List ℕ) → Job → StreamsData → StreamsData → ℕ → Option D → Type 0
+IsJobRun v input (jobs.Check folder) old new status disk =
+    (told : Result Told Fault) × IsPlainRun v (lines_over folder) told old new status disk
+    × ((told ≡ Err Memory)
+    ⊎ ((feed : Feed) → v.world.holds folder.now feed → IsChecked (v.world.lists folder.now) v.world.keyed feed told))
+IsJobRun v input (jobs.Stops folder text all) old new status disk =
+    (told : Result Told Fault) × IsPlainRun v (lines_over folder) told old new status disk
+    × AreStops v.telling folder.now (unwrap_or (option_map (λ t. t.now) text) []) all told
+IsJobRun v input (jobs.Plan plan) old new status disk =
+    IsPlainRun v (voice_of plan) (Err Memory) old new status disk
+    ⊎ ((feed : Feed) → v.world.holds plan.settings.feed.now feed → IsPlanRun v input feed plan old new status disk)
 
--- These words, over the bytes of standard input where they are known, the feed that their folder opens to, the names that this folder was
--- said to have, and the disk that their store's file opens to, leave these lines, this status and this disk.
-abbrev pub IsProgramRun : {D F E N : Type 0} → Opening D → Telling → Option (List ℕ) → (List ℕ → Result F E → Type 0) → (F → Feed → Type 0)
-    → (List ℕ → Result Names N → Type 0) → Bool → List Text → Run → Option D → Type 0
-IsProgramRun o t input opens reads lists keyed words run disk =
-    (IsNoJob words run × (disk ≡ None))
-    ⊎ ((job : Job) × NameJob words job
-    × ((IsStopsRun t job run × (disk ≡ None))
-    ⊎ IsJobRun opens reads (λ feed. IsDone o t input lists keyed feed job run disk) (Tells (λ f. f ≡ Memory) run × (disk ≡ None)) (feed_of job)))
+-- These words, over the bytes of standard input, if they are known, and over what the system has, leave this on both streams, this status
+-- and this disk.
+abbrev pub IsProgramRun : {D : Type 0} → SystemView D → Option (List ℕ) → List Text → StreamsData → StreamsData → ℕ → Option D → Type 0
+IsProgramRun v input words old new status disk =
+    (IsNoJob v.telling words old new status × (disk ≡ None))
+    ⊎ ((job : Job) × NameJob words job × IsJobRun v input job old new status disk)

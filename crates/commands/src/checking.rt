@@ -1,65 +1,51 @@
 //! What a feed has.
 
-ghost use Rattle.std.specs.Prelude.{◌≡◌, true, Ok, IfOk, IfErr, OnOk, is_some};
-ghost use Rattle.std.specs.Fn.{FnOnceReturnsAt};
+ghost use Rattle.std.specs.Prelude.{[], option_map, unwrap_or};
 ghost use Rattle.gtfs_tables.specs.Feed.{Feed, AreReaders};
-ghost use Rattle.feed_report.specs.Counts.{AreCounts, IsCheckFault};
-ghost use Rattle.commands.specs.Runs.{IsCheckRun, run_of};
+ghost use Rattle.commands.specs.Rules.{AreStops, IsChecked};
+ghost use Rattle.tellers.specs.Tellings.{telling_of};
 
-use crate::printing::print_feed;
+use crate::system::System;
 use faults::Fault;
 use feed_report::{FeedReport, counts_of};
 use gtfs_tables::Files;
+use printing::Told;
 use std::alloc::Global;
-use std::hash::RandomState;
-use std::io;
-use std::io::{Read, Write};
+use tellers::Teller;
 
-// What the feed has, with the names in its folder, which are looked for only where it is without fault.
-fn report_of<R: Read + Drop, L: FnOnce(&str) -> io::Result<Option<Vec<String>>>>(
+/// What the feed has, and what else is among the names in its folder, which are looked for only if it is without fault.
+pub fn check<S: System>(
     alloc: Global,
-    hash_keys: Option<RandomState>,
+    system: &S,
     folder: &str,
-    files: Files<R>,
-    list_folder: L,
-) -> Result<FeedReport, Fault<'static>>
-    requires { L.IsAlwaysCallable list_folder }
-    ensures counts { (feed : Feed) → AreReaders R.remaining files feed → IfOk result (λ report. AreCounts feed report.counts) }
-    ensures keyed { OnOk result (is_some hash_keys ≡ true) }
-    ensures names { IfOk result (λ report. FnOnceReturnsAt L.FnOnce list_folder folder.now (Ok report.names)) }
-    ensures fault { (feed : Feed) → AreReaders R.remaining files feed → IfErr result (IsCheckFault (is_some hash_keys) feed) }
+    files: Files<S::Reader>,
+) -> Result<Told<'static>, Fault<'static>>
+    ensures { (feed : Feed) → AreReaders S.Reader.remaining files feed
+        → IsChecked ((S.world system.now).lists folder.now) (S.world system.now).keyed feed result }
 {
-    let counts = match counts_of(alloc, hash_keys, files) {
+    let counts = match counts_of(alloc, system.hash_keys(), files) {
         Ok(counts) => counts,
         Err(fault) => return Err(fault),
     };
-    match list_folder(folder) {
-        Ok(names) => Ok(FeedReport { counts, names }),
+    match system.list_folder(folder) {
+        Ok(names) => Ok(Told::Feed(FeedReport { counts, names })),
         Err(_) => Err(Fault::Memory),
     }
 }
 
-/// Prints what the feed has, and what else is among the names in its folder, which `list_folder` gives; it fails only where memory runs
-/// out. Gives the status.
-pub fn run_check<
-    R: Read + Drop,
-    L: FnOnce(&str) -> io::Result<Option<Vec<String>>>,
-    W: Write,
-    E: Write,
->(
+/// The stops and stations in a folder whose id or name contains a text, the first of them or all; all are meant if there is no text.
+pub fn stops<T: Teller>(
     alloc: Global,
-    hash_keys: Option<RandomState>,
+    teller: &T,
     folder: &str,
-    files: Files<R>,
-    list_folder: L,
-    out: &mut W,
-    err: &mut E,
-) -> u8
-    requires { L.IsAlwaysCallable list_folder }
-    ensures run { (feed : Feed) → AreReaders R.remaining files feed
-        → IsCheckRun (FnOnceReturnsAt L.FnOnce list_folder folder.now) (is_some hash_keys) feed
-        (run_of (W.contents out.old) (W.contents out.new) result) }
+    text: Option<&str>,
+    all: bool,
+) -> Result<Told<'static>, Fault<'static>>
+    ensures { AreStops (telling_of T.tells T.reports T.finds T.replies T.faults T.nears) folder.now
+        (unwrap_or (option_map (λ t. t.now) text.entry) []) all result }
 {
-    let report = report_of(alloc, hash_keys, folder, files, list_folder);
-    print_feed(alloc, report, out, err)
+    match teller.stops(alloc, folder, text.unwrap_or(""), all) {
+        Ok(lines) => Ok(Told::Text(lines)),
+        Err(fault) => Err(fault),
+    }
 }

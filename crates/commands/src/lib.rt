@@ -1,17 +1,19 @@
-//! The commands of the journey planner's program: the lines and the status that answer what it is asked to do, over a feed and the disk of
-//! a store.
+//! The program: from its words and its system to what stands on both of its streams, its status, and the disk of its store.
 #![tactic(auto)]
 
 mod checking;
+mod errand;
+mod finding;
+mod found;
 mod opening;
-mod printing;
 mod program;
 mod replies;
+mod replying;
 mod running;
 mod served;
 mod storing;
-mod telling;
+mod system;
 
 pub use program::run_words;
-pub use running::run;
-pub use telling::{Asked, Teller};
+pub use running::Ended;
+pub use system::System;

@@ -1,10 +1,12 @@
 //! Opens the file of a store.
 
 ghost use Rattle.std.specs.Prelude.{◌≡◌, IfOk, IfErr};
-ghost use Rattle.std.specs.Fn.{FnOnceReturnsAt};
-ghost use Rattle.commands.specs.Files.{IsKeptOut, IsReady, of_file, opening_of};
+ghost use Rattle.commands.specs.Files.{IsKeptOut, IsNoticed, IsReady, of_file};
+ghost use Rattle.commands.specs.World.{view_of};
 ghost use Rattle.store_answers.specs.Stores.{form_over};
+ghost use Rattle.tellers.specs.Tellings.{telling_of};
 
+use crate::system::System;
 use disk_model::{Disk, FileFault};
 use faults::Fault;
 use feed_basis::Basis;
@@ -12,6 +14,7 @@ use recovery::{FileKind, RecoverFault, file_kind};
 use shown_ids::Shown;
 use std::alloc::Global;
 use std::io::Write;
+use streams::Stream;
 use timetable::Rides;
 
 // Why a file isn't opened, as the program prints it.
@@ -33,20 +36,22 @@ pub struct Ready<D: Disk> {
 
 /// Opens the file of that path as a disk, and looks at it. It gives the disk if a store of the basis's timetable, and of journeys of at
 /// most `rides` rides, may be opened there. Any other file is left as it is. The disk comes back with each fault, if there is one.
-pub fn open_ready<D: Disk, S: FnOnce(&str) -> Result<D, FileFault>>(
+pub fn open_ready<S: System>(
     alloc: Global,
+    system: &S,
     basis: &Basis,
     rides: Rides,
     path: &str,
-    open_store: S,
-) -> Result<Ready<D>, (Fault<'static>, Option<D>)>
-    requires { S.IsAlwaysCallable open_store }
-    ensures ready { IfOk result (λ ready. IsReady (opening_of (FnOnceReturnsAt S.FnOnce open_store) D.honest D.state D.failures)
-        (form_over basis.now rides) path.now ready.disk) }
-    ensures kept_out { IfErr result (λ e. IsKeptOut (opening_of (FnOnceReturnsAt S.FnOnce open_store) D.honest D.state D.failures)
+    only_reads: bool,
+) -> Result<Ready<S::Store>, (Fault<'static>, Option<S::Store>)>
+    ensures ready { IfOk result (λ ready. IsReady (view_of (S.world system.now) S.Store.honest S.Store.state S.Store.failures
+        (telling_of S.Teller.tells S.Teller.reports S.Teller.finds S.Teller.replies S.Teller.faults S.Teller.nears))
+        (form_over basis.now rides) path.now ready.disk ready.is_new) }
+    ensures kept_out { IfErr result (λ e. IsKeptOut (view_of (S.world system.now) S.Store.honest S.Store.state S.Store.failures
+        (telling_of S.Teller.tells S.Teller.reports S.Teller.finds S.Teller.replies S.Teller.faults S.Teller.nears))
         (form_over basis.now rides) path.now e.0 e.1) }
 {
-    let mut disk = match open_store(path) {
+    let mut disk = match system.open_store(path, only_reads) {
         Ok(disk) => disk,
         Err(fault) => return Err((file_fault(fault), None)),
     };
@@ -62,10 +67,11 @@ pub fn open_ready<D: Disk, S: FnOnce(&str) -> Result<D, FileFault>>(
     }
 }
 
-/// Prints on `err` that a store is begun in the file of that path, if it holds none yet.
-pub fn tell_new<E: Write>(path: &str, is_new: bool, err: &mut E) {
+/// Says on standard error that a store is begun in the file of that path, if it holds none yet.
+pub fn say_new<E: Write + Drop>(path: &str, is_new: bool, err: &mut Stream<E>)
+    ensures { IsNoticed path.now is_new err.old err.new }
+{
     if is_new {
-        let path = Shown(path);
-        let _ = writeln!(err, "tp: a new store is begun in {path}");
+        err.say(format_args!("tp: a new store is begun in {}\n", Shown(path)));
     }
 }

@@ -1,79 +1,90 @@
-//! What is told once the questions of an input are replied to.
+//! What standard error says once the questions of an input are replied to.
 
-ghost use Rattle.std.specs.Prelude.{◌≡◌, MatchResult};
-ghost use Rattle.std.specs.List.{Contains};
-ghost use Rattle.faults.specs.Faults.{status_of};
-ghost use Rattle.commands.specs.Prints.{built_status, served_status, statuses};
+ghost use Rattle.std.specs.Prelude.{◌≡◌, ℕ, List};
+ghost use Rattle.commands.specs.Served.{IsBuiltText, IsServingSaid, built_status, end_text, status_after};
+ghost use Rattle.streams.specs.Streams.{IsSaid};
+ghost use Rattle.tellers.specs.Tellings.{telling_of};
 
-use crate::telling::{Teller, tell_plan_fault};
 use answer_lines::Report;
-use command_line::Plan;
 use faults::Fault;
-use options::{out_of_memory, unwritten};
+use printing::{NO_MEMORY, UNWRITTEN, Voice, tell_fault};
 use serving::End;
 use std::alloc::Global;
 use std::io::Write;
 use store_answers::Served;
+use streams::Stream;
+use tellers::Teller;
 
-// Tells on `err` how many trees the file has, or why the build came to an early end. Gives the status of that.
-fn tell_built<T: Teller, E: Write>(
+const UNREAD: &str = "tp: standard input can't be read\n";
+
+// Says how many trees the file has, or why the build came to an early end. Gives the status of that.
+fn tell_built<T: Teller, E: Write + Drop>(
     alloc: Global,
     teller: &T,
-    plan: &Plan<'_>,
+    voice: &Voice<'_>,
     built: &Result<Report<'_>, Fault<'_>>,
-    err: &mut E,
+    err: &mut Stream<E>,
 ) -> u8
     ensures status { result ≡ built_status built.now }
-    ensures statuses { Contains statuses result }
+    ensures said { (text : List ℕ) × IsBuiltText (telling_of T.tells T.reports T.finds T.replies T.faults T.nears) voice.now built.now text
+        × IsSaid text err.old err.new }
 {
     match built {
         Ok(report) => {
-            if let Report::Built { stored, of, .. } = report {
-                let _ = writeln!(err, "stored {stored} of {of}");
+            match report {
+                Report::Built { stored, of, .. } => {
+                    err.say(format_args!("stored {stored} of {of}\n"))
+                }
+                Report::Stored(_) => err.say(""),
             }
             report.status()
         }
-        Err(fault) => tell_plan_fault(alloc, teller, plan, fault, err),
+        Err(fault) => tell_fault(alloc, teller, voice, fault, err),
     }
 }
 
-// Tells on `err` how replies and the build beside them ended. Gives the status.
-fn tell_served<T: Teller, E: Write>(
-    alloc: Global,
-    teller: &T,
-    plan: &Plan<'_>,
-    served: &Served<'_>,
-    err: &mut E,
-) -> u8
-    ensures status { result ≡ served_status served.now }
-    ensures statuses { Contains statuses result }
+// What is said of how the replies ended. An output that refused no write is no end of them.
+fn end_text(end: End, refused: bool) -> &'static str
+    ensures { result.now ≡ end_text end refused }
 {
-    let built = tell_built(alloc, teller, plan, &served.built, err);
-    match served.end {
-        End::AllRead => built,
-        End::Unread => {
-            let _ = writeln!(err, "tp: standard input can't be read");
-            built
-        }
-        End::OutputRefused => unwritten("tp", err),
-        End::NoMemory => out_of_memory("tp", err),
+    match end {
+        End::AllRead => "",
+        End::Unread => UNREAD,
+        End::OutputRefused => { if refused { UNWRITTEN } else { "" } }
+        End::NoMemory => NO_MEMORY,
     }
 }
 
-/// Tells on `err` how replies and the build beside them ended, or why the store wasn't opened; a fault as the plan's style has it. Gives
-/// the status.
-pub fn tell_serving<T: Teller, E: Write>(
+// The status that says how the replies ended, beside a build of this status.
+fn status_after(end: End, refused: bool, built: u8) -> u8
+    ensures { result ≡ status_after end refused built }
+{
+    match end {
+        End::AllRead | End::Unread => built,
+        End::OutputRefused => { if refused { 8 } else { built } }
+        End::NoMemory => 7,
+    }
+}
+
+/// Says on standard error how replies and the build beside them ended, or why the store wasn't opened; a fault as the voice has it. The
+/// flag says whether standard output refused a write. Gives the status.
+pub fn tell_serving<T: Teller, E: Write + Drop>(
     alloc: Global,
     teller: &T,
-    plan: &Plan<'_>,
+    voice: &Voice<'_>,
     served: &Result<Served<'_>, Fault<'_>>,
-    err: &mut E,
+    refused: bool,
+    err: &mut Stream<E>,
 ) -> u8
-    ensures status { MatchResult served.now (λ served. result ≡ served_status served) (λ fault. result ≡ status_of fault) }
-    ensures statuses { Contains statuses result }
+    ensures { IsServingSaid (telling_of T.tells T.reports T.finds T.replies T.faults T.nears) voice.now served.now refused
+        err.old err.new result }
 {
     match served {
-        Ok(served) => tell_served(alloc, teller, plan, served, err),
-        Err(fault) => tell_plan_fault(alloc, teller, plan, fault, err),
+        Ok(served) => {
+            let built = tell_built(alloc, teller, voice, &served.built, err);
+            err.say(end_text(served.end, refused));
+            status_after(served.end, refused, built)
+        }
+        Err(fault) => tell_fault(alloc, teller, voice, fault, err),
     }
 }

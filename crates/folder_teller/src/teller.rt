@@ -5,7 +5,6 @@ use crate::replies::{Lookup, MEMORY_REFUSED, reply_text};
 use crate::texts::{asked_by, itinerary_text, line, stops_text};
 use answer_lines::{Answer, Report};
 use command_line::{Format, Plan, Task};
-use commands::{Asked, Teller};
 use faults::Fault;
 use feed_basis::Basis;
 use feed_names::open_names;
@@ -18,6 +17,7 @@ use serving::Reply;
 use std::alloc::{AllocError, Global};
 use std::format;
 use stop_search::{list_stops, near_stops};
+use tellers::{Asked, Teller};
 use told_names::{NameSheets, Names};
 use zone_clock::Clock;
 
@@ -119,16 +119,20 @@ impl Teller for FolderTeller<'_> {
 
     ghost replies = { λ _ _ _ _ _. Unit {0} };
 
+    ghost faults = { λ _ _ _. Unit {0} };
+
+    ghost nears = { λ _ _ _. Unit {0} };
+
     fn answer(
         &self,
         alloc: Global,
         format: Format,
-        asked: &Asked<'_>,
+        asked: &Asked<'_, '_>,
         basis: &Basis,
         answer: &Answer,
     ) -> Result<String, AllocError> {
-        let settings = &asked.plan.settings;
-        let asked = asked_by(command_of(asked.task), asked.question, format);
+        let settings = &asked.settings;
+        let asked = asked_by(command_of(&asked.task), &asked.question, format);
         let itinerary = self.itinerary(alloc, settings, &asked, basis, answer)?;
         itinerary_text(alloc, format, &itinerary)
     }

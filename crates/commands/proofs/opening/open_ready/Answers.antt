@@ -1,5 +1,4 @@
 use Rattle.std.proofs.Common.{◌≡◌, ⊎_elim, refl, inl, inr, subst}
-use Rattle.std.proofs.lemmas.Fn.{gave_at}
 use Rattle.timetable.specs.Table.{Table}
 use Rattle.section_store.specs.Sections.{form_of}
 use Rattle.recovery.specs.Kinds.{IsOfKind}
@@ -13,12 +12,12 @@ pub returns-in-Ok-Foreign-clause-kept_out : goal.returns-in-Ok-Foreign-clause-ke
 returns-in-Ok-Foreign-clause-kept_out g c = inr (record {
   first = c.in-Ok.disk;
   last = c.file_kind.new.disk;
-  opened = gave_at g.S.FnOnce c.open_store.ensures c.in-Ok.is;
+  opened = c.in-Ok.ensures;
   given_back = refl;
   honest = c.file_kind.ensures.honest;
   same = c.file_kind.ensures.same;
   why = λ honest.
-      let read = (g.D.Disk.state c.in-Ok.disk).read in
+      let read = (g.S.Store.Disk.state c.in-Ok.disk).read in
       let kind = subst (λ (t : Table). IsOfKind (form_of t c.args.rides) read Foreign) c.timetable.ensures.value
       (subst (λ (k : FileKind). IsOfKind (form_of c.timetable.result.now c.args.rides) read k) c.in-Ok-Foreign.field-0-is (c.in-Ok-Foreign.ensures.kind honest)) in
       inl (refl, kind.0, kind.1);

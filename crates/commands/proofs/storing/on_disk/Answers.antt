@@ -1,0 +1,34 @@
+use Rattle.store_answers.specs.Asked.{IsStoredAnswer, IsStoredRefusal}
+use Rattle.store_answers.specs.Builds.{IsBuilt, IsUnbuilt}
+use Rattle.store_answers.specs.Listings.{IsListed, IsUnlisted}
+use Rattle.commands.proofs.FoundFacts.{answer_found, report_found}
+use Rattle.commands.proofs.storing.on_disk.Goals as goal
+
+pub returns-in-Ask-clause-found : goal.returns-in-Ask-clause-found
+returns-in-Ask-clause-found g c = λ honest.
+    let basis = c.args.basis.now in
+    let k = c.args.rides in
+    let old = g.S.Store.Disk.state c.args.disk in
+    let new = g.S.Store.Disk.state c.ask_stored-answer.result.1 in
+    let q = c.in-Ask.question in
+    rw c.in-Ask.is (answer_found c.in-Ask.task c.in-Ask.question c.ask_stored-answer.result.0 c.found_answer.result
+    (IsStoredAnswer basis k c.in-Ask.moment q c.in-Ask.legs old new) (IsStoredRefusal basis k c.in-Ask.moment q old new)
+    c.found_answer.ensures (c.ask_stored-answer.ensures.answered honest))
+
+pub returns-in-List-clause-found : goal.returns-in-List-clause-found
+returns-in-List-clause-found g c = λ honest.
+    let basis = c.args.basis.now in
+    let k = c.args.rides in
+    let old = g.S.Store.Disk.state c.args.disk in
+    let new = g.S.Store.Disk.state c.list-report.result.1 in
+    rw c.in-List.is (report_found c.list-report.result.0 c.found_report.result (IsListed basis k old new) (IsUnlisted basis k old new)
+    c.found_report.ensures (c.list-report.ensures.listed honest))
+
+pub returns-in-Build-clause-found : goal.returns-in-Build-clause-found
+returns-in-Build-clause-found g c = λ honest.
+    let basis = c.args.basis.now in
+    let k = c.args.rides in
+    let old = g.S.Store.Disk.state c.args.disk in
+    let new = g.S.Store.Disk.state c.build-report.result.1 in
+    rw c.in-Build.is (report_found c.build-report.result.0 c.found_report-in-Build.result (IsBuilt basis k old new) (IsUnbuilt basis k old new)
+    c.found_report-in-Build.ensures (c.build-report.ensures.built honest))

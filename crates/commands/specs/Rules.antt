@@ -1,0 +1,61 @@
+-- What each command may find, or which fault it has.
+use Rattle.std.specs.Prelude.{◌≡◌, ℕ, Bool, true, List, Option, Result, MatchResult, String, string_bytes}
+use Rattle.std.specs.Global.{Global}
+use Rattle.disk_model.specs.Disk.{State}
+use Rattle.gtfs_tables.specs.Feed.{Feed}
+use Rattle.question_lines.specs.declared.question.Question.{Question}
+use Rattle.faults.specs.declared.fault.Fault.{Fault}
+use Rattle.feed_basis.specs.Basis.{BasisData}
+use Rattle.feed_basis.specs.Ids.{stop_alone}
+use Rattle.feed_report.specs.Counts.{AreCounts, IsCheckFault}
+use Rattle.feed_report.specs.Reports.{Names}
+use Rattle.feed_report.specs.declared.report.FeedReport.{FeedReport}
+use Rattle.answer_lines.specs.declared.answer.Answer.{Answer}
+use Rattle.answer_lines.specs.declared.report.Report.{Report}
+use Rattle.answering.specs.Answers.{IsAnswered}
+use Rattle.answering.specs.Refusals.{IsUnanswered, NoneMissing}
+use Rattle.printing.specs.declared.told.Told.{Told}
+use Rattle.printing.specs.declared.told.Told.TheVariants as tolds
+use Rattle.store_answers.specs.Asked.{IsStoredAnswer, IsStoredRefusal}
+use Rattle.store_answers.specs.Builds.{IsBuilt, IsUnbuilt}
+use Rattle.store_answers.specs.Listings.{IsListed, IsUnlisted}
+use Rattle.tellers.specs.Tellings.{IsStopsFault, Telling}
+use Rattle.command_line.specs.declared.job.Task.{Task}
+use Rattle.commands.specs.declared.found.Found.{Found}
+use Rattle.commands.specs.declared.found.Found.TheVariants as founds
+use Rattle.commands.specs.declared.storing.Use.{Use}
+use Rattle.commands.specs.declared.storing.Use.TheVariants as uses
+
+-- an answer to a question is found, which is right
+abbrev pub FindsAnswer : (Answer → Type 0) → Found → Type 0
+FindsAnswer Right found =
+    (task : Task) × (question : Question) × (answer : Answer) × (found ≡ founds.Answer task question answer) × Right answer
+
+-- a report is found, which is right
+abbrev pub FindsReport : (Report → Type 0) → Found → Type 0
+FindsReport Right found = (report : Report) × (found ≡ founds.Report report) × Right report
+
+-- a question between stops, over the timetable alone
+abbrev pub IsStopAnswer : BasisData → Option ℕ → Question → (List ℕ → List ℕ → ℕ → Answer → Type 0) → Result Found Fault → Type 0
+IsStopAnswer basis moment question Right found =
+    MatchResult found (FindsAnswer (IsAnswered (stop_alone basis.names) Right basis.timetable moment question))
+    (IsUnanswered (stop_alone basis.names) NoneMissing basis.timetable moment question)
+
+-- what may be found over the file of a store, by the states of its disk before and after, or which fault
+abbrev pub IsUse : BasisData → ℕ → Use → State → State → Result Found Fault → Type 0
+IsUse basis k (uses.Ask task question moment legs) old new found =
+    MatchResult found (FindsAnswer (IsStoredAnswer basis k moment question legs old new)) (IsStoredRefusal basis k moment question old new)
+IsUse basis k uses.List old new found = MatchResult found (FindsReport (IsListed basis k old new)) (IsUnlisted basis k old new)
+IsUse basis k (uses.Build workers progress) old new found =
+    MatchResult found (FindsReport (IsBuilt basis k old new)) (IsUnbuilt basis k old new)
+
+-- what a feed has, and what else is among the names in its folder; or the feed's fault
+abbrev pub IsChecked : (Names → Type 0) → Bool → Feed → Result Told Fault → Type 0
+IsChecked lists keyed feed told =
+    MatchResult told (λ told. (report : FeedReport) × (told ≡ tolds.Feed report) × AreCounts feed report.counts × (keyed ≡ true) × lists report.names)
+    (IsCheckFault keyed feed)
+
+-- the lines of the stops of a folder that a text finds, or why there are none
+abbrev pub AreStops : Telling → List ℕ → List ℕ → Bool → Result Told Fault → Type 0
+AreStops t folder text all told =
+    MatchResult told (λ told. (lines : String Global) × (told ≡ tolds.Text lines) × t.finds folder text all (string_bytes lines)) IsStopsFault

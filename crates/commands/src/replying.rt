@@ -1,0 +1,125 @@
+//! Replies to the questions of an input, over the file of a store.
+
+ghost use Rattle.std.specs.Prelude.{◌≡◌};
+ghost use Rattle.commands.specs.Runs.{IsServed};
+ghost use Rattle.commands.specs.Served.{IsServedBy, dialogue_of};
+ghost use Rattle.commands.specs.World.{view_of};
+ghost use Rattle.printing.specs.Finished.{streams_of};
+ghost use Rattle.tellers.specs.Tellings.{telling_of};
+
+use crate::opening::{Ready, open_ready, say_new};
+use crate::replies::FormatReplies;
+use crate::running::Ended;
+use crate::served::tell_serving;
+use crate::system::System;
+use command_line::{Plan, Style, Workers};
+use faults::Fault;
+use feed_basis::Basis;
+use printing::{Streams, Voice, tell_fault};
+use serving::{Lines, ReplyTeller};
+use std::alloc::Global;
+use std::io::{BufRead, Write};
+use store_answers::serve;
+use tellers::Teller;
+use timetable::Rides;
+
+/// A store that is served: its file, over which timetable, for journeys of at most these rides, and who builds what it lacks.
+#[derive(Clone, Copy)]
+pub struct Site<'a> {
+    pub basis: &'a Basis,
+    pub rides: Rides,
+    pub path: &'a str,
+    pub workers: Workers,
+}
+
+// Replies to the questions of the input at the site, as `replies` tells them.
+fn serve_by<S: System, R: ReplyTeller, I: BufRead, O: Write + Drop, E: Write + Drop>(
+    alloc: Global,
+    system: &S,
+    voice: &Voice<'_>,
+    site: &Site<'_>,
+    replies: &R,
+    input: &mut I,
+    streams: Streams<O, E>,
+) -> Ended<S::Store, O, E>
+    ensures { IsServedBy (view_of (S.world system.now) S.Store.honest S.Store.state S.Store.failures
+        (telling_of S.Teller.tells S.Teller.reports S.Teller.finds S.Teller.replies S.Teller.faults S.Teller.nears))
+        site.now.basis.now site.now.rides site.now.path.now voice.now
+        (dialogue_of (λ question reply text. R.tells replies.now site.now.basis.now question reply text) (R.tells_legs replies.now)
+        (I.remaining input.old))
+        (streams_of streams.out streams.err) (streams_of result.streams.out result.streams.err) result.status result.store }
+{
+    let teller = system.teller();
+    let Streams { out, mut err } = streams;
+    match open_ready(alloc, system, site.basis, site.rides, site.path, false) {
+        Err((fault, store)) => {
+            let status = tell_fault(alloc, &teller, voice, &fault, &mut err);
+            Ended {
+                status,
+                store,
+                streams: Streams { out, err },
+            }
+        }
+        Ok(ready) => {
+            let Ready { disk, is_new } = ready;
+            say_new(site.path, is_new, &mut err);
+            let threads = system.threads();
+            let (served, disk, out) = serve(
+                alloc,
+                threads,
+                site.basis,
+                site.rides,
+                disk,
+                site.workers,
+                replies,
+                input,
+                out,
+            );
+            let refused = out.has_refused();
+            let status = tell_serving(alloc, &teller, voice, &served, refused, &mut err);
+            Ended {
+                status,
+                store: Some(disk),
+                streams: Streams { out, err },
+            }
+        }
+    }
+}
+
+/// Replies to the questions of the input, line by line, as the plan's style has the replies, at the site, while workers build the trees
+/// that its file lacks. What a format tells is looked up before the file is opened.
+pub fn run_serve<S: System, I: BufRead, O: Write + Drop, E: Write + Drop>(
+    alloc: Global,
+    system: &S,
+    plan: &Plan<'_>,
+    voice: &Voice<'_>,
+    site: &Site<'_>,
+    input: &mut I,
+    streams: Streams<O, E>,
+) -> Ended<S::Store, O, E>
+    ensures { IsServed (view_of (S.world system.now) S.Store.honest S.Store.state S.Store.failures
+        (telling_of S.Teller.tells S.Teller.reports S.Teller.finds S.Teller.replies S.Teller.faults S.Teller.nears))
+        (I.remaining input.old) plan.now.style voice.now site.now.basis.now site.now.rides site.now.path.now
+        (streams_of streams.out streams.err) (streams_of result.streams.out result.streams.err) result.status result.store }
+{
+    let format = match plan.style {
+        Style::Lines => return serve_by(alloc, system, voice, site, &Lines, input, streams),
+        Style::Told(format) => format,
+    };
+    let teller = system.teller();
+    let mut streams = streams;
+    let Ok(lookup) = teller.lookup(alloc, plan) else {
+        let status = tell_fault(alloc, &teller, voice, &Fault::Memory, &mut streams.err);
+        return Ended {
+            status,
+            store: None,
+            streams,
+        };
+    };
+    let replies = FormatReplies {
+        teller,
+        format,
+        lookup,
+    };
+    serve_by(alloc, system, voice, site, &replies, input, streams)
+}

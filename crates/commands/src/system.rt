@@ -1,0 +1,62 @@
+//! The system that the program runs on.
+
+ghost use Rattle.std.specs.Prelude.{◌≡◌, IfOk, is_some};
+ghost use Rattle.gtfs_tables.specs.Feed.{Feed, AreReaders};
+ghost use Rattle.commands.specs.World.{World};
+
+use disk_model::{Disk, FileFault};
+use gtfs_tables::Files;
+use precomputing::Progress;
+use std::alloc::Global;
+use std::hash::RandomState;
+use std::io;
+use std::io::Read;
+use std::sync::Wait;
+use std::thread::Threads;
+use tellers::Teller;
+
+/// What the program finds on its system: folders of feeds, files of stores, threads and randomness; and who makes texts in formats, and who
+/// is told how far a build is. A call is made at its turn, or not at all.
+pub trait System {
+    /// Reads a file of a feed.
+    type Reader: Read + Drop;
+
+    /// The disk of a store.
+    type Store: Disk + Drop + Send;
+
+    /// In which workers build.
+    type Threads: Threads + Wait + Sync;
+
+    /// Is told how far a build is.
+    type Meter: Progress + Drop;
+
+    /// Makes the texts of formats.
+    type Teller: Teller;
+
+    /// What is there.
+    ghost world: { Self → World Self.Store };
+
+    fn threads(&self) -> &Self::Threads;
+
+    fn teller(&self) -> Self::Teller;
+
+    /// Who is told how far a build is, by whether the words ask that it is shown.
+    fn meter(&self, shown: bool) -> Self::Meter;
+
+    /// Keys under which ids are looked up; none if the system gives no randomness.
+    fn hash_keys(&self) -> Option<RandomState>
+        ensures { is_some result ≡ (world self.now).keyed };
+
+    /// Opens the files of the feed in a folder. It fails only if memory runs out.
+    fn open_feed(&self, alloc: Global, folder: &str) -> io::Result<Files<Self::Reader>>
+        ensures { IfOk result (λ files. (feed : Feed) → (world self.now).holds folder.now feed
+            → AreReaders Self.Reader.remaining files feed) };
+
+    /// The names in a folder; none if the system doesn't list it. It fails only if memory runs out.
+    fn list_folder(&self, folder: &str) -> io::Result<Option<Vec<String>>>
+        ensures { IfOk result ((world self.now).lists folder.now) };
+
+    /// Opens the file of a store. To read only, it may be opened beside others that read.
+    fn open_store(&self, path: &str, only_reads: bool) -> Result<Self::Store, FileFault>
+        ensures { (world self.now).opens path.now result };
+}

@@ -1,0 +1,3 @@
+pub mod Told
+pub mod Faults
+pub mod Finished

@@ -1,0 +1,46 @@
+//! What goes to standard output.
+
+ghost use Rattle.std.specs.Prelude.{◌≡◌, Some};
+ghost use Rattle.printing.specs.Told.{told_status, told_text};
+
+use answer_lines::{Answer, Report};
+use feed_report::FeedReport;
+use std::fmt;
+
+/// What a command tells on standard output, shown as its lines, each with its end.
+#[derive(Debug, Drop)]
+pub enum Told<'a> {
+    /// What a feed has.
+    Feed(FeedReport),
+    /// An answer to a question.
+    Answer(Answer),
+    /// What a store has, or what came of a build.
+    Report(Report<'a>),
+    /// A text that a teller made.
+    Text(String),
+}
+
+impl Told<'_> {
+    /// The status to end with.
+    pub fn status(&self) -> u8
+        ensures { result ≡ told_status self.now }
+    {
+        match self {
+            Told::Report(report) => report.status(),
+            Told::Feed(_) | Told::Answer(_) | Told::Text(_) => 0,
+        }
+    }
+}
+
+impl fmt::Display for Told<'_> {
+    ghost output = { λ told. Some (told_text told) };
+
+    fn fmt<W: fmt::Write>(&self, f: &mut fmt::Formatter<W>) -> fmt::Result {
+        match self {
+            Told::Feed(report) => write!(f, "{report}"),
+            Told::Answer(answer) => writeln!(f, "{answer}"),
+            Told::Report(report) => write!(f, "{report}"),
+            Told::Text(text) => write!(f, "{text}"),
+        }
+    }
+}

@@ -1,0 +1,73 @@
+//! A system in memory.
+
+use super::feed::{Failure, Source, feed};
+use super::teller::Saying;
+use commands::System;
+use disk_model::{FileFault, MemDisk};
+use gtfs_tables::Files;
+use precomputing::Silent;
+use std::alloc::Global;
+use std::cell::Cell;
+use std::hash::RandomState;
+use std::io;
+use std::sync::Wait;
+use std::thread::Threads;
+
+/// One feed in each folder, and one store, whose disk is handed out once.
+pub struct FakeSystem<'t, T: Threads + Wait + Sync> {
+    pub threads: &'t T,
+    pub teller: Saying,
+    pub hash_keys: Option<RandomState>,
+    /// The file of the feed whose reader fails, if one does.
+    pub failure: Failure,
+    pub store: Cell<Result<MemDisk, FileFault>>,
+}
+
+impl<'t, T: Threads + Wait + Sync> System for FakeSystem<'t, T> {
+    ghost use Rattle.std.specs.Prelude.{is_some};
+
+    type Reader = Source;
+
+    type Store = MemDisk;
+
+    type Threads = T;
+
+    type Meter = Silent;
+
+    type Teller = Saying;
+
+    ghost world = { λ system. record {
+      holds = λ _ _. ⊥;
+      lists = λ _ _. Unit {0};
+      keyed = is_some system.hash_keys;
+      opens = λ _ _. Unit {0};
+    } };
+
+    fn threads(&self) -> &T {
+        self.threads
+    }
+
+    fn teller(&self) -> Saying {
+        self.teller
+    }
+
+    fn meter(&self, _shown: bool) -> Silent {
+        Silent
+    }
+
+    fn hash_keys(&self) -> Option<RandomState> {
+        self.hash_keys
+    }
+
+    fn open_feed(&self, _alloc: Global, _folder: &str) -> io::Result<Files<Source>> {
+        Ok(feed(self.failure))
+    }
+
+    fn list_folder(&self, _folder: &str) -> io::Result<Option<Vec<String>>> {
+        Ok(None)
+    }
+
+    fn open_store(&self, _path: &str, _only_reads: bool) -> Result<MemDisk, FileFault> {
+        self.store.replace(Err(FileFault::Failed))
+    }
+}

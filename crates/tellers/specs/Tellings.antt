@@ -1,0 +1,42 @@
+-- Which texts may be made in a format.
+use Rattle.std.specs.Prelude.{◌≡◌, ◌⊎◌, ℕ, Bool, true, List}
+use Rattle.answer_lines.specs.declared.answer.Answer.{Answer}
+use Rattle.answer_lines.specs.declared.report.Report.{Report}
+use Rattle.command_line.specs.declared.format.Format.{Format}
+use Rattle.command_line.specs.declared.format.Style.{Style}
+use Rattle.command_line.specs.declared.format.Style.TheVariants as styles
+use Rattle.feed_basis.specs.Basis.{BasisData}
+use Rattle.gtfs_rows.specs.declared.fault.FeedFault.{FeedFault}
+use Rattle.faults.specs.declared.fault.Fault.{Fault}
+use Rattle.faults.specs.declared.fault.Fault.TheVariants as faults
+use Rattle.serving.specs.Tellings.{Telling as ReplyTelling, line_telling}
+
+-- Which texts may tell an answer, a report, a reply or a fault in a format; which lines may list the stops of a folder, and which may name
+-- those near an id.
+pub record Telling : Type 1 where
+  pub tells : Format → BasisData → Answer → List ℕ → Type 0
+  pub reports : Format → Report → List ℕ → Type 0
+  pub finds : List ℕ → List ℕ → Bool → List ℕ → Type 0
+  pub replies : Format → BasisData → ReplyTelling
+  pub faults : Format → Fault → List ℕ → Type 0
+  pub nears : List ℕ → List ℕ → List ℕ → Type 0
+
+abbrev pub telling_of : (Format → BasisData → Answer → List ℕ → Type 0) → (Format → Report → List ℕ → Type 0)
+    → (List ℕ → List ℕ → Bool → List ℕ → Type 0) → (Format → BasisData → ReplyTelling) → (Format → Fault → List ℕ → Type 0)
+    → (List ℕ → List ℕ → List ℕ → Type 0) → Telling
+telling_of tells reports finds replies faults nears =
+    record { tells = tells; reports = reports; finds = finds; replies = replies; faults = faults; nears = nears }
+
+-- a reply in a style: as lines, or as a format has it
+abbrev pub tells_reply : Telling → Style → BasisData → ReplyTelling
+tells_reply t styles.Lines basis question reply text = line_telling question reply text
+tells_reply t (styles.Told format) basis question reply text = t.replies format basis question reply text
+
+-- a format tells the rides and walks, whether or not the words ask for them
+abbrev pub tells_legs : Style → Bool → Bool
+tells_legs styles.Lines legs = legs
+tells_legs (styles.Told format) legs = true
+
+-- why stops aren't listed: the feed is at fault, or memory ran out
+abbrev pub IsStopsFault : Fault → Type 0
+IsStopsFault fault = (fault ≡ faults.Memory) ⊎ ((f : FeedFault) × (fault ≡ faults.Feed f))
