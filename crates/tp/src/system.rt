@@ -14,6 +14,7 @@ use std::sync::Wait;
 use std::thread::Threads;
 
 /// The files, the randomness and the threads of the runtime. Nothing is claimed of what is there.
+#[derive(Drop)]
 pub struct HostSystem<'r, T: Threads + Wait + Sync> {
     pub rt: &'r HostRuntime,
     pub threads: &'r T,

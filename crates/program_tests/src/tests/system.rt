@@ -14,6 +14,7 @@ use std::sync::Wait;
 use std::thread::Threads;
 
 /// One feed in each folder, and one store, whose disk is handed out once.
+#[derive(Drop)]
 pub struct FakeSystem<'t, T: Threads + Wait + Sync> {
     pub threads: &'t T,
     pub teller: Saying,
