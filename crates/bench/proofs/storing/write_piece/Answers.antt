@@ -2,8 +2,8 @@ use Rattle.std.proofs.Common.{◌≡◌, ◌+◌, ◌++◌, ◌≤◌, ap, arith
 use Rattle.disk_model.specs.Disk.{State, after_sync, after_write}
 use Rattle.bench.proofs.storing.write_piece.Goals as goal
 
-pub write_and_sync-2-requires : goal.write_and_sync-2-requires
-write_and_sync-2-requires g c = λ honest.
+pub write_and_sync-requires-2 : goal.write_and_sync-requires-2
+write_and_sync-requires-2 g c = λ honest.
     let before = c.write_and_sync.ensures.honest.1 honest in
     let s = g.D.Disk.state c.args.disk.now in
     let end = c.args.end in
