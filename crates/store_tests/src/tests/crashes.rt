@@ -60,7 +60,7 @@ fn run(alloc: Global, sample: &Sample, before: Before, failing: Failing) -> Resu
     let mut wanted = PutFault::Device;
     for tree in &sample.trees {
         match store.put(tree) {
-            Ok(receipt) if receipt.number == receipts && wanted == PutFault::Device => receipts +=
+            Ok(receipt) if receipt.number() == receipts && wanted == PutFault::Device => receipts +=
                 1,
             Err(fault) if fault == wanted => wanted = PutFault::Failed,
             _ => return Err(Fail::new("another answer")),
