@@ -4,11 +4,11 @@ use Rattle.std.specs.Option.{unwrap_or}
 use Rattle.timetable.specs.Table.{Table}
 use Rattle.feed_ids.specs.Names.{stops_at}
 use Rattle.planner.specs.Questions as planner
-use Rattle.planner.specs.declared.fault.AskFault.{AskFault}
-use Rattle.planner.specs.declared.fault.AskFault.TheVariants as faults
+use Rattle.planner.specs.declared.refusal.Refusal.{Refusal}
+use Rattle.planner.specs.declared.refusal.Refusal.TheVariants as refusals
 use Rattle.question_lines.specs.declared.question.Question.{Question}
 use Rattle.feed_basis.specs.Basis.{BasisData}
-use Rattle.answering.specs.Refusals.{IsCovered, IsMissing, IsUnanswered, of_ask}
+use Rattle.answering.specs.Refusals.{IsCovered, IsMissing, IsRefused}
 
 -- a covered moment is one
 pub leaves_at : (moment : Option ℕ) (horizon d : ℕ) → d ≡ unwrap_or moment 4_294_967_295 → d ≤ horizon → horizon ≤ 2_851_199 → moment ≡ Some d
@@ -25,14 +25,14 @@ not_covered table moment d is late covered =
     let within = covered.2 in
     let b : ⊥ = omega (arith, at, late, within) in b
 
--- a refusal, as the program tells it
-pub refused : (basis : BasisData) (held : planner.Held) (moment : Option ℕ) (question : Question) (d : ℕ) (fault : AskFault)
+-- a refusal of a question between places is one of the question
+pub refused : (basis : BasisData) (held : planner.Held) (moment : Option ℕ) (question : Question) (d : ℕ) (refusal : Refusal)
     → d ≡ unwrap_or moment 4_294_967_295 → basis.timetable.horizon ≤ 2_851_199
-    → planner.IsRefusal basis.timetable basis.names held question.from.now question.to.now d fault
-    → IsUnanswered (stops_at basis.names) (IsMissing basis held question) basis.timetable moment question (of_ask fault)
-refused basis held moment question d (faults.UnknownStop id) is bound h = h
-refused basis held moment question d faults.NotCovered is bound h = ((h.0, h.1), not_covered basis.timetable moment d is h.2)
-refused basis held moment question d (faults.NotStored id) is bound h = (
+    → planner.IsRefusal basis.timetable basis.names held question.from.now question.to.now d refusal
+    → IsRefused (stops_at basis.names) (IsMissing basis held question) basis.timetable moment question refusal
+refused basis held moment question d (refusals.UnknownStop id) is bound h = h
+refused basis held moment question d refusals.NotCovered is bound h = ((h.0, h.1), not_covered basis.timetable moment d is h.2)
+refused basis held moment question d (refusals.NotStored id) is bound h = (
   ((h.2, h.4), h.0),
   (d, leaves_at moment basis.timetable.horizon d is h.1 bound, h.1),
   (h.2, h.3, h.4, h.5, h.6),

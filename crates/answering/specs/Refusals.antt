@@ -3,8 +3,8 @@ use Rattle.std.specs.Prelude.{◌≡◌, ℕ, ◌≤◌, ◌⊎◌, List, [], Op
 use Rattle.timetable.specs.Table.{Table}
 use Rattle.feed_ids.specs.Names.{stops_at}
 use Rattle.planner.specs.Questions.{Held, IsFirstMissing}
-use Rattle.planner.specs.declared.fault.AskFault.{AskFault}
-use Rattle.planner.specs.declared.fault.AskFault.TheVariants as asked
+use Rattle.planner.specs.declared.refusal.Refusal.{Refusal}
+use Rattle.planner.specs.declared.refusal.Refusal.TheVariants as refusals
 use Rattle.faults.specs.declared.fault.Fault.{Fault}
 use Rattle.faults.specs.declared.fault.Fault.TheVariants as faults
 use Rattle.feed_basis.specs.Basis.{BasisData}
@@ -29,13 +29,16 @@ IsMissing basis held question id =
 abbrev pub NoneMissing : List ℕ → Type 0
 NoneMissing id = ⊥
 
--- The first id stands for no stops, or else the second; or else the moment isn't covered; or else a tree is missing. Memory may run out
--- as well.
-abbrev pub IsUnanswered : (List ℕ → Option (List ℕ)) → (List ℕ → Type 0) → Table → Option ℕ → Question → Fault → Type 0
-IsUnanswered stops Missing table moment question (faults.UnknownStop id) =
+-- The first id stands for no stops, or else the second; or else the moment isn't covered; or else a tree is missing.
+abbrev pub IsRefused : (List ℕ → Option (List ℕ)) → (List ℕ → Type 0) → Table → Option ℕ → Question → Refusal → Type 0
+IsRefused stops Missing table moment question (refusals.UnknownStop id) =
     (stops id.now ≡ None) × ((id.now ≡ question.from.now) ⊎ (IsKnown stops question.from.now × (id.now ≡ question.to.now)))
-IsUnanswered stops Missing table moment question faults.NotCovered = AreKnown stops question × ¬ IsCovered table moment
-IsUnanswered stops Missing table moment question (faults.NotStored id) = AreKnown stops question × IsCovered table moment × Missing id.now
+IsRefused stops Missing table moment question refusals.NotCovered = AreKnown stops question × ¬ IsCovered table moment
+IsRefused stops Missing table moment question (refusals.NotStored id) = AreKnown stops question × IsCovered table moment × Missing id.now
+
+-- the question is refused, or memory ran out
+abbrev pub IsUnanswered : (List ℕ → Option (List ℕ)) → (List ℕ → Type 0) → Table → Option ℕ → Question → Fault → Type 0
+IsUnanswered stops Missing table moment question (faults.Question refusal) = IsRefused stops Missing table moment question refusal
 IsUnanswered stops Missing table moment question faults.Memory = Unit {0}
 IsUnanswered stops Missing table moment question faults.BadDate = ⊥
 IsUnanswered stops Missing table moment question faults.BadTime = ⊥
@@ -47,9 +50,3 @@ IsUnanswered stops Missing table moment question faults.GateDamaged = ⊥
 IsUnanswered stops Missing table moment question faults.StoreInUse = ⊥
 IsUnanswered stops Missing table moment question faults.PutFailed = ⊥
 IsUnanswered stops Missing table moment question faults.TooLarge = ⊥
-
--- the refusal of a question between places, as the program tells it
-abbrev pub of_ask : AskFault → Fault
-of_ask (asked.UnknownStop id) = faults.UnknownStop id
-of_ask asked.NotCovered = faults.NotCovered
-of_ask (asked.NotStored id) = faults.NotStored id

@@ -7,13 +7,13 @@ ghost use Rattle.answering.specs.Answers.{ArePoints, AreTreePoints, IsAnswered, 
 ghost use Rattle.answering.specs.Found.{AreFound};
 ghost use Rattle.feed_basis.specs.Basis.{IsSound};
 ghost use Rattle.feed_basis.specs.Ids.{stop_alone};
-ghost use Rattle.answering.specs.Refusals.{IsCovered, IsMissing, IsUnanswered, NoneMissing, of_ask};
+ghost use Rattle.answering.specs.Refusals.{IsCovered, IsMissing, IsUnanswered, NoneMissing};
 
 use answer_lines::Answer;
 use direct_connections::Network;
 use faults::Fault;
 use feed_basis::Basis;
-use planner::{AskFault, Trees, ask_on};
+use planner::{Refusal, Trees, ask_on};
 use question_lines::Question;
 use rounds::Rides;
 use scanned_journeys::scan_journeys;
@@ -59,13 +59,13 @@ fn between<'a>(
     ensures refusal { IfErr result (IsUnanswered (stop_alone basis.now.names) NoneMissing basis.now.timetable moment question.now) }
 {
     let Some(from) = basis.stop_named(question.from) else {
-        return Err(Fault::UnknownStop(question.from));
+        return Err(Fault::Question(Refusal::UnknownStop(question.from)));
     };
     let Some(to) = basis.stop_named(question.to) else {
-        return Err(Fault::UnknownStop(question.to));
+        return Err(Fault::Question(Refusal::UnknownStop(question.to)));
     };
     let Some(depart) = covered_moment(basis, moment) else {
-        return Err(Fault::NotCovered);
+        return Err(Fault::Question(Refusal::NotCovered));
     };
     Ok(Asked { from, to, depart })
 }
@@ -155,17 +155,6 @@ pub fn scan<'a>(
     Ok(answer)
 }
 
-// The refusal of a question between places, as the program tells it.
-fn told_fault<'a>(fault: AskFault<'a>) -> Fault<'a>
-    ensures { result ≡ of_ask fault.entry }
-{
-    match fault {
-        AskFault::UnknownStop(id) => Fault::UnknownStop(id),
-        AskFault::NotCovered => Fault::NotCovered,
-        AskFault::NotStored(id) => Fault::NotStored(id),
-    }
-}
-
 // Journeys of the trees between the question's places. No covered moment is as late as the one that stands for none.
 fn journeys<'a, T: Trees>(
     basis: &'a Basis,
@@ -192,7 +181,7 @@ fn journeys<'a, T: Trees>(
         depart,
     ) {
         Ok(journeys) => Ok((journeys, depart)),
-        Err(fault) => Err(told_fault(fault)),
+        Err(refusal) => Err(Fault::Question(refusal)),
     }
 }
 

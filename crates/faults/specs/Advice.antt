@@ -4,6 +4,8 @@ use Rattle.service_days.specs.declared.fault.DayFault.{DayFault}
 use Rattle.service_days.specs.declared.fault.DayFault.TheVariants as days
 use Rattle.recovery.specs.declared.fault.RecoverFault.{RecoverFault}
 use Rattle.recovery.specs.declared.fault.RecoverFault.TheVariants as stores
+use Rattle.planner.specs.declared.refusal.Refusal.{Refusal}
+use Rattle.planner.specs.declared.refusal.Refusal.TheVariants as refusals
 use Rattle.faults.specs.declared.fault.Fault.{Fault}
 use Rattle.faults.specs.declared.fault.Fault.TheVariants as fault
 use Rattle.faults.specs.declared.advice.TheConstants.{BAD_DATE, BAD_RANGE, BAD_TIME, DAMAGED, DEVICE, GATE_DAMAGED, IN_USE, NOT_A_STORE}
@@ -25,7 +27,13 @@ store_advice stores.OtherRides = Some OTHER_RIDES.now
 store_advice (stores.Damaged number) = Some DAMAGED.now
 store_advice stores.Device = Some DEVICE.now
 
--- a date, a time, covered days, a store, a moment that isn't covered, a stop whose tree the store lacks, and want of randomness have advice
+-- of the refusals of a question, a moment that isn't covered has advice, and a stop whose tree the store lacks
+abbrev pub question_advice : Refusal → Option (List ℕ)
+question_advice (refusals.UnknownStop id) = None
+question_advice refusals.NotCovered = Some NOT_COVERED.now
+question_advice (refusals.NotStored id) = Some NOT_STORED.now
+
+-- a date, a time, covered days, a store, a question and want of randomness have advice
 abbrev pub advice_of : Fault → Option (List ℕ)
 advice_of fault.BadDate = Some BAD_DATE.now
 advice_of fault.BadTime = Some BAD_TIME.now
@@ -36,8 +44,6 @@ advice_of (fault.Store f) = store_advice f
 advice_of fault.GateDamaged = Some GATE_DAMAGED.now
 advice_of fault.StoreInUse = Some IN_USE.now
 advice_of fault.PutFailed = Some PUT_FAILED.now
-advice_of (fault.UnknownStop id) = None
-advice_of fault.NotCovered = Some NOT_COVERED.now
-advice_of (fault.NotStored id) = Some NOT_STORED.now
+advice_of (fault.Question refusal) = question_advice refusal
 advice_of fault.TooLarge = None
 advice_of fault.Memory = None

@@ -1,4 +1,4 @@
--- The faults that the programs tell, and the status that each ends them with.
+-- The faults that the program reports, and the status that each ends them with.
 use Rattle.std.specs.Prelude.{ℕ}
 use Rattle.gtfs_rows.specs.declared.fault.FaultKind.{FaultKind}
 use Rattle.gtfs_rows.specs.declared.fault.FaultKind.TheVariants as kinds
@@ -22,9 +22,7 @@ status_of (fault.Store f) = 4
 status_of fault.GateDamaged = 4
 status_of fault.StoreInUse = 4
 status_of fault.PutFailed = 4
-status_of (fault.UnknownStop id) = 6
-status_of fault.NotCovered = 6
-status_of (fault.NotStored id) = 6
+status_of (fault.Question refusal) = 6
 status_of fault.TooLarge = 3
 status_of fault.Memory = 7
 

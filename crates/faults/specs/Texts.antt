@@ -12,7 +12,7 @@ use Rattle.recovery.specs.declared.fault.RecoverFault.{RecoverFault}
 use Rattle.recovery.specs.declared.fault.RecoverFault.TheVariants as stores
 use Rattle.faults.specs.declared.fault.Fault.{Fault}
 use Rattle.faults.specs.declared.fault.Fault.TheVariants as fault
-use Rattle.shown_ids.specs.Shown.{shown}
+use Rattle.planner.specs.Refusals.{refusal_text}
 
 abbrev pub kind_text : FaultKind → List ℕ
 kind_text kinds.MissingFile = codes "F1 MissingFile"
@@ -65,8 +65,6 @@ fault_text (fault.Store f) = store_text f
 fault_text fault.GateDamaged = codes "Z1 NotAStore"
 fault_text fault.StoreInUse = codes "Z5 Device"
 fault_text fault.PutFailed = codes "P3 Device"
-fault_text (fault.UnknownStop id) = codes "Q1 UnknownStop " ++ shown id.now
-fault_text fault.NotCovered = codes "Q2 NotCovered"
-fault_text (fault.NotStored id) = codes "Q3 NotStored " ++ shown id.now
+fault_text (fault.Question refusal) = refusal_text refusal
 fault_text fault.TooLarge = codes "N1 TooLarge"
 fault_text fault.Memory = codes "Memory"

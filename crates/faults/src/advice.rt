@@ -1,9 +1,10 @@
 //! What to do about a fault.
 
 ghost use Rattle.std.specs.Prelude.{◌≡◌, option_map};
-ghost use Rattle.faults.specs.Advice.{advice_of, days_advice, store_advice};
+ghost use Rattle.faults.specs.Advice.{advice_of, days_advice, question_advice, store_advice};
 
 use crate::fault::Fault;
+use planner::Refusal;
 use recovery::RecoverFault;
 use service_days::DayFault;
 
@@ -72,6 +73,17 @@ fn store_advice(fault: &RecoverFault) -> Option<&'static str>
     }
 }
 
+// What to do about the refusal of a question.
+fn question_advice(refusal: &Refusal<'_>) -> Option<&'static str>
+    ensures { option_map (λ text. text.now) result ≡ question_advice refusal.now }
+{
+    match refusal {
+        Refusal::UnknownStop(_) => None,
+        Refusal::NotCovered => Some(NOT_COVERED),
+        Refusal::NotStored(_) => Some(NOT_STORED),
+    }
+}
+
 /// What the fault means and what to do about it, as a line to print below it; none if there is nothing to say.
 pub(crate) fn advice_of(fault: &Fault<'_>) -> Option<&'static str>
     ensures { option_map (λ text. text.now) result ≡ advice_of fault.now }
@@ -85,8 +97,7 @@ pub(crate) fn advice_of(fault: &Fault<'_>) -> Option<&'static str>
         Fault::GateDamaged => Some(GATE_DAMAGED),
         Fault::StoreInUse => Some(IN_USE),
         Fault::PutFailed => Some(PUT_FAILED),
-        Fault::NotCovered => Some(NOT_COVERED),
-        Fault::NotStored(_) => Some(NOT_STORED),
+        Fault::Question(refusal) => question_advice(refusal),
         _ => None,
     }
 }

@@ -9,6 +9,7 @@ use crate::advice::advice_of;
 use crate::texts::write_fault;
 use gtfs_tables::{FaultKind, FeedFault};
 use pattern_tree::TreeFault;
+use planner::Refusal;
 use recovery::RecoverFault;
 use service_days::DayFault;
 use std::alloc::AllocError;
@@ -32,16 +33,13 @@ pub enum Fault<'a> {
     StoreInUse,
     /// The device failed while a tree was put into the store.
     PutFailed,
-    UnknownStop(&'a str),
-    NotCovered,
-    /// The store lacks the tree of the stop that has this id.
-    NotStored(&'a str),
+    Question(Refusal<'a>),
     TooLarge,
     Memory,
 }
 
 impl<'a> Fault<'a> {
-    /// The status to end with: 1 for the feed and its days, also where nothing was read for want of randomness, 2 for the words, 3 for
+    /// The status to end with: 1 for the feed and its days, also if nothing was read for want of randomness, 2 for the words, 3 for
     /// a stop whose tree would be too large, 4 for the store, 6 for the question, 7 for want of memory.
     pub fn status(&self) -> u8
         ensures { result ≡ status_of self.now }
@@ -51,7 +49,7 @@ impl<'a> Fault<'a> {
             Fault::BadDate | Fault::BadTime => 2,
             Fault::TooLarge => 3,
             Fault::Store(_) | Fault::GateDamaged | Fault::StoreInUse | Fault::PutFailed => 4,
-            Fault::UnknownStop(_) | Fault::NotCovered | Fault::NotStored(_) => 6,
+            Fault::Question(_) => 6,
             Fault::Memory => 7,
         }
     }

@@ -8,7 +8,6 @@ use crate::fault::Fault;
 use gtfs_tables::{FaultKind, FeedFault, FeedFile};
 use recovery::RecoverFault;
 use service_days::DayFault;
-use shown_ids::Shown;
 use std::fmt;
 
 // The code and the name of a kind of fault of a feed.
@@ -96,9 +95,7 @@ pub(crate) fn write_fault<W: fmt::Write>(
         Fault::GateDamaged => write!(f, "Z1 NotAStore"),
         Fault::StoreInUse => write!(f, "Z5 Device"),
         Fault::PutFailed => write!(f, "P3 Device"),
-        Fault::UnknownStop(id) => write!(f, "Q1 UnknownStop {}", Shown(id)),
-        Fault::NotCovered => write!(f, "Q2 NotCovered"),
-        Fault::NotStored(id) => write!(f, "Q3 NotStored {}", Shown(id)),
+        Fault::Question(refusal) => write!(f, "{refusal}"),
         Fault::TooLarge => write!(f, "N1 TooLarge"),
         Fault::Memory => write!(f, "Memory"),
     }

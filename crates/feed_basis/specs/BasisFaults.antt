@@ -28,14 +28,12 @@ IsKeyedFault feed settings first faults.Memory = Unit {0}
 IsKeyedFault feed settings first faults.BadDate = ⊥
 IsKeyedFault feed settings first faults.BadTime = ⊥
 IsKeyedFault feed settings first faults.NoRandomness = ⊥
-IsKeyedFault feed settings first (faults.UnknownStop id) = ⊥
-IsKeyedFault feed settings first faults.NotCovered = ⊥
+IsKeyedFault feed settings first (faults.Question refusal) = ⊥
 IsKeyedFault feed settings first faults.TooLarge = ⊥
 IsKeyedFault feed settings first (faults.Store f) = ⊥
 IsKeyedFault feed settings first faults.GateDamaged = ⊥
 IsKeyedFault feed settings first faults.StoreInUse = ⊥
 IsKeyedFault feed settings first faults.PutFailed = ⊥
-IsKeyedFault feed settings first (faults.NotStored id) = ⊥
 
 -- Where the system gave no randomness for hash keys, that is the fault, whatever the feed is.
 abbrev pub IsBasisFault : Bool → Feed → Settings → Date → Fault → Type 0

@@ -45,14 +45,12 @@ IsReadingFault feed faults.NoRandomness = ⊥
 IsReadingFault feed (faults.Days f) = ⊥
 IsReadingFault feed faults.BadDate = ⊥
 IsReadingFault feed faults.BadTime = ⊥
-IsReadingFault feed (faults.UnknownStop id) = ⊥
-IsReadingFault feed faults.NotCovered = ⊥
+IsReadingFault feed (faults.Question refusal) = ⊥
 IsReadingFault feed faults.TooLarge = ⊥
 IsReadingFault feed (faults.Store f) = ⊥
 IsReadingFault feed faults.GateDamaged = ⊥
 IsReadingFault feed faults.StoreInUse = ⊥
 IsReadingFault feed faults.PutFailed = ⊥
-IsReadingFault feed (faults.NotStored id) = ⊥
 
 -- where the system gave no randomness for hash keys, that is the fault, whatever the feed is
 abbrev pub IsCheckFault : Bool → Feed → Fault → Type 0

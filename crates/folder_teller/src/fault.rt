@@ -2,6 +2,7 @@
 
 use faults::{Fault, file_name};
 use itinerary_texts::{FaultText, fault_text_json};
+use planner::Refusal;
 use std::alloc::{AllocError, Global};
 use std::format;
 
@@ -40,7 +41,7 @@ fn row_of(fault: &Fault<'_>) -> Option<usize> {
 // The id that a fault is about.
 fn id_of<'a>(fault: &Fault<'a>) -> Option<&'a str> {
     match fault {
-        Fault::UnknownStop(id) | Fault::NotStored(id) => Some(id),
+        Fault::Question(Refusal::UnknownStop(id) | Refusal::NotStored(id)) => Some(id),
         _ => None,
     }
 }

@@ -1,2 +1,3 @@
 pub mod Questions
 pub mod Gathered
+pub mod Refusals

@@ -8,8 +8,8 @@ use Rattle.feed_ids.specs.NameLists.{NameLists}
 use Rattle.pattern_tree.specs.Content.{Content, longest}
 use Rattle.pattern_tree.specs.Completeness.{Complete}
 use Rattle.pattern_query.specs.Answer.{PointData, numbers, TreeReaches, IsPoint, AreBest}
-use Rattle.planner.specs.declared.fault.AskFault.{AskFault}
-use Rattle.planner.specs.declared.fault.AskFault.TheVariants as faults
+use Rattle.planner.specs.declared.refusal.Refusal.{Refusal}
+use Rattle.planner.specs.declared.refusal.Refusal.TheVariants as refusals
 use Rattle.feed_ids.specs.Names.{stops_at}
 
 -- the tree of a source, where it is there
@@ -68,11 +68,11 @@ IsKnown names id = (stops : List ℕ) × (stops_at names id ≡ Some stops)
 
 -- Why there is no answer: the first id names nothing, or else the second; or else the moment isn't covered; or else a tree of the
 -- first place's stops isn't there, and then the id is that of the first such stop.
-abbrev pub IsRefusal : Table → NameLists → Held → List ℕ → List ℕ → ℕ → AskFault → Type 0
-IsRefusal table names held from to d (faults.UnknownStop id) =
+abbrev pub IsRefusal : Table → NameLists → Held → List ℕ → List ℕ → ℕ → Refusal → Type 0
+IsRefusal table names held from to d (refusals.UnknownStop id) =
     (stops_at names id.now ≡ None) × ((id.now ≡ from) ⊎ (IsKnown names from × (id.now ≡ to)))
-IsRefusal table names held from to d faults.NotCovered = IsKnown names from × IsKnown names to × (table.horizon < d)
-IsRefusal table names held from to d (faults.NotStored id) =
+IsRefusal table names held from to d refusals.NotCovered = IsKnown names from × IsKnown names to × (table.horizon < d)
+IsRefusal table names held from to d (refusals.NotStored id) =
     IsKnown names to × (d ≤ table.horizon)
     × (froms : List ℕ) × (s : ℕ) × (stops_at names from ≡ Some froms) × IsFirstMissing held froms s
     × (id.now ≡ slice_index_or names.stops s [])

@@ -5,8 +5,8 @@ ghost use Rattle.feed_ids.specs.Names.{stops_in};
 ghost use Rattle.planner.specs.Questions.{IsAnswer, IsRefusal};
 ghost use Rattle.planner.specs.Gathered.{IsTo, AddsAsked};
 
-use crate::fault::AskFault;
 use crate::places::stops_of;
+use crate::refusal::Refusal;
 use crate::trees::Trees;
 use direct_connections::Network;
 use feed_ids::Names;
@@ -43,23 +43,23 @@ pub fn ask_on<'a, T: Trees>(
     from: &'a str,
     to: &'a str,
     depart: u32,
-) -> Result<Answer, AskFault<'a>>
+) -> Result<Answer, Refusal<'a>>
     ensures { MatchResult result (IsAnswer network.now names.now (T.held trees.now) from.now to.now depart)
         (IsRefusal network.now names.now (T.held trees.now) from.now to.now depart) }
 {
     let Some(start) = names.place(from) else {
-        return Err(AskFault::UnknownStop(from));
+        return Err(Refusal::UnknownStop(from));
     };
     let Some(end) = names.place(to) else {
-        return Err(AskFault::UnknownStop(to));
+        return Err(Refusal::UnknownStop(to));
     };
     if !network.timetable().covers(depart) {
-        return Err(AskFault::NotCovered);
+        return Err(Refusal::NotCovered);
     }
     let mut best = BestSoFar::new();
     for source in stops_of(&start) {
         let Some(patterns) = trees.patterns(*source) else {
-            return Err(AskFault::NotStored(names.stop(*source)));
+            return Err(Refusal::NotStored(names.stop(*source)));
         };
         search_to(network, patterns, stops_of(&end), depart, &mut best);
     }

@@ -2,11 +2,11 @@
 #![tactic(auto)]
 
 mod asking;
-mod fault;
 mod places;
+mod refusal;
 mod trees;
 
 pub use asking::ask_on;
-pub use fault::AskFault;
 pub use places::{place_named, stops_of};
+pub use refusal::Refusal;
 pub use trees::Trees;

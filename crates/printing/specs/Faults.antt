@@ -6,13 +6,14 @@ use Rattle.command_line.specs.declared.format.Style.TheVariants as styles
 use Rattle.faults.specs.Lines.{fault_lines}
 use Rattle.faults.specs.declared.fault.Fault.{Fault}
 use Rattle.faults.specs.declared.fault.Fault.TheVariants as faults
+use Rattle.planner.specs.declared.refusal.Refusal.TheVariants as refusals
 use Rattle.printing.specs.declared.fault.Voice.{Voice}
 use Rattle.streams.specs.Streams.{IsSaid, StreamData}
 use Rattle.tellers.specs.Tellings.{Telling}
 
 -- the fault is an id that no stop of the folder has, and the lines name stops that are near it
 abbrev pub IsNear : Telling → List ℕ → Fault → List ℕ → Type 0
-IsNear t feed fault lines = (id : Bor (List ℕ)) × (fault ≡ faults.UnknownStop id) × t.nears feed id.now lines
+IsNear t feed fault lines = (id : Bor (List ℕ)) × (fault ≡ faults.Question (refusals.UnknownStop id)) × t.nears feed id.now lines
 
 -- the lines of the fault, perhaps with those of stops that are near
 abbrev pub AreFaultLines : Telling → List ℕ → Fault → List ℕ → Type 0

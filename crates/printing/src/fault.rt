@@ -8,6 +8,7 @@ ghost use Rattle.tellers.specs.Tellings.{telling_of};
 
 use command_line::Style;
 use faults::{Fault, FaultLines};
+use planner::Refusal;
 use std::alloc::Global;
 use std::io::Write;
 use streams::Stream;
@@ -42,7 +43,7 @@ fn near_lines<T: Teller>(alloc: Global, teller: &T, feed: &str, fault: &Fault<'_
         (string_bytes text)) }
 {
     match fault {
-        Fault::UnknownStop(id) => teller.near(alloc, feed, id),
+        Fault::Question(Refusal::UnknownStop(id)) => teller.near(alloc, feed, id),
         _ => None,
     }
 }

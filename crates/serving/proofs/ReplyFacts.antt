@@ -4,14 +4,12 @@ use Rattle.feed_basis.specs.Basis.{BasisData}
 use Rattle.pattern_query.specs.Answer.{PointData}
 use Rattle.board.specs.Ties.{BoardPart}
 use Rattle.board.specs.Trees.{IsRight}
-use Rattle.planner.specs.declared.fault.AskFault.TheVariants as asked
 use Rattle.shared_planner.specs.Asking.{AreBestBetween, IsAnswered, IsLook, IsUnanswered}
 use Rattle.shared_planner.specs.PlannerView.{PlannerView}
 use Rattle.shared_planner.specs.declared.fault.AskFault.{AskFault}
 use Rattle.shared_planner.specs.declared.fault.AskFault.TheVariants as faults
 use Rattle.question_lines.specs.declared.question.Question.{Question}
 use Rattle.serving.specs.Answers.{IsAsked, IsRefused, IsReply, IsTold}
-use Rattle.serving.specs.Refusals.{of_ask}
 use Rattle.serving.specs.declared.reply.Refusal.TheVariants as refusals
 use Rattle.serving.specs.declared.reply.Reply.{Reply}
 use Rattle.serving.specs.declared.reply.Reply.TheVariants as replies
@@ -34,17 +32,6 @@ module _ (p : PlannerView) (basis : BasisData) (wanted : Bool) (line : List ℕ)
   told_reply question depart journeys is answered exact (replies.Refused refusal) none =
       subst (IsRefused p basis.cover line old new) (sym none) answered.0
 
-  -- the refusal of a question
-  pub refused_reply : (question : Question) (depart : ℕ) → IsAsked basis.cover line question depart → (fault : AskFault)
-      → IsUnanswered p old new question.from.now question.to.now depart fault → IsReply p basis wanted line old new (replies.Refused (of_ask fault))
-  refused_reply question depart is faults.BoardRefused un = record { question = question; depart = depart; asked = is; fault = faults.BoardRefused; unanswered = un; told = refl }
-  refused_reply question depart is (faults.Question (asked.UnknownStop id)) un =
-      record { question = question; depart = depart; asked = is; fault = faults.Question (asked.UnknownStop id); unanswered = un; told = refl }
-  refused_reply question depart is (faults.Question asked.NotCovered) un =
-      record { question = question; depart = depart; asked = is; fault = faults.Question asked.NotCovered; unanswered = un; told = refl }
-  refused_reply question depart is (faults.Question (asked.NotStored id)) un =
-      record { question = question; depart = depart; asked = is; fault = faults.Question (asked.NotStored id); unanswered = un; told = refl }
-
   looks_still : new ≡ old → IsLook old new
   looks_still same = subst (IsLook old) (sym same) (record { later = ([], append-nil old.told.list); book = refl; origin = refl })
 
@@ -57,7 +44,4 @@ module _ (p : PlannerView) (basis : BasisData) (wanted : Bool) (line : List ℕ)
   looks (replies.Answer answer) is = is.answered.0
   looks (replies.Refused refusals.BadLine) is = looks_still is.1
   looks (replies.Refused refusals.Memory) is = is
-  looks (replies.Refused refusals.BoardRefused) is = looks_unanswered is.question.from.now is.question.to.now is.depart is.fault is.unanswered
-  looks (replies.Refused (refusals.UnknownStop id)) is = looks_unanswered is.question.from.now is.question.to.now is.depart is.fault is.unanswered
-  looks (replies.Refused refusals.NotCovered) is = looks_unanswered is.question.from.now is.question.to.now is.depart is.fault is.unanswered
-  looks (replies.Refused (refusals.NotStored id)) is = looks_unanswered is.question.from.now is.question.to.now is.depart is.fault is.unanswered
+  looks (replies.Refused (refusals.Ask fault)) is = looks_unanswered is.question.from.now is.question.to.now is.depart fault is.unanswered

@@ -16,7 +16,6 @@ use Rattle.feed_basis.specs.Basis.{BasisData}
 use Rattle.told_journeys.specs.Points.{Tells}
 use Rattle.question_lines.specs.Questions.{IsQuestion, NotQuestion}
 use Rattle.question_lines.specs.declared.question.Question.{Question}
-use Rattle.serving.specs.Refusals.{of_ask}
 use Rattle.serving.specs.declared.reply.Refusal.{Refusal}
 use Rattle.serving.specs.declared.reply.Refusal.TheVariants as refusals
 use Rattle.serving.specs.declared.reply.Reply.{Reply}
@@ -56,22 +55,17 @@ pub record IsRightAnswer (p : PlannerView) (basis : BasisData) (wanted : Bool) (
   pub told : TellsJourneys basis depart wanted journeys answer
 
 -- the line is a question, which has no answer from one look of the reader, for this cause
-pub record IsRightRefusal (p : PlannerView) (cover : CoverDays) (line : List ℕ) (old new : BoardPart) (refusal : Refusal) : Type 0 where
+pub record IsRightRefusal (p : PlannerView) (cover : CoverDays) (line : List ℕ) (old new : BoardPart) (fault : AskFault) : Type 0 where
   pub question : Question
   pub depart : ℕ
   pub asked : IsAsked cover line question depart
-  pub fault : AskFault
   pub unanswered : IsUnanswered p old new question.from.now question.to.now depart fault
-  pub told : refusal ≡ of_ask fault
 
 -- only a line that is no question is a bad line; any other has its question's refusal; memory may run out for each
 abbrev pub IsRefused : PlannerView → CoverDays → List ℕ → BoardPart → BoardPart → Refusal → Type 0
 IsRefused p cover line old new refusals.BadLine = NotQuestion line × (new ≡ old)
 IsRefused p cover line old new refusals.Memory = IsLook old new
-IsRefused p cover line old new refusals.BoardRefused = IsRightRefusal p cover line old new refusals.BoardRefused
-IsRefused p cover line old new (refusals.UnknownStop id) = IsRightRefusal p cover line old new (refusals.UnknownStop id)
-IsRefused p cover line old new refusals.NotCovered = IsRightRefusal p cover line old new refusals.NotCovered
-IsRefused p cover line old new (refusals.NotStored id) = IsRightRefusal p cover line old new (refusals.NotStored id)
+IsRefused p cover line old new (refusals.Ask fault) = IsRightRefusal p cover line old new fault
 
 -- What is replied to a line by one whose reader knew `old` before it and knows `new` now, where the rides and walks of journeys are wanted or
 -- aren't.

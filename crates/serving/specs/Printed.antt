@@ -1,19 +1,16 @@
 -- How replies are shown as lines.
 use Rattle.std.specs.Prelude.{ℕ, List, [], ◌∷◌, ◌++◌, codes}
-use Rattle.shown_ids.specs.Shown.{shown}
+use Rattle.shared_planner.specs.AskTexts.{ask_text}
 use Rattle.answer_lines.specs.Printed.{answer_text}
 use Rattle.serving.specs.declared.reply.Refusal.{Refusal}
 use Rattle.serving.specs.declared.reply.Refusal.TheVariants as refusals
 use Rattle.serving.specs.declared.reply.Reply.{Reply}
 use Rattle.serving.specs.declared.reply.Reply.TheVariants as replies
 
--- the code of a refusal, where it has one, its name, and its id
+-- the code and the name of a refusal, and the id that it is about, as far as it has them
 abbrev pub refusal_text : Refusal → List ℕ
 refusal_text refusals.BadLine = codes "BadLine"
-refusal_text refusals.BoardRefused = codes "Q4 BoardRefused"
-refusal_text (refusals.UnknownStop id) = codes "Q1 UnknownStop " ++ shown id.now
-refusal_text refusals.NotCovered = codes "Q2 NotCovered"
-refusal_text (refusals.NotStored id) = codes "Q3 NotStored " ++ shown id.now
+refusal_text (refusals.Ask fault) = ask_text fault
 refusal_text refusals.Memory = codes "Memory"
 
 -- the end of a line, and a line with a dot alone

@@ -4,7 +4,7 @@ ghost use Rattle.std.specs.Prelude.{Some};
 ghost use Rattle.serving.specs.Printed.{refusal_text, reply_text};
 
 use answer_lines::Answer;
-use shown_ids::Shown;
+use shared_planner::AskFault;
 use std::fmt;
 
 /// Why a line has no answer. Shown by its code, where it has one, and its name.
@@ -12,14 +12,8 @@ use std::fmt;
 pub enum Refusal<'a> {
     /// The line is no question.
     BadLine,
-    /// The board gave no look.
-    BoardRefused,
-    /// No stop and no station has the id.
-    UnknownStop(&'a str),
-    /// The moment isn't covered.
-    NotCovered,
-    /// The tree of the stop of this id isn't stored yet.
-    NotStored(&'a str),
+    /// The planner gave no answer to the question.
+    Ask(AskFault<'a>),
     /// Memory was refused for this line.
     Memory,
 }
@@ -37,10 +31,7 @@ impl fmt::Display for Refusal<'_> {
     fn fmt<W: fmt::Write>(&self, f: &mut fmt::Formatter<W>) -> fmt::Result {
         match self {
             Refusal::BadLine => write!(f, "BadLine"),
-            Refusal::BoardRefused => write!(f, "Q4 BoardRefused"),
-            Refusal::UnknownStop(id) => write!(f, "Q1 UnknownStop {}", Shown(id)),
-            Refusal::NotCovered => write!(f, "Q2 NotCovered"),
-            Refusal::NotStored(id) => write!(f, "Q3 NotStored {}", Shown(id)),
+            Refusal::Ask(fault) => write!(f, "{fault}"),
             Refusal::Memory => write!(f, "Memory"),
         }
     }

@@ -4,7 +4,6 @@ ghost use Rattle.std.specs.Prelude.{◌≡◌, ◌≤◌, List, ℕ};
 ghost use Rattle.std.specs.List.{All};
 ghost use Rattle.question_lines.specs.Questions.{IsQuestion};
 ghost use Rattle.serving.specs.Answers.{IsOver, IsReply, IsTold};
-ghost use Rattle.serving.specs.Refusals.{of_ask};
 ghost use Rattle.serving.specs.Tellings.{IsAsking};
 ghost use Rattle.told_journeys.specs.Points.{IsKnownJourney};
 
@@ -13,22 +12,10 @@ use answer_lines::Answer;
 use board::Reader;
 use feed_basis::Basis;
 use question_lines::Question;
-use shared_planner::{AskFault, Planner};
+use shared_planner::Planner;
 use std::alloc::Global;
 use timetable::LATEST_MOMENT;
 use told_journeys::told;
-
-// The refusal of a question, as it is replied.
-fn refusal_of<'a>(fault: AskFault<'a>) -> Refusal<'a>
-    ensures { result ≡ of_ask fault.entry }
-{
-    match fault {
-        AskFault::BoardRefused => Refusal::BoardRefused,
-        AskFault::Question(planner::AskFault::UnknownStop(id)) => Refusal::UnknownStop(id),
-        AskFault::Question(planner::AskFault::NotCovered) => Refusal::NotCovered,
-        AskFault::Question(planner::AskFault::NotStored(id)) => Refusal::NotStored(id),
-    }
-}
 
 // The journeys, which begin at the moment, as they are told; where memory is refused, that is replied.
 fn answer_of(
@@ -69,7 +56,7 @@ fn reply_to<'a>(
     let (reader, answer) = planner.ask(reader, question.from, question.to, depart);
     let reply = match answer {
         Ok(answer) => answer_of(alloc, basis, depart, legs, answer.points()),
-        Err(fault) => Reply::Refused(refusal_of(fault)),
+        Err(fault) => Reply::Refused(Refusal::Ask(fault)),
     };
     (reader, reply)
 }

@@ -1,4 +1,5 @@
 pub mod PlannerView
+pub mod AskTexts
 pub mod Asking
 pub mod Desk
 pub mod Opening

@@ -37,7 +37,6 @@ returns-in-Err-clause-refusal g c =
     let question = c.args.question.now in
     let depart = c.unwrap_or-depart.result in
     let why =
-    subst₂ (λ (t : Table) (names : NameLists). planner.IsRefusal t names held question.from.now question.to.now depart c.in-Err.fault)
+    subst₂ (λ (t : Table) (names : NameLists). planner.IsRefusal t names held question.from.now question.to.now depart c.in-Err.refusal)
     c.requires.network c.names.ensures.value c.in-Err.ensures in
-    rw c.told_fault.ensures
-    (refused basis held c.args.moment question depart c.in-Err.fault c.unwrap_or-depart.ensures c.names.ensures.sound.valid.horizon why)
+    refused basis held c.args.moment question depart c.in-Err.refusal c.unwrap_or-depart.ensures c.names.ensures.sound.valid.horizon why
