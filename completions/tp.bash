@@ -25,7 +25,7 @@ _tp() {
         --date | --on | --from | --to | --at | --zone | --default-walk | --workers) return ;;
         *)
             case $command in
-                "") choices="check stops direct scan build list ask serve help --help --version" ;;
+                "") choices="check stops direct scan build list ask serve audit help --help --version" ;;
                 check) choices="--feed --help" ;;
                 stops) choices="--feed --all --help" ;;
                 direct) choices="--feed --date --from --to --at --format --days --zone --rides --default-walk --help" ;;
@@ -37,7 +37,8 @@ _tp() {
                     choices+=" --days --zone --rides --default-walk --help"
                     ;;
                 serve) choices="--feed --date --store --workers --format --days --zone --rides --default-walk --help" ;;
-                help) choices="check stops direct scan build list ask serve help" ;;
+                audit) choices="--feed --date --store --from --days --zone --rides --default-walk --help" ;;
+                help) choices="check stops direct scan build list ask serve audit help" ;;
             esac
             ;;
     esac

@@ -2,12 +2,14 @@
 #![tactic(auto)]
 
 mod answer;
+mod audit;
 mod moment;
 mod printing;
 mod report;
 mod stage;
 
 pub use answer::{Answer, Point};
+pub use audit::{Audit, Differing};
 pub use moment::{DayTime, day_time};
 pub use printing::{PrintFault, print, print_bytes};
 pub use report::Report;

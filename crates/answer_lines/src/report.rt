@@ -1,10 +1,11 @@
-//! What the program tells of a store.
+//! Reports on a store.
 
 ghost use Rattle.std.specs.Prelude.{◌≡◌, Some};
 ghost use Rattle.std.specs.Fmt.{WritesOnOk};
 ghost use Rattle.std.specs.List.{flat_map};
 ghost use Rattle.answer_lines.specs.Reports.{id_line, report_status, report_text};
 
+use crate::audit::Audit;
 use shown_ids::Shown;
 use std::fmt;
 
@@ -22,16 +23,19 @@ pub enum Report<'a> {
         /// The ids of the stops whose trees aren't stored.
         missing: Vec<&'a str>,
     },
+    /// What an audit of a stored tree came to, on one line.
+    Audited(Audit<'a>),
 }
 
 impl Report<'_> {
-    /// The status to end with: 0 where all is done, 3 where a build left stops without a tree.
+    /// The status to end with: 0 if all is done, 3 if a build left stops without a tree, 5 if an audit found a difference.
     pub fn status(&self) -> u8
         ensures { result ≡ report_status self.now }
     {
         match self {
             Report::Built { missing, .. } if !missing.is_empty() => 3,
-            _ => 0,
+            Report::Built { .. } | Report::Stored(_) => 0,
+            Report::Audited(audit) => audit.status(),
         }
     }
 }
@@ -50,6 +54,7 @@ impl fmt::Display for Report<'_> {
                 writeln!(f, "stored {stored} of {of}")?;
                 write_ids(f, "missing ", missing)
             }
+            Report::Audited(audit) => writeln!(f, "{audit}"),
         }
     }
 }

@@ -23,6 +23,7 @@ abbrev pub LacksDayOf : List Row → Command → Type 0
 LacksDayOf rows (command.Answer task question) = LacksDay rows task
 LacksDayOf rows (command.Build store workers progress) = ⊥
 LacksDayOf rows (command.List store) = ⊥
+LacksDayOf rows (command.Audit store from) = ⊥
 LacksDayOf rows (command.Serve store workers) = ⊥
 
 -- the question has a day to leave on, and its time is none
@@ -33,6 +34,7 @@ abbrev pub LacksTimeOf : List Row → Date → Command → Type 0
 LacksTimeOf rows first (command.Answer task question) = LacksTime rows first task
 LacksTimeOf rows first (command.Build store workers progress) = ⊥
 LacksTimeOf rows first (command.List store) = ⊥
+LacksTimeOf rows first (command.Audit store from) = ⊥
 LacksTimeOf rows first (command.Serve store workers) = ⊥
 
 -- the first covered day is none; or else the day to leave on is

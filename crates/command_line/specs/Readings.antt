@@ -43,6 +43,7 @@ abbrev pub IsPlain : Command → Type 0
 IsPlain (command.Answer task question) = ⊥
 IsPlain (command.Build store workers progress) = Unit {0}
 IsPlain (command.List store) = Unit {0}
+IsPlain (command.Audit store from) = Unit {0}
 IsPlain (command.Serve store workers) = Unit {0}
 
 abbrev pub NamesNoPlain : Text → List Row → Type 0

@@ -107,6 +107,14 @@ module _ {D : Type 0} (v : SystemView D) (input : Option (List ℕ)) (plan : Pla
         is_found = subst (λ (s : Search). IsSearched v plan.style basis plan.settings.rides s run.found disk old.err run.noticed) same run.searched;
         printed = run.printed;
       }
+  search_run (commands.Audit store from) search h run =
+      let same : search ≡ searches.Audit store from = find_same search (searches.Audit store from) h in
+      record {
+        found = run.found;
+        noticed = run.noticed;
+        is_found = subst (λ (s : Search). IsSearched v plan.style basis plan.settings.rides s run.found disk old.err run.noticed) same run.searched;
+        printed = run.printed;
+      }
   search_run (commands.Serve store workers) search h run = absurd (let e = h in let b : ⊥ = cc in b)
 
   pub serve_run : (command : Command) (path : Bor (List ℕ)) (workers : Workers) → IsErrand command (errands.Serve path workers)
@@ -118,3 +126,4 @@ module _ {D : Type 0} (v : SystemView D) (input : Option (List ℕ)) (plan : Pla
   serve_run (commands.Answer task question) path workers h done = absurd (let e = h in let b : ⊥ = cc in b)
   serve_run (commands.Build store asked progress) path workers h done = absurd (let e = h in let b : ⊥ = cc in b)
   serve_run (commands.List store) path workers h done = absurd (let e = h in let b : ⊥ = cc in b)
+  serve_run (commands.Audit store from) path workers h done = absurd (let e = h in let b : ⊥ = cc in b)

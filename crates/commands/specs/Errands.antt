@@ -10,4 +10,5 @@ abbrev pub IsErrand : Command → Errand → Type 0
 IsErrand (commands.Answer task question) errand = errand ≡ errands.Find (searches.Answer task question)
 IsErrand (commands.Build store workers progress) errand = errand ≡ errands.Find (searches.Build store workers progress)
 IsErrand (commands.List store) errand = errand ≡ errands.Find (searches.List store)
+IsErrand (commands.Audit store from) errand = errand ≡ errands.Find (searches.Audit store from)
 IsErrand (commands.Serve store workers) errand = errand ≡ errands.Serve store workers

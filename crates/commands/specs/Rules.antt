@@ -17,6 +17,7 @@ use Rattle.answering.specs.Refusals.{IsUnanswered, NoneMissing}
 use Rattle.printing.specs.declared.told.Told.{Told}
 use Rattle.printing.specs.declared.told.Told.TheVariants as tolds
 use Rattle.store_answers.specs.Asked.{IsStoredAnswer, IsStoredRefusal}
+use Rattle.store_answers.specs.Audited.{IsAudited, IsUnaudited}
 use Rattle.store_answers.specs.Builds.{IsBuilt, IsUnbuilt}
 use Rattle.store_answers.specs.Listings.{IsListed, IsUnlisted}
 use Rattle.tellers.specs.Tellings.{IsStopsFault, Telling}
@@ -46,6 +47,8 @@ abbrev pub IsUse : BasisData → ℕ → Use → State → State → Result Foun
 IsUse basis k (uses.Ask task question moment legs) old new found =
     MatchResult found (FindsAnswer (IsStoredAnswer basis k moment question legs old new)) (IsStoredRefusal basis k moment question old new)
 IsUse basis k uses.List old new found = MatchResult found (FindsReport (IsListed basis k old new)) (IsUnlisted basis k old new)
+IsUse basis k (uses.Audit from) old new found =
+    MatchResult found (FindsReport (IsAudited basis k from.now old new)) (IsUnaudited basis k from.now old new)
 IsUse basis k (uses.Build workers progress) old new found =
     MatchResult found (FindsReport (IsBuilt basis k old new)) (IsUnbuilt basis k old new)
 

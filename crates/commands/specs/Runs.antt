@@ -29,11 +29,12 @@ use Rattle.commands.specs.declared.errand.Search.TheVariants as searches
 use Rattle.commands.specs.declared.found.Found.{Found}
 use Rattle.commands.specs.declared.storing.Use.TheVariants as uses
 
--- a build is told as lines, each other command in the style of its words
+-- a build and an audit are told as lines, each other command in the style of its words
 abbrev pub told_style : Command → Style → Style
 told_style (commands.Answer task question) style = style
 told_style (commands.Build store workers progress) style = styles.Lines
 told_style (commands.List store) style = style
+told_style (commands.Audit store from) style = styles.Lines
 told_style (commands.Serve store workers) style = style
 
 abbrev pub voice_of : Plan → Voice
@@ -57,6 +58,8 @@ IsCommandFound v plan basis (commands.Build store workers progress) found disk o
     IsOverStore v basis plan.settings.rides store.now (uses.Build workers progress) found disk old new
 IsCommandFound v plan basis (commands.List store) found disk old new =
     IsOverStore v basis plan.settings.rides store.now uses.List found disk old new
+IsCommandFound v plan basis (commands.Audit store from) found disk old new =
+    IsOverStore v basis plan.settings.rides store.now (uses.Audit from) found disk old new
 IsCommandFound v plan basis (commands.Serve store workers) found disk old new = ⊥
 
 -- a command found something, or has a fault, and that was told
@@ -82,6 +85,8 @@ IsCommandRun v input plan basis (commands.Answer task question) old new status d
 IsCommandRun v input plan basis (commands.Build store workers progress) old new status disk =
     IsFoundRun v plan basis (commands.Build store workers progress) old new status disk
 IsCommandRun v input plan basis (commands.List store) old new status disk = IsFoundRun v plan basis (commands.List store) old new status disk
+IsCommandRun v input plan basis (commands.Audit store from) old new status disk =
+    IsFoundRun v plan basis (commands.Audit store from) old new status disk
 IsCommandRun v input plan basis (commands.Serve store workers) old new status disk =
     IsServed v input plan.style (voice_of plan) basis plan.settings.rides store.now old new status disk
 
@@ -101,6 +106,8 @@ IsSearched v style basis k (searches.Answer task question) found disk old new =
 IsSearched v style basis k (searches.Build path workers progress) found disk old new =
     IsOverStore v basis k path.now (uses.Build workers progress) found disk old new
 IsSearched v style basis k (searches.List path) found disk old new = IsOverStore v basis k path.now uses.List found disk old new
+IsSearched v style basis k (searches.Audit path from) found disk old new =
+    IsOverStore v basis k path.now (uses.Audit from) found disk old new
 
 pub record IsSearchRun {D : Type 0} (v : SystemView D) (plan : Plan) (basis : BasisData) (k : ℕ) (search : Search) (old new : StreamsData)
     (status : ℕ) (disk : Option D) : Type 0 where

@@ -55,6 +55,7 @@ abbrev pub IsBuiltText : Telling → Voice → Result Report Fault → List ℕ 
 IsBuiltText t voice (Ok (reports.Built stored of missing)) text =
     text ≡ codes "stored " ++ (decimal stored ++ (codes " of " ++ (decimal of ++ 10 ∷ [])))
 IsBuiltText t voice (Ok (reports.Stored ids)) text = text ≡ []
+IsBuiltText t voice (Ok (reports.Audited audit)) text = text ≡ []
 IsBuiltText t voice (Err fault) text = IsFaultText t voice fault text
 
 -- replies and the build came to an end, and standard error says how

@@ -17,6 +17,7 @@ use Rattle.commands.specs.declared.storing.Use.TheVariants as uses
 abbrev pub only_reads : Use → Bool
 only_reads (uses.Ask task question moment legs) = true
 only_reads uses.List = true
+only_reads (uses.Audit from) = true
 only_reads (uses.Build workers progress) = false
 
 -- there was no file in which the store may be opened, and that is the fault

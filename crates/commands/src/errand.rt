@@ -15,6 +15,8 @@ pub enum Search<'a> {
     Build(&'a str, Workers, bool),
     /// What the file of that path has.
     List(&'a str),
+    /// What an audit of the tree that the file of the first path has of the stop with the second id comes to.
+    Audit(&'a str, &'a str),
 }
 
 /// What a command does.
@@ -41,6 +43,7 @@ pub fn errand_of<'a>(command: &Command<'a>) -> Errand<'a>
             progress,
         } => Errand::Find(Search::Build(store, *workers, *progress)),
         Command::List { store } => Errand::Find(Search::List(store)),
+        Command::Audit { store, from } => Errand::Find(Search::Audit(store, from)),
         Command::Serve { store, workers } => Errand::Serve(store, *workers),
     }
 }

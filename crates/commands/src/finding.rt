@@ -58,5 +58,8 @@ pub fn find<'a, S: System, E: Write + Drop>(
             over_store(alloc, system, basis, rides, path, &over, err)
         }
         Search::List(path) => over_store(alloc, system, basis, rides, path, &Use::List, err),
+        Search::Audit(path, from) => {
+            over_store(alloc, system, basis, rides, path, &Use::Audit(from), err)
+        }
     }
 }

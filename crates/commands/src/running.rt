@@ -34,7 +34,7 @@ fn told_style(plan: &Plan<'_>) -> Style
     ensures { result ≡ told_style plan.now.command plan.now.style }
 {
     match plan.command {
-        Command::Build { .. } => Style::Lines,
+        Command::Build { .. } | Command::Audit { .. } => Style::Lines,
         Command::Answer { .. } | Command::List { .. } | Command::Serve { .. } => plan.style,
     }
 }

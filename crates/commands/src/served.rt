@@ -35,7 +35,7 @@ fn tell_built<T: Teller, E: Write + Drop>(
                 Report::Built { stored, of, .. } => {
                     err.say(format_args!("stored {stored} of {of}\n"))
                 }
-                Report::Stored(_) => err.say(""),
+                Report::Stored(_) | Report::Audited(_) => err.say(""),
             }
             report.status()
         }

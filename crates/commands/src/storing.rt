@@ -16,7 +16,7 @@ use feed_basis::Basis;
 use question_lines::Question;
 use std::alloc::Global;
 use std::io::Write;
-use store_answers::{ask_stored, build, list};
+use store_answers::{ask_stored, audit, build, list};
 use streams::Stream;
 use timetable::Rides;
 
@@ -27,6 +27,8 @@ pub enum Use<'a> {
     Ask(Task<'a>, Question<'a>, Option<u32>, bool),
     /// The stops are listed whose trees are there.
     List,
+    /// The tree of the stop with that id is audited.
+    Audit(&'a str),
     /// The trees that are missing are built. The flag says whether progress is shown.
     Build(Workers, bool),
 }
@@ -37,7 +39,7 @@ impl Use<'_> {
         ensures { result ≡ only_reads self.now }
     {
         match self {
-            Use::Ask(..) | Use::List => true,
+            Use::Ask(..) | Use::List | Use::Audit(_) => true,
             Use::Build(..) => false,
         }
     }
@@ -63,6 +65,10 @@ fn on_disk<'a, S: System>(
         }
         Use::List => {
             let (report, disk) = list(alloc, basis, rides, disk);
+            (found_report(report), disk)
+        }
+        Use::Audit(from) => {
+            let (report, disk) = audit(alloc, basis, rides, disk, from);
             (found_report(report), disk)
         }
         Use::Build(workers, progress) => {

@@ -15,6 +15,7 @@ use options::Settings;
 use question_lines::Question;
 use serving::Reply;
 use std::alloc::{AllocError, Global};
+use std::slice;
 use std::format;
 use stop_search::{list_stops, near_stops};
 use tellers::{Asked, Teller};
@@ -144,9 +145,10 @@ impl Teller for FolderTeller<'_> {
         folder: &str,
         report: &Report<'_>,
     ) -> Result<String, AllocError> {
-        let (command, ids) = match report {
+        let (command, ids): (&str, &[&str]) = match report {
             Report::Stored(ids) => ("list", ids),
             Report::Built { missing, .. } => ("build", missing),
+            Report::Audited(audit) => ("audit", slice::from_ref(&audit.from)),
         };
         let list = self.stop_list(alloc, folder, command, ids)?;
         stops_text(alloc, format, &list)

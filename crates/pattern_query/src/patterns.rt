@@ -1,6 +1,6 @@
 //! The patterns of a source, by the stops at which they end.
 
-ghost use Rattle.std.specs.Prelude.{◌≡◌, ◌↔◌, IfOk, List, map};
+ghost use Rattle.std.specs.Prelude.{◌≡◌, ◌↔◌, IfOk, IsTrue, List, map};
 ghost use Rattle.std.specs.List.{Contains};
 ghost use Rattle.std.specs.List.Sorted.{IsPermutation};
 ghost use Rattle.pattern_tree.specs.Forest.{Step};
@@ -51,6 +51,13 @@ fn first_other(patterns: &[Pattern], end: StopId) -> usize
         }
     }
     patterns.len()
+}
+
+// Whether two paths are equal.
+fn are_equal(one: &[(StopId, StopId)], other: &[(StopId, StopId)]) -> bool
+    ensures { IsTrue result ↔ (one.now ≡ other.now) }
+{
+    one == other
 }
 
 /// The patterns of a source's tree, by the stops at which they end: the form of a tree in which it is asked. A question reads the
@@ -108,5 +115,17 @@ impl<A: Allocator> Patterns<A> {
         let from = self.by_end.partition_point(|pattern| pattern.end < end);
         let rest = &self.by_end[from..];
         &rest[..first_other(rest, end)]
+    }
+
+    /// Whether there is a pattern of this path that ends at the stop.
+    pub fn contains(&self, path: &[(StopId, StopId)], end: StopId) -> bool
+        ensures { IsTrue result ↔ Contains self.now.pairs (path.now, end) }
+    {
+        for pattern in self.ending_at(end) {
+            if are_equal(&pattern.path, path) {
+                return true;
+            }
+        }
+        false
     }
 }

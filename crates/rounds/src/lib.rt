@@ -19,7 +19,7 @@ mod serving;
 mod view;
 mod walking;
 
-pub use best::scan;
+pub use best::{points, scan};
 pub use path::Path;
 pub use plain::plain_rounds;
 pub use scratch::Scratch;

@@ -1,4 +1,5 @@
 use Rattle.store_answers.specs.Asked.{IsStoredAnswer, IsStoredRefusal}
+use Rattle.store_answers.specs.Audited.{IsAudited, IsUnaudited}
 use Rattle.store_answers.specs.Builds.{IsBuilt, IsUnbuilt}
 use Rattle.store_answers.specs.Listings.{IsListed, IsUnlisted}
 use Rattle.commands.proofs.FoundFacts.{answer_found, report_found}
@@ -23,6 +24,16 @@ returns-in-List-clause-found g c = λ honest.
     let new = g.S.Store.Disk.state c.list-report.result.1 in
     rw c.in-List.is (report_found c.list-report.result.0 c.found_report.result (IsListed basis k old new) (IsUnlisted basis k old new)
     c.found_report.ensures (c.list-report.ensures.listed honest))
+
+pub returns-in-Audit-clause-found : goal.returns-in-Audit-clause-found
+returns-in-Audit-clause-found g c = λ honest.
+    let basis = c.args.basis.now in
+    let k = c.args.rides in
+    let from = c.in-Audit.from.now in
+    let old = g.S.Store.Disk.state c.args.disk in
+    let new = g.S.Store.Disk.state c.audit-report.result.1 in
+    rw c.in-Audit.is (report_found c.audit-report.result.0 c.found_report-in-Audit.result (IsAudited basis k from old new) (IsUnaudited basis k from old new)
+    c.found_report-in-Audit.ensures (c.audit-report.ensures.audited honest))
 
 pub returns-in-Build-clause-found : goal.returns-in-Build-clause-found
 returns-in-Build-clause-found g c = λ honest.

@@ -1,0 +1,4 @@
+pub mod AgreeFacts
+pub mod LookFacts
+pub mod EventFacts
+pub mod LawFacts

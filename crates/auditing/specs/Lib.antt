@@ -1,0 +1,4 @@
+pub mod Audits
+pub mod Comparing
+pub mod Lacks
+pub mod Laws

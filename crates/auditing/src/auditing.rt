@@ -1,0 +1,65 @@
+//! Where the answers from a tree differ first from those of the timetable.
+
+ghost use Rattle.std.specs.Prelude.{◌<◌, ◌≤◌, IfOk};
+ghost use Rattle.pattern_tree.specs.Content.{longest};
+ghost use Rattle.timetable.specs.Table.{stops_of};
+ghost use Rattle.auditing.specs.Audits.{IsFirstDifference};
+
+use crate::comparing::Compared;
+use crate::lacking::lacking;
+use direct_connections::Network;
+use pattern_query::Patterns;
+use rounds::Scratch;
+use std::alloc::{AllocError, Global};
+use std::sync::Arc;
+use timetable::{Rides, StopId};
+
+/// The stop to which, and the moment at which, the answers from a tree differ from those of the timetable.
+#[derive(Clone, Copy, Debug, PartialEq, Eq)]
+pub struct Difference {
+    pub to: StopId,
+    pub depart: u32,
+}
+
+/// Where the answers from a source's tree, of one ride or more, differ first from the best numbers of all journeys of at most `rides`
+/// rides: at the first event of the source, and there at the first stop. None if they agree at each event and to each stop, also those
+/// at events past the covered days. It fails only if memory runs out.
+///
+/// The source's tree is built for it. To stops to which the given tree has all patterns of that one, the answers agree at each moment, by
+/// the theorem of Transfer Patterns. Only those to the other stops are compared, by a run of the rounds at each event.
+pub fn first_difference(
+    alloc: Global,
+    network: &Network,
+    patterns: &Patterns,
+    rides: Rides,
+) -> Result<Option<Difference>, AllocError>
+    requires { patterns.now.source < stops_of network.now }
+    ensures { longest patterns.now.pairs ≤ rides → IfOk result (IsFirstDifference network.now patterns.now rides) }
+{
+    let table = network.timetable();
+    let source = patterns.source();
+    let lines = Arc::try_clone(network.shared_lines())?;
+    let mut scratch = Scratch::over(alloc, table, lines, rides)?;
+    let marks = lacking(alloc, table, patterns, &mut scratch)?;
+    if !marks.contains(&true) {
+        return Ok(None);
+    }
+    let events = scratch.departures(alloc, table, source)?;
+    for depart in &events {
+        let view = scratch.run(table, source, *depart)?;
+        let compared = Compared {
+            network,
+            patterns,
+            rides,
+            view,
+            depart: *depart,
+        };
+        if let Some(to) = compared.first_stop(alloc, &marks)? {
+            return Ok(Some(Difference {
+                to,
+                depart: *depart,
+            }));
+        }
+    }
+    Ok(None)
+}
