@@ -9,10 +9,10 @@ use feed_basis::{Basis, basis_of};
 use gtfs_tables::Files;
 use jiff::civil::Date;
 use options::Settings;
+use planner::Refusal;
 use precomputing::{Gate, Outcome, precompute};
 use sample_feed::Feed;
 use section_store::Step;
-use planner::Refusal;
 use shared_planner::{AskFault, Desk, Opened, Planner};
 use std::alloc::Global;
 use std::hash::RandomState;
@@ -149,9 +149,7 @@ pub fn ask(planner: &Planner, reader: Reader) -> (Reader, Seen)
             [point] if point.rides() == 1 && point.arrival() == 31_200 => (reader, Seen::Found),
             _ => (reader, Seen::Other),
         },
-        (reader, Err(AskFault::Question(Refusal::NotStored("B")))) => {
-            (reader, Seen::Lacking)
-        }
+        (reader, Err(AskFault::Question(Refusal::NotStored("B")))) => { (reader, Seen::Lacking) }
         (reader, Err(_)) => (reader, Seen::Other),
     }
 }
