@@ -49,7 +49,7 @@ fn ridden_numbers(alloc: Global, front: &[Numbers]) -> Result<Vec<Numbers>, Allo
     front
         .iter()
         .copied()
-        .filter(|numbers| numbers.rides > 0)
+        .filter(|point| point.rides > 0)
         .collect(alloc)
 }
 
@@ -94,9 +94,8 @@ impl Compared<'_> {
         alloc: Global,
         marks: &[bool],
     ) -> Result<Option<StopId>, AllocError>
-        requires { AgreeUnmarked self.now.network.now self.now.patterns.now self.now.rides marks.now }
-        ensures { IfOk result
-            (IsFirstStop self.now.network.now self.now.patterns.now self.now.rides self.now.depart) }
+        ensures { AgreeUnmarked self.now.network.now self.now.patterns.now self.now.rides marks.now
+            → IfOk result (IsFirstStop self.now.network.now self.now.patterns.now self.now.rides self.now.depart) }
     {
         for number in 0..self.network.timetable().stops() {
             let stop = StopId::new(number as u16);

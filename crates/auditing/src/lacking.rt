@@ -1,6 +1,6 @@
 //! Which stops a tree may lack patterns to, by the tree that is built for its source.
 
-ghost use Rattle.std.specs.Prelude.{◌≡◌, ◌<◌, ◌≤◌, IfOk, true};
+ghost use Rattle.std.specs.Prelude.{◌≡◌, ◌<◌, ◌≤◌, ℕ, IfOk, false};
 ghost use Rattle.timetable.specs.Table.{stops_of};
 ghost use Rattle.rounds.specs.Scratch.{IsAlike, IsMadeFor, rides_of};
 ghost use Rattle.pattern_tree.specs.Content.{longest};
@@ -33,10 +33,10 @@ impl Visitor for Lacking<'_> {
 }
 
 // The same mark for each stop.
-fn marks_of(alloc: Global, stops: usize, marked: bool) -> Result<Vec<bool>, AllocError> {
-    let mut marks = Vec::with_capacity(alloc, stops)?;
-    marks.resize(stops, marked)?;
-    Ok(marks)
+fn marks_of(alloc: Global, stops: usize, marked: bool) -> Result<Vec<bool>, AllocError>
+    ensures { IfOk result (λ marks. (t : ℕ) → is_marked marks.items t ≡ false → marked ≡ false) }
+{
+    Ok(vec![in alloc; marked; stops]?)
 }
 
 /// Marks the stops to which the patterns may lack one of a best journey: those at which a pair ends of the tree that is built for the
