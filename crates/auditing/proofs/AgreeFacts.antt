@@ -28,10 +28,13 @@ beats_on l m n one two = (
 module _ (Of Larger : Numbers → Type 0) (within : (n : Numbers) → Of n → Larger n) (has : (n : Numbers) → Unbeaten Larger n → Of n) where
   none_beats : (fuel : ℕ) (n m : Numbers) → m.arrival + m.rides < fuel → Unbeaten Of n → Larger m → ¬ Beats m n
   none_beats zero n m lt un of beats = absurd (omega (arith, lt))
-  none_beats (suc fuel) n m lt un of beats = un.1 m (has m (of, λ l all b.
-      let smaller : l.arrival + l.rides < fuel =
-      (let a = b.0 in let r = b.1 in elim b.2 [ inl x ↦ omega (arith, a, r, x, lt) | inr x ↦ omega (arith, a, r, x, lt) ]) in
-      none_beats fuel n l smaller un all (beats_on l m n b beats))) beats
+  none_beats (suc fuel) n m lt un of beats = un.1 m (has m (
+    of,
+    λ l all b.
+        let smaller : l.arrival + l.rides < fuel =
+        (let a = b.0 in let r = b.1 in elim b.2 [ inl x ↦ omega (arith, a, r, x, lt) | inr x ↦ omega (arith, a, r, x, lt) ]) in
+        none_beats fuel n l smaller un all (beats_on l m n b beats),
+  )) beats
 
   pub same_best : (n : Numbers) → Unbeaten Of n ↔ Unbeaten Larger n
   same_best n = (

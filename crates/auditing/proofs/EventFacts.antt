@@ -49,7 +49,7 @@ module _ (table : Table) (tree : Content) (k : ℕ) (items : List ℕ) (are : Ar
   difference_at i to within before here difference is at =
       let D = difference.depart in
       let stop = subst (λ (d : ℕ). IsFirstStop table tree k d (Some difference.to)) (sym at)
-          (subst (λ (x : ℕ). IsFirstStop table tree k (slice_index items i) (Some x)) (sym is) here) in
+      (subst (λ (x : ℕ). IsFirstStop table tree k (slice_index items i) (Some x)) (sym is) here) in
       record {
         event = subst (λ (d : ℕ). IsEvent table tree.source d) (sym at) (are.each (slice_index items i) (Contains-get_or items i 0 within));
         within = stop.0;
