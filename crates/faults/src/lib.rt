@@ -3,9 +3,9 @@
 
 mod advice;
 mod fault;
-mod lines;
+mod report;
 mod texts;
 
 pub use fault::Fault;
-pub use lines::FaultLines;
+pub use report::FaultLines;
 pub use texts::file_name;
