@@ -5,3 +5,4 @@ pub mod Choosing
 pub mod Best
 pub mod TreeSteps
 pub mod EndFacts
+pub mod ContainsFacts
