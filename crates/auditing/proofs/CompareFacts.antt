@@ -1,5 +1,6 @@
 -- Lists of the best numbers, compared.
-use Rattle.std.proofs.Common.{◌≡◌, ◌↔◌, ◌⊎◌, ℕ, zero, suc, ◌<◌, ◌≤◌, Bool, true, false, IsTrue, List, [], ◌∷◌, length, get_or, filter, nat_lt, cond, Contains, AllPairs, arith, refl, sym, ◌∙◌, ap, subst, inl, inr, absurd}
+use Rattle.std.proofs.Common.{◌≡◌, ◌↔◌, ◌⊎◌, ℕ, suc, ◌<◌, ◌≤◌, Bool, true, false, IsTrue, List, [], ◌∷◌, filter, nat_lt, cond, AllPairs, arith, refl, sym, ◌∙◌, ap, subst, inl, inr}
+use Rattle.std.proofs.lemmas.Bool.{lt-ltb, ltb-true}
 use Rattle.std.proofs.lemmas.List.Kept.{AllPairs-filter}
 use Rattle.timetable.specs.declared.parts.Numbers.{Numbers}
 use Rattle.timetable.specs.Front.{AreFront}
@@ -19,6 +20,7 @@ rising_tail : (x : Numbers) (xs : List Numbers) → Rising (x ∷ xs) → Rising
 rising_tail x xs r i j d lt within = r (suc i) (suc j) d (omega (arith, lt)) (omega (arith, within))
 
 rising_head : (x : Numbers) (xs : List Numbers) → Rising (x ∷ xs) → (n : Numbers) → IsIn n xs → x.rides < n.rides
+rising_head x [] r n h = absurd h
 rising_head x (y ∷ ys) r n (inl e) = subst (λ (m : Numbers). x.rides < m.rides) (sym e) (r 0 1 x (omega arith) (omega arith))
 rising_head x (y ∷ ys) r n (inr later) =
     let one : x.rides < y.rides = r 0 1 x (omega arith) (omega arith) in
@@ -30,28 +32,26 @@ same_list : (xs ys : List Numbers) → Rising xs → Rising ys → ((n : Numbers
 same_list [] [] rx ry there back = refl
 same_list [] (y ∷ ys) rx ry there back = absurd (back y (inl refl))
 same_list (x ∷ xs) [] rx ry there back = absurd (there x (inl refl))
-same_list (x ∷ xs) (y ∷ ys) rx ry there back = go (there x (inl refl)) (back y (inl refl)) where
-  tails : x ≡ y → xs ≡ ys
-  tails e = same_list xs ys (rising_tail x xs rx) (rising_tail y ys ry)
-      (λ n in'. elim (there n (inr in')) [
-        | inl is ↦ absurd (let lt = rising_head x xs rx n in' in let s : n.rides ≡ x.rides = ap (λ (m : Numbers). m.rides) (is ∙ sym e) in omega (arith, lt, s))
-        | inr later ↦ later
-      ])
-      (λ n in'. elim (back n (inr in')) [
-        | inl is ↦ absurd (let lt = rising_head y ys ry n in' in let s : n.rides ≡ y.rides = ap (λ (m : Numbers). m.rides) (is ∙ e) in omega (arith, lt, s))
-        | inr later ↦ later
-      ])
+same_list (x ∷ xs) (y ∷ ys) rx ry there back = go (there x (inl refl)) (back y (inl refl)) (λ e.
+    same_list xs ys (rising_tail x xs rx) (rising_tail y ys ry)
+    (λ n in'. elim (there n (inr in')) [
+      | inl is ↦ absurd (let lt = rising_head x xs rx n in' in let s : n.rides ≡ x.rides = ap (λ (m : Numbers). m.rides) (is ∙ sym e) in omega (arith, lt, s))
+      | inr later ↦ later
+    ])
+    (λ n in'. elim (back n (inr in')) [
+      | inl is ↦ absurd (let lt = rising_head y ys ry n in' in let s : n.rides ≡ y.rides = ap (λ (m : Numbers). m.rides) (is ∙ e) in omega (arith, lt, s))
+      | inr later ↦ later
+    ])) where
+      joined : (x ≡ y → xs ≡ ys) → x ≡ y → ◌≡◌ {A = List Numbers} (x ∷ xs) (y ∷ ys)
+      joined tails e = ap (λ (n : Numbers). n ∷ xs) e ∙ ap (λ (l : List Numbers). y ∷ l) (tails e)
 
-  joined : x ≡ y → ◌≡◌ {A = List Numbers} (x ∷ xs) (y ∷ ys)
-  joined e = ap (λ (n : Numbers). n ∷ xs) e ∙ ap (λ (l : List Numbers). y ∷ l) (tails e)
-
-  go : (x ≡ y) ⊎ IsIn x ys → (y ≡ x) ⊎ IsIn y xs → ◌≡◌ {A = List Numbers} (x ∷ xs) (y ∷ ys)
-  go (inl e) other = joined e
-  go (inr later) (inl e) = joined (sym e)
-  go (inr later) (inr earlier) =
-      let one = rising_head y ys ry x later in
-      let two = rising_head x xs rx y earlier in
-      absurd (omega (arith, one, two))
+      go : (x ≡ y) ⊎ IsIn x ys → (y ≡ x) ⊎ IsIn y xs → (x ≡ y → xs ≡ ys) → ◌≡◌ {A = List Numbers} (x ∷ xs) (y ∷ ys)
+      go (inl e) other tails = joined tails e
+      go (inr later) (inl e) tails = joined tails (sym e)
+      go (inr later) (inr earlier) tails =
+          let one = rising_head y ys ry x later in
+          let two = rising_head x xs rx y earlier in
+          absurd (omega (arith, one, two))
 
 -- what a test lets through
 kept_here : {X : Type 0} (b : Bool) (x : X) (l : List X) → b ≡ true → IsIn x (cond b (x ∷ l) l)
@@ -88,12 +88,10 @@ filter_passes_in p n (x ∷ xs) h = elim (kept_cases (p x) x n (filter p xs) h) 
 ]
 
 some_ride : (r : ℕ) → nat_lt 0 r ≡ true → 1 ≤ r
-some_ride zero e = absurd cc
-some_ride (suc r) e = omega arith
+some_ride r e = ltb-true 0 r e
 
 has_ride : (r : ℕ) → 1 ≤ r → nat_lt 0 r ≡ true
-has_ride zero lt = absurd (omega (arith, lt))
-has_ride (suc r) lt = refl
+has_ride r lt = lt-ltb 0 r lt
 
 abbrev pub is_ridden : Numbers → Bool
 is_ridden n = nat_lt 0 n.rides
@@ -115,13 +113,13 @@ module _ (table : Table) (tree : Content) (k t d : ℕ) (asked found : List Numb
   same_of agrees = same_list (ridden asked) (ridden found)
       (AllPairs-filter (λ a b. a.rides < b.rides) is_ridden asked best.rising) (AllPairs-filter (λ a b. a.rides < b.rides) is_ridden found front.rising)
       (λ n in'.
-          let some = some_ride n.rides (filter_passes_in is_ridden n asked in') in
-          let un = (agrees n some).0 (best.each n (in_contains n asked (filter_in is_ridden n asked in'))) in
-          in_filter is_ridden n found (contains_in n found (front.all n un)) (has_ride n.rides some))
+      let some = some_ride n.rides (filter_passes_in is_ridden n asked in') in
+      let un = (agrees n some).0 (best.each n (in_contains n asked (filter_in is_ridden n asked in'))) in
+      in_filter is_ridden n found (contains_in n found (front.all n un)) (has_ride n.rides some))
       (λ n in'.
-          let some = some_ride n.rides (filter_passes_in is_ridden n found in') in
-          let un = (agrees n some).1 (front.each n (in_contains n found (filter_in is_ridden n found in'))) in
-          in_filter is_ridden n asked (contains_in n asked (best.all n un)) (has_ride n.rides some))
+      let some = some_ride n.rides (filter_passes_in is_ridden n found in') in
+      let un = (agrees n some).1 (front.each n (in_contains n found (filter_in is_ridden n found in'))) in
+      in_filter is_ridden n asked (contains_in n asked (best.all n un)) (has_ride n.rides some))
 
   pub compared : (yes' : Bool) → IsTrue yes' ↔ (ridden asked ≡ ridden found) → IsTrue yes' ↔ Agrees table tree k d t
   compared yes' is = (λ h. agree_of (is.0 h), λ h. is.1 (same_of h))

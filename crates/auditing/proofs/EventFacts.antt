@@ -1,11 +1,12 @@
 -- Events, found by their index, and the answers at them.
-use Rattle.std.proofs.Common.{◌≡◌, ◌<◌, ◌≤◌, ◌+◌, ℕ, zero, suc, List, Option, None, Some, length, slice_index, arith, refl, ap, sym, subst, inl, inr, absurd, ◌-◌}
+use Rattle.std.proofs.Common.{◌≡◌, ◌<◌, ◌≤◌, ◌+◌, ℕ, zero, suc, List, None, Some, length, slice_index, arith, refl, ap, sym, subst, inl, inr, ◌-◌}
 use Rattle.std.specs.List.Sorted.{IsStrictlyIncreasing}
 use Rattle.std.proofs.lemmas.Bool.{cases_lt}
 use Rattle.std.proofs.lemmas.List.Elements.{Contains-get_or, at_from_Contains}
-use Rattle.timetable.specs.Table.{Table}
+use Rattle.timetable.specs.Table.{IsTable, Table}
 use Rattle.pattern_tree.specs.Content.{Content}
 use Rattle.rounds.specs.Events.{AreEvents, IsEvent}
+use Rattle.pattern_building.proofs.CompleteFacts.{event_early}
 use Rattle.auditing.specs.Audits.{AgreesAt, IsFirstDifference}
 use Rattle.auditing.specs.Comparing.{IsFirstStop}
 use Rattle.auditing.specs.declared.auditing.Difference.{Difference}
@@ -60,3 +61,8 @@ module _ (table : Table) (tree : Content) (k : ℕ) (items : List ℕ) (are : Ar
             subst (λ (x : ℕ). AgreesAt table tree k x) f.2 (before f.0 (earlier items i f.0 are.rising f.1 lower));
         before = stop.2;
       }
+
+-- no event is later than a moment at which one may be asked to leave
+pub early_at : (table : Table) (s : ℕ) (items : List ℕ) (i : ℕ) → IsTable table → AreEvents table s items → i < length items
+    → slice_index items i ≤ 4_000_000_000
+early_at table s items i valid are within = event_early table s (slice_index items i) valid (are.each (slice_index items i) (Contains-get_or items i 0 within))

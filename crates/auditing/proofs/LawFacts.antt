@@ -1,10 +1,10 @@
 -- If answers agree at each event, they agree at each moment.
-use Rattle.std.proofs.Common.{◌≡◌, ◌↔◌, ◌⊎◌, ℕ, ◌+◌, ◌<◌, ◌≤◌, List, [], ◌∷◌, Option, None, Some, length, Contains, IsSomeAnd, arith, refl, sym, subst, inl, inr, le_trans, absurd}
+use Rattle.std.proofs.Common.{◌≡◌, ℕ, ◌+◌, ◌<◌, ◌≤◌, List, [], ◌∷◌, Option, None, length, IsSomeAnd, arith, refl, sym, subst, inl, inr, le_trans}
 use Rattle.std.proofs.lemmas.Bool.{cases_lt}
 use Rattle.timetable.specs.declared.parts.Leg.{Leg}
 use Rattle.timetable.specs.declared.parts.Numbers.{Numbers}
 use Rattle.timetable.specs.Front.{AreFront}
-use Rattle.timetable.specs.Journeys.{Beats, Journey, Reaches, Unbeaten, foot, pattern}
+use Rattle.timetable.specs.Journeys.{Journey, Reaches, Unbeaten, foot}
 use Rattle.timetable.specs.Table.{Table, stops_of}
 use Rattle.timetable.proofs.Taken.{journey_earlier, the_some}
 use Rattle.pattern_tree.specs.Content.{Content}
@@ -15,10 +15,10 @@ use Rattle.auditing.specs.Audits.{IsFirstDifference}
 
 -- numbers that can be reached at moments: those of one ride or more at some event from the moment on, and at each earlier moment; on
 -- foot one is there no later if one leaves earlier
-record IsTimed (Event : ℕ → Type 0) (P : ℕ → Numbers → Type 0) : Type 0 where
-  own : (d : ℕ) (n : Numbers) → 1 ≤ n.rides → P d n → (e : ℕ) × Event e × (d ≤ e) × P e n
-  lower : (d e : ℕ) (n : Numbers) → d ≤ e → 1 ≤ n.rides → P e n → P d n
-  on_foot : (d e : ℕ) (n : Numbers) → d ≤ e → n.rides ≡ 0 → P e n → (m : Numbers) × P d m × (m.arrival ≤ n.arrival) × (m.rides ≡ 0)
+pub record IsTimed (Event : ℕ → Type 0) (P : ℕ → Numbers → Type 0) : Type 0 where
+  pub own : (d : ℕ) (n : Numbers) → 1 ≤ n.rides → P d n → (e : ℕ) × Event e × (d ≤ e) × P e n
+  pub lower : (d e : ℕ) (n : Numbers) → d ≤ e → 1 ≤ n.rides → P e n → P d n
+  pub on_foot : (d e : ℕ) (n : Numbers) → d ≤ e → n.rides ≡ 0 → P e n → (m : Numbers) × P d m × (m.arrival ≤ n.arrival) × (m.rides ≡ 0)
 
 module _ (Event : ℕ → Type 0) (P Q : ℕ → Numbers → Type 0) (p : IsTimed Event P) (q : IsTimed Event Q)
     (there : (d : ℕ) (n : Numbers) → n.rides ≡ 0 → P d n → Q d n) (back : (d : ℕ) (n : Numbers) → n.rides ≡ 0 → Q d n → P d n)

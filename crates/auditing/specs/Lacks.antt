@@ -1,5 +1,5 @@
 -- To which stops a tree may lack patterns. Only private clauses cite these words.
-use Rattle.std.specs.Prelude.{◌≡◌, ◌×◌, ℕ, Bool, true, false, List, length, slice_index_or}
+use Rattle.std.specs.Prelude.{◌≡◌, ℕ, Bool, true, false, List, length, slice_index_or}
 use Rattle.std.specs.List.{Contains}
 use Rattle.timetable.specs.Table.{Table}
 use Rattle.pattern_tree.specs.Forest.{Pair}

@@ -2,23 +2,47 @@
 
 ghost use Rattle.std.specs.Prelude.{◌<◌, ◌≤◌, IfOk};
 ghost use Rattle.pattern_tree.specs.Content.{longest};
+ghost use Rattle.rounds.specs.Scratch.{IsAlike, IsMadeFor, rides_of};
 ghost use Rattle.timetable.specs.Table.{stops_of};
 ghost use Rattle.auditing.specs.Audits.{IsFirstDifference};
+ghost use Rattle.auditing.specs.Comparing.{IsFirstStop};
+ghost use Rattle.auditing.specs.Lacks.{AgreeUnmarked};
 
-use crate::comparing::Compared;
-use crate::lacking::lacking;
+use crate::comparing::first_stop;
+use crate::lacking::{has_mark, lacking_stops};
 use direct_connections::Network;
 use pattern_query::Patterns;
 use rounds::Scratch;
 use std::alloc::{AllocError, Global};
 use std::sync::Arc;
-use timetable::{Rides, StopId};
+use timetable::{LATEST_MOMENT, Rides, StopId};
 
 /// The stop to which, and the moment at which, the answers from a tree differ from those of the timetable.
 #[derive(Clone, Copy, Debug, PartialEq, Eq)]
 pub struct Difference {
     pub to: StopId,
     pub depart: u32,
+}
+
+// The first stop to which the answers at an event differ, by a run of the rounds there.
+fn first_at(
+    alloc: Global,
+    network: &Network,
+    patterns: &Patterns,
+    scratch: &mut Scratch,
+    depart: u32,
+    marks: &[bool],
+) -> Result<Option<StopId>, AllocError>
+    requires table { IsMadeFor scratch.old network.now }
+    requires source { patterns.now.source < stops_of network.now }
+    requires early { depart ≤ LATEST_MOMENT }
+    ensures same { IsAlike scratch.old scratch.new }
+    ensures first { AgreeUnmarked network.now patterns.now (rides_of scratch.old) marks.now
+        → IfOk result (IsFirstStop network.now patterns.now (rides_of scratch.old) depart) }
+{
+    let rides = scratch.rides();
+    let view = scratch.run(network.timetable(), patterns.source(), depart)?;
+    first_stop(alloc, network, patterns, rides, &view, depart, marks)
 }
 
 /// Where the answers from a source's tree, of one ride or more, differ first from the best numbers of all journeys of at most `rides`
@@ -40,21 +64,14 @@ pub fn first_difference(
     let source = patterns.source();
     let lines = Arc::try_clone(network.shared_lines())?;
     let mut scratch = Scratch::over(alloc, table, lines, rides)?;
-    let marks = lacking(alloc, table, patterns, &mut scratch)?;
-    if !marks.contains(&true) {
+    let marks = lacking_stops(alloc, table, patterns, &mut scratch)?;
+    if !has_mark(&marks) {
         return Ok(None);
     }
     let events = scratch.departures(alloc, table, source)?;
     for depart in &events {
-        let view = scratch.run(table, source, *depart)?;
-        let compared = Compared {
-            network,
-            patterns,
-            rides,
-            view,
-            depart: *depart,
-        };
-        if let Some(to) = compared.first_stop(alloc, &marks)? {
+        let found = first_at(alloc, network, patterns, &mut scratch, *depart, &marks)?;
+        if let Some(to) = found {
             return Ok(Some(Difference {
                 to,
                 depart: *depart,

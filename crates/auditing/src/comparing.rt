@@ -15,19 +15,6 @@ use rounds::{RoundView, points};
 use std::alloc::{AllocError, Global};
 use timetable::{LATEST_MOMENT, Numbers, Rides, StopId};
 
-/// What is compared, and at which moment: the answers from the patterns of a source, and those of the rounds from it.
-#[derive(Clone, Copy)]
-pub(crate) struct Compared<'a> {
-    pub(crate) network: &'a Network,
-    pub(crate) patterns: &'a Patterns,
-    pub(crate) rides: Rides,
-    pub(crate) view: RoundView<'a>,
-    pub(crate) depart: u32,
-    pub(crate) ghost known: { patterns.now.source < stops_of network.now },
-    pub(crate) ghost early: { depart ≤ LATEST_MOMENT },
-    pub(crate) ghost right: { AreRounds network.now patterns.now.source depart rides (rounds_of view) },
-}
-
 // The numbers of the points of one ride or more.
 fn ridden_points(alloc: Global, points: &[Point]) -> Result<Vec<Numbers>, AllocError>
     ensures { IfOk result (λ found. found.items ≡ ridden (map numbers points.now)) }
@@ -67,42 +54,54 @@ fn is_marked(marks: &[bool], stop: usize) -> bool
     marks.get(stop).copied().unwrap_or(true)
 }
 
-impl Compared<'_> {
-    // Whether the answers to a stop agree.
-    fn agrees(&self, alloc: Global, to: StopId) -> Result<bool, AllocError>
-        requires { to < stops_of self.now.network.now }
-        ensures { IfOk result (λ agrees. IsTrue agrees
-            ↔ Agrees self.now.network.now self.now.patterns.now self.now.rides self.now.depart to) }
-    {
-        let asked = ask(self.network, self.patterns, to, self.depart);
-        let asked = ridden_points(alloc, asked.points())?;
-        let found = points(
-            self.network.timetable(),
-            &self.view,
-            self.patterns.source(),
-            to,
-            self.depart,
-            self.rides,
-        );
-        let found = ridden_numbers(alloc, found.as_slice())?;
-        Ok(are_equal(asked.as_slice(), found.as_slice()))
-    }
+// Whether the answers to a stop at a moment agree: those from the patterns of a source, and those of the rounds from it.
+fn agree(
+    alloc: Global,
+    network: &Network,
+    patterns: &Patterns,
+    rides: Rides,
+    view: &RoundView<'_>,
+    depart: u32,
+    to: StopId,
+) -> Result<bool, AllocError>
+    requires from { patterns.now.source < stops_of network.now }
+    requires to { to < stops_of network.now }
+    requires early { depart ≤ LATEST_MOMENT }
+    requires rounds { AreRounds network.now patterns.now.source depart rides (rounds_of view.now) }
+    ensures { IfOk result (λ agree. IsTrue agree ↔ Agrees network.now patterns.now rides depart to) }
+{
+    let source = patterns.source();
+    let asked = ask(network, patterns, to, depart);
+    let asked = ridden_points(alloc, asked.points())?;
+    let found = points(network.timetable(), view, source, to, depart, rides);
+    let found = ridden_numbers(alloc, found.as_slice())?;
+    Ok(are_equal(asked.as_slice(), found.as_slice()))
+}
 
-    /// The first stop to which the answers differ, of those that are marked; to the others they agree. It fails only if memory runs out.
-    pub(crate) fn first_stop(
-        &self,
-        alloc: Global,
-        marks: &[bool],
-    ) -> Result<Option<StopId>, AllocError>
-        ensures { AgreeUnmarked self.now.network.now self.now.patterns.now self.now.rides marks.now
-            → IfOk result (IsFirstStop self.now.network.now self.now.patterns.now self.now.rides self.now.depart) }
-    {
-        for number in 0..self.network.timetable().stops() {
-            let stop = StopId::new(number as u16);
-            if is_marked(marks, number) && !self.agrees(alloc, stop)? {
-                return Ok(Some(stop));
-            }
+/// The first stop to which the answers at the moment differ, of those that are marked; to the others they agree. The rounds are those from
+/// the patterns' source at that moment. It fails only if memory runs out.
+pub(crate) fn first_stop(
+    alloc: Global,
+    network: &Network,
+    patterns: &Patterns,
+    rides: Rides,
+    view: &RoundView<'_>,
+    depart: u32,
+    marks: &[bool],
+) -> Result<Option<StopId>, AllocError>
+    requires from { patterns.now.source < stops_of network.now }
+    requires early { depart ≤ LATEST_MOMENT }
+    requires rounds { AreRounds network.now patterns.now.source depart rides (rounds_of view.now) }
+    ensures { AgreeUnmarked network.now patterns.now rides marks.now
+        → IfOk result (IsFirstStop network.now patterns.now rides depart) }
+{
+    for number in 0..network.timetable().stops() {
+        let stop = StopId::new(number as u16);
+        if is_marked(marks, number)
+            && !agree(alloc, network, patterns, rides, view, depart, stop)?
+        {
+            return Ok(Some(stop));
         }
-        Ok(None)
     }
+    Ok(None)
 }

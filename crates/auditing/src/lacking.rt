@@ -1,6 +1,6 @@
 //! Which stops a tree may lack patterns to, by the tree that is built for its source.
 
-ghost use Rattle.std.specs.Prelude.{◌≡◌, ◌<◌, ◌≤◌, ℕ, IfOk, false};
+ghost use Rattle.std.specs.Prelude.{◌≡◌, ◌<◌, ◌≤◌, ℕ, IfOk, false, length};
 ghost use Rattle.timetable.specs.Table.{stops_of};
 ghost use Rattle.rounds.specs.Scratch.{IsAlike, IsMadeFor, rides_of};
 ghost use Rattle.pattern_tree.specs.Content.{longest};
@@ -32,16 +32,29 @@ impl Visitor for Lacking<'_> {
     }
 }
 
+/// Whether a stop is marked.
+pub(crate) fn has_mark(marks: &[bool]) -> bool
+    ensures { result ≡ false → (t : ℕ) → t < length marks.now → is_marked marks.now t ≡ false }
+{
+    for mark in marks {
+        if *mark {
+            return true;
+        }
+    }
+    false
+}
+
 // The same mark for each stop.
 fn marks_of(alloc: Global, stops: usize, marked: bool) -> Result<Vec<bool>, AllocError>
-    ensures { IfOk result (λ marks. (t : ℕ) → is_marked marks.items t ≡ false → marked ≡ false) }
+    ensures size { IfOk result (λ marks. length marks.items ≡ stops) }
+    ensures same { IfOk result (λ marks. (t : ℕ) → is_marked marks.items t ≡ false → marked ≡ false) }
 {
     Ok(vec![in alloc; marked; stops]?)
 }
 
 /// Marks the stops to which the patterns may lack one of a best journey: those at which a pair ends of the tree that is built for the
 /// source, but that the patterns don't have. If that tree would be too large, each stop is marked. It fails only if memory runs out.
-pub(crate) fn lacking(
+pub(crate) fn lacking_stops(
     alloc: Global,
     table: &Timetable,
     patterns: &Patterns,
@@ -50,6 +63,7 @@ pub(crate) fn lacking(
     requires table { IsMadeFor scratch.old table.now }
     requires source { patterns.now.source < stops_of table.now }
     ensures same { IsAlike scratch.old scratch.new }
+    ensures size { IfOk result (λ marks. length marks.items ≡ stops_of table.now) }
     ensures agree { longest patterns.now.pairs ≤ rides_of scratch.old
         → IfOk result (λ marks. AgreeUnmarked table.now patterns.now (rides_of scratch.old) marks.items) }
 {
