@@ -131,19 +131,18 @@ fn opened_writer<R: Wait>(
     alloc: Global,
     table: &Arc<Timetable>,
     rides: Rides,
-    trees: Vec<PatternTree>,
+    trees: &[SharedPatterns],
     readers: usize,
 ) -> Result<Writer, AllocError>
     requires readers { (0 < readers) × (readers ≤ 64) }
     ensures form { IfOk result (λ w. w.origin.form ≡ form_of (arc_value table.now) rides) }
-    ensures trees { IfOk result (λ w. AllZip IsSameTree trees.items w.told.list) }
+    ensures trees { IfOk result (λ w. w.told.list ≡ trees.now) }
     ensures opened { IfOk result (λ w. (w.origin.opened ≡ w.told) × (w.halted ≡ false)) }
 {
-    let trees = shared_trees(alloc, trees)?;
-    let Some((history, told)) = list_of(&trees) else {
+    let Some((history, told)) = list_of(trees) else {
         return Err(AllocError);
     };
-    let (copies, origin) = opened_copies(rt, alloc, table, rides, &told, &trees, readers)?;
+    let (copies, origin) = opened_copies(rt, alloc, table, rides, &told, trees, readers)?;
     Ok(Writer::new(copies, history, told, origin))
 }
 
@@ -161,9 +160,35 @@ fn seats(alloc: Global, writer: &mut Writer, readers: usize) -> Result<Vec<Reade
     Ok(seats)
 }
 
-/// Opens a board for the trees of that timetable and of journeys of at most `rides` rides, with those that are stored already, and
-/// with so many readers. All that publishing and looking need is made here. It fails where memory runs out, or where a reader
+/// Opens a board for the trees of that timetable and of journeys of at most `rides` rides, with those that are stored already, as the board
+/// shows them, and with so many readers. All that publishing and looking need is made here. It fails if memory runs out, or if a reader
 /// finds no place; `rt` is for closing the board then.
+pub fn open_shared<R: Wait>(
+    alloc: Global,
+    rt: &R,
+    table: &Arc<Timetable>,
+    rides: Rides,
+    trees: Vec<SharedPatterns>,
+    readers: usize,
+) -> Result<(Writer, Vec<Reader>), AllocError>
+    requires readers { (0 < readers) × (readers ≤ 64) }
+    ensures form { IfOk result (λ r. r.0.origin.form ≡ form_of (arc_value table.now) rides) }
+    ensures trees { IfOk result (λ r. r.0.told.list ≡ trees.items) }
+    ensures opened { IfOk result (λ r. (r.0.origin.opened ≡ r.0.told) × (r.0.halted ≡ false)) }
+    ensures count { IfOk result (λ r. length r.1.items ≡ readers) }
+    ensures each { IfOk result (λ r. All (λ reader. reader ≡ record { origin = r.0.origin; told = r.0.told }) r.1.items) }
+{
+    let mut writer = opened_writer(rt, alloc, table, rides, &trees, readers)?;
+    match seats(alloc, &mut writer, readers) {
+        Ok(readers) => Ok((writer, readers)),
+        Err(fault) => {
+            writer.close(rt);
+            Err(fault)
+        }
+    }
+}
+
+/// The same, of trees as a store has them.
 pub fn open<R: Wait>(
     alloc: Global,
     rt: &R,
@@ -179,12 +204,6 @@ pub fn open<R: Wait>(
     ensures count { IfOk result (λ r. length r.1.items ≡ readers) }
     ensures each { IfOk result (λ r. All (λ reader. reader ≡ record { origin = r.0.origin; told = r.0.told }) r.1.items) }
 {
-    let mut writer = opened_writer(rt, alloc, table, rides, trees, readers)?;
-    match seats(alloc, &mut writer, readers) {
-        Ok(readers) => Ok((writer, readers)),
-        Err(fault) => {
-            writer.close(rt);
-            Err(fault)
-        }
-    }
+    let shared = shared_trees(alloc, trees)?;
+    open_shared(alloc, rt, table, rides, shared, readers)
 }

@@ -1,44 +1,16 @@
 //! The patterns of a source, by the stops at which they end.
 
-ghost use Rattle.std.specs.Prelude.{◌≡◌, ◌↔◌, IfOk, IsTrue, List, map};
+ghost use Rattle.std.specs.Prelude.{◌≡◌, ◌↔◌, IfOk, IsTrue, List};
 ghost use Rattle.std.specs.List.{Contains};
 ghost use Rattle.std.specs.List.Sorted.{IsPermutation};
 ghost use Rattle.pattern_tree.specs.Forest.{Step};
-ghost use Rattle.pattern_query.specs.Patterns.{IsFirstOther, IsListed, path_of};
+ghost use Rattle.pattern_query.specs.Patterns.{IsFirstOther, paths_of};
 
-use arrayvec::ArrayVec;
-use pattern_tree::{PatternTree, Visitor};
+use crate::packing::{Beginning, Pattern, pack_level, rides_of};
+use pattern_tree::PatternTree;
 use std::alloc::{AllocError, Allocator, Global};
 use std::marker::Model;
 use timetable::StopId;
-
-/// A pattern: the stops of boarding and alighting, ride by ride, and a stop at which it ends.
-#[derive(Drop)]
-pub(crate) struct Pattern {
-    pub(crate) path: ArrayVec<(StopId, StopId), 8>,
-    pub(crate) end: StopId,
-}
-
-// The patterns of a tree so far, and whether memory was refused for one.
-#[derive(Drop)]
-struct Listed<A: Allocator> {
-    patterns: Vec<Pattern, A>,
-    refused: bool,
-}
-
-impl<A: Allocator> Visitor for Listed<A> {
-    ghost shows = { IsListed };
-
-    fn visit(&mut self, path: &[(StopId, StopId)], end: StopId) {
-        let mut steps = ArrayVec::new();
-        for step in path {
-            steps.push(*step);
-        }
-        if self.patterns.push(Pattern { path: steps, end }).is_err() {
-            self.refused = true;
-        }
-    }
-}
 
 // The index of the first pattern that doesn't end at the stop, or how many patterns there are. Few end at one stop, and they lie
 // side by side: a look at each takes less time than a binary search among all that end at later stops.
@@ -60,11 +32,19 @@ fn are_equal(one: &[(StopId, StopId)], other: &[(StopId, StopId)]) -> bool
     one == other
 }
 
-/// The patterns of a source's tree, by the stops at which they end: the form of a tree in which it is asked. A question reads the
-/// patterns that end at its stop, and no others.
+/// The patterns that end at a stop, and the beginnings that have their rides.
+#[derive(Clone, Copy)]
+pub(crate) struct Ending<'a> {
+    pub(crate) beginnings: &'a [Beginning],
+    pub(crate) patterns: &'a [Pattern],
+}
+
+/// The patterns of a source's tree, by the stops at which they end: a tree as it is asked. Beginnings that patterns share are kept once, as
+/// in the tree. A question reads the patterns that end at its stop, and their beginnings.
 #[derive(Drop)]
 pub struct Patterns<A: Allocator = Global> {
     source: StopId,
+    beginnings: Vec<Beginning, A>,
     by_end: Vec<Pattern, A>,
 }
 
@@ -74,33 +54,12 @@ impl<A: Allocator> Model for Patterns<A> {
 
     ghost Value = { Content };
 
-    ghost view = { λ p. record { source = p.source; pairs = pairs_of p.by_end.items } };
+    ghost view = { λ p. record { source = p.source; pairs = pairs_of p.beginnings.items p.by_end.items } };
 
     ghost invariant = { λ p. AreByEnd p.by_end.items };
 }
 
 impl<A: Allocator> Patterns<A> {
-    /// The patterns of a tree, in the memory of `alloc`. The only fault is that memory ran out.
-    pub fn of<B: Allocator>(alloc: A, tree: &PatternTree<B>) -> Result<Patterns<A>, AllocError>
-        ensures source { IfOk result (λ patterns. patterns.source ≡ tree.now.source) }
-        ensures pairs { IfOk result (λ patterns. IsPermutation tree.now.pairs patterns.pairs) }
-    {
-        let mut listed = Listed {
-            patterns: Vec::with_capacity(alloc, tree.ends() as usize)?,
-            refused: false,
-        };
-        tree.walk(&mut listed);
-        if listed.refused {
-            return Err(AllocError);
-        }
-        let mut by_end = listed.patterns;
-        by_end.sort_unstable_by_key(|pattern| pattern.end);
-        Ok(Patterns {
-            source: tree.source(),
-            by_end,
-        })
-    }
-
     /// The stop at which the patterns' journeys begin.
     pub fn source(&self) -> StopId
         ensures { result ≡ self.now.source }
@@ -109,23 +68,46 @@ impl<A: Allocator> Patterns<A> {
     }
 
     /// The patterns that end at a stop.
-    pub(crate) fn ending_at(&self, end: StopId) -> &[Pattern]
-        ensures { (path : List Step) → Contains (map path_of result.now) path ↔ Contains self.now.pairs (path, end) }
+    pub(crate) fn ending_at(&self, end: StopId) -> Ending<'_>
+        ensures { (path : List Step)
+            → Contains (paths_of result.beginnings.now result.patterns.now) path ↔ Contains self.now.pairs (path, end) }
     {
         let from = self.by_end.partition_point(|pattern| pattern.end < end);
         let rest = &self.by_end[from..];
-        &rest[..first_other(rest, end)]
+        Ending {
+            beginnings: self.beginnings.as_slice(),
+            patterns: &rest[..first_other(rest, end)],
+        }
     }
 
     /// Whether there is a pattern of this path that ends at the stop.
     pub fn contains(&self, path: &[(StopId, StopId)], end: StopId) -> bool
         ensures { IsTrue result ↔ Contains self.now.pairs (path.now, end) }
     {
-        for pattern in self.ending_at(end) {
-            if are_equal(&pattern.path, path) {
+        let ending = self.ending_at(end);
+        for pattern in ending.patterns {
+            if are_equal(&rides_of(ending.beginnings, pattern.last), path) {
                 return true;
             }
         }
         false
+    }
+}
+
+impl<A: Allocator + Clone> Patterns<A> {
+    /// The patterns of a tree, in the memory of `alloc`. The only fault is that memory ran out.
+    pub fn of<B: Allocator>(alloc: A, tree: &PatternTree<B>) -> Result<Patterns<A>, AllocError>
+        ensures source { IfOk result (λ patterns. patterns.source ≡ tree.now.source) }
+        ensures pairs { IfOk result (λ patterns. IsPermutation tree.now.pairs patterns.pairs) }
+    {
+        let mut beginnings = Vec::with_capacity(alloc.clone()?, tree.nodes() as usize)?;
+        let mut by_end = Vec::with_capacity(alloc, tree.ends() as usize)?;
+        pack_level(tree.first(), 0, &mut beginnings, &mut by_end)?;
+        by_end.sort_unstable_by_key(|pattern| pattern.end);
+        Ok(Patterns {
+            source: tree.source(),
+            beginnings,
+            by_end,
+        })
     }
 }

@@ -1,15 +1,15 @@
 //! The search of a source's patterns for the best journeys to a stop.
 
-ghost use Rattle.std.specs.Prelude.{◌≡◌, ◌+◌, ◌<◌, ◌≤◌, ◌++◌, ◌∷◌, [], map, length, IfSome, IfNone};
+ghost use Rattle.std.specs.Prelude.{◌≡◌, ◌+◌, ◌<◌, ◌≤◌, ◌++◌, ◌∷◌, [], length, IfSome, IfNone};
 ghost use Rattle.timetable.specs.Table.{IsTable};
 ghost use Rattle.timetable.specs.Journeys.{arrives, pattern};
-ghost use Rattle.pattern_query.specs.Patterns.{path_of};
+ghost use Rattle.pattern_query.specs.Patterns.{paths_of};
 ghost use Rattle.pattern_query.specs.Way.{Earliest, Boards, Exactly, EmptyOrIn, HasFront, hop, is_some};
 ghost use Rattle.pattern_query.specs.BestSoFar.{Searched, AreThere};
 
 use crate::answer::{Legs, Point};
 use crate::best_so_far::{is_there_by, offer};
-use crate::patterns::Pattern;
+use crate::packing::{Beginning, Pattern, rides_of};
 use direct_connections::Network;
 use timetable::{LATEST_MOMENT, Leg, StopId};
 
@@ -113,16 +113,22 @@ impl Search<'_> {
         self.arrive(at, since, &legs, points);
     }
 
-    /// Puts in the journeys from the source to the stop on foot, and along the paths of the patterns.
-    pub(crate) fn run(&self, patterns: &[Pattern], points: &mut [Option<Point>])
+    /// Puts in the journeys from the source to the stop on foot, and along the paths of the patterns. The beginnings have their rides.
+    pub(crate) fn run(
+        &self,
+        beginnings: &[Beginning],
+        patterns: &[Pattern],
+        points: &mut [Option<Point>],
+    )
         requires early { self.now.depart ≤ LATEST_MOMENT }
         requires nine { length points.old ≡ 9 }
         ensures { Searched self.now.network.now self.now.source self.now.to self.now.depart
-            (EmptyOrIn (map path_of patterns.now)) points.old points.new }
+            (EmptyOrIn (paths_of beginnings.now patterns.now)) points.old points.new }
     {
         self.follow(&[], points);
         for pattern in patterns {
-            self.follow(pattern.path.as_slice(), points);
+            let path = rides_of(beginnings, pattern.last);
+            self.follow(path.as_slice(), points);
         }
     }
 }

@@ -33,18 +33,18 @@ levels_at ns i n is lt =
 
 -- pairs
 
-pairs_last : (bs : List Branch) (b : Branch) → pairs (forest (bs ++ b ∷ [])) ≡ pairs (forest bs) ++ (map (ends_at (step_of b)) b.ends ++ map (under (step_of b)) (pairs b.next))
+pub pairs_last : (bs : List Branch) (b : Branch) → pairs (forest (bs ++ b ∷ [])) ≡ pairs (forest bs) ++ (map (ends_at (step_of b)) b.ends ++ map (under (step_of b)) (pairs b.next))
 pairs_last [] b = ap (λ (ps : List Pair). map (ends_at (step_of b)) b.ends ++ ps) (append-nil (map (under (step_of b)) (pairs b.next)))
 pairs_last (c ∷ bs) b =
     ap (λ (ps : List Pair). map (ends_at (step_of c)) c.ends ++ (map (under (step_of c)) (pairs c.next) ++ ps)) (pairs_last bs b)
     ∙ ap (λ (ps : List Pair). map (ends_at (step_of c)) c.ends ++ ps) (sym (append_assoc (map (under (step_of c)) (pairs c.next)) (pairs (forest bs)) _))
     ∙ sym (append_assoc (map (ends_at (step_of c)) c.ends) (map (under (step_of c)) (pairs c.next) ++ pairs (forest bs)) _)
 
-after_ends : (path : List Step) (s : Step) (es : List ℕ) → map (after path) (map (ends_at s) es) ≡ map (ending (path ++ s ∷ [])) es
+pub after_ends : (path : List Step) (s : Step) (es : List ℕ) → map (after path) (map (ends_at s) es) ≡ map (ending (path ++ s ∷ [])) es
 after_ends path s [] = refl
 after_ends path s (e ∷ es) = ap (λ (ps : List Pair). (path ++ s ∷ [], e) ∷ ps) (after_ends path s es)
 
-after_under : (path : List Step) (s : Step) (ps : List Pair) → map (after path) (map (under s) ps) ≡ map (after (path ++ s ∷ [])) ps
+pub after_under : (path : List Step) (s : Step) (ps : List Pair) → map (after path) (map (under s) ps) ≡ map (after (path ++ s ∷ [])) ps
 after_under path s [] = refl
 after_under path s (p ∷ ps) =
     ap (λ (q : List Step). (q, p.1) ∷ map (after path) (map (under s) ps)) (sym (append_assoc path (s ∷ []) p.0))

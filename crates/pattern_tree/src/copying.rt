@@ -13,7 +13,7 @@ pub(crate) fn copy_level<A: Allocator, B: Allocator + Clone>(
 ) -> Result<Vec<Node<B>, B>, AllocError>
     ensures { IfOk result (λ v. branches v.items ≡ branches level.now) }
 {
-    let mut copies = Vec::new(alloc.clone()?);
+    let mut copies = Vec::with_capacity(alloc.clone()?, level.len())?;
     for node in level {
         let ends = Vec::from_slice(alloc.clone()?, &node.ends)?;
         let next = copy_level(alloc, &node.next)?;

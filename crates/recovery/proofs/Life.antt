@@ -1,7 +1,6 @@
 -- A store that was opened keeps the trees that its file had.
-use Rattle.std.proofs.Common.{◌≡◌, inr, ℕ, List, sym, subst}
+use Rattle.std.proofs.Common.{◌≡◌, inr, ℕ, List, subst}
 use Rattle.disk_model.specs.Disk.{State}
-use Rattle.pattern_tree.specs.Content.{Content}
 use Rattle.section_store.specs.Going.{IsFront, IsKept, GoesOn}
 use Rattle.section_store.specs.GoingLaws.{HeldStandsForMore, GoesOnByTrees}
 use Rattle.section_store.specs.Laws.{StandsForOne}

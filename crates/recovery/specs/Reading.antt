@@ -1,5 +1,5 @@
 -- What is known of a file as it is read. Only private clauses cite these words.
-use Rattle.std.specs.Prelude.{◌<◌, ◌≡◌, ◌≢◌, ◌⊎◌, ℕ, ◌+◌, ◌^◌, Bool, true, List, ◌∷◌, ◌++◌, length, take, drop, get_or, Result, MatchResult}
+use Rattle.std.specs.Prelude.{◌<◌, ◌≡◌, ◌≢◌, ◌⊎◌, ℕ, ◌+◌, ◌^◌, Bool, true, List, [], ◌∷◌, ◌++◌, length, take, drop, get_or, Result, MatchResult}
 use Rattle.std.specs.List.{All}
 use Rattle.std.specs.Int.{to_be_bytes, w32}
 use Rattle.disk_model.specs.Disk.{Grew}
@@ -12,8 +12,10 @@ use Rattle.recovery.specs.Excerpts.{trees_of}
 use Rattle.recovery.specs.Recovery.{IsTail, IsOutside, CauseOf, StandsForNoList, store_name}
 use Rattle.recovery.specs.declared.fault.RecoverFault.{RecoverFault}
 use Rattle.recovery.specs.declared.fault.RecoverFault.TheVariants.{NotAStore, OtherTimetable, OtherRides, Damaged, Device, Memory}
-use Rattle.recovery.specs.declared.wanted.Wanted.{Wanted}
-use Rattle.recovery.specs.declared.wanted.Wanted.TheVariants as wanted
+use Rattle.recovery.specs.Keeping.{GivenAll}
+use Rattle.recovery.specs.declared.kept.Kept.{Kept}
+use Rattle.recovery.specs.declared.kept.Wanted.{Wanted}
+use Rattle.recovery.specs.declared.kept.Wanted.TheVariants as wanted
 
 -- no call of the disk failed; or memory was refused, or a call of the disk failed
 abbrev pub OnlyOutside : {T : Type 0} → Result T RecoverFault → ℕ → ℕ → Type 0
@@ -90,10 +92,24 @@ abbrev pub those : Wanted → List Content → List Content
 those wanted.All trees = trees
 those (wanted.Of stops) trees = trees_of stops.now trees
 
--- the trees of some list were read, of which so much is known, and those that are wanted were kept
-pub record IsRead (form : Form) (which : Wanted) (kept : List Content) (stored : List ℕ) (Known : List Content → Type 0) : Type 0 where
+-- a tree is added to those that are kept, if it is wanted
+pub record KeepsWanted (old : Kept) (tree : Content) (new : Kept) : Type 0 where
+  pub wanted : new.wanted ≡ old.wanted
+  pub trees : new.trees.items ≡ old.trees.items ++ those old.wanted (tree ∷ [])
+
+-- the trees of some list were read, of which so much is known, and were given to a keeper
+pub record IsRead {K : Type 0} (form : Form) (Takes : K → Content → K → Type 0) (old new : K) (stored : List ℕ) (Known : List Content → Type 0) : Type 0 where
   pub trees : List Content
-  pub kept_are : kept ≡ those which trees
+  pub given : GivenAll Takes old trees new
   pub stored_are : stored ≡ sources trees
   pub stops : All (λ tree. tree.source < stops_of form.table) trees
   pub known : Known trees
+
+-- a section was read that ends at `next`, and its tree was given to a keeper and listed
+pub record KeepsNext {K : Type 0} (form : Form) (Takes : K → Content → K → Type 0) (old new : K) (before after : List ℕ) (Honest : Type 0)
+    (rest : List ℕ) (place next : ℕ) : Type 0 where
+  pub tree : Content
+  pub taken : Takes old tree new
+  pub listed : after ≡ before ++ tree.source ∷ []
+  pub known : tree.source < stops_of form.table
+  pub found : Honest → IsFound form before rest place tree next

@@ -9,19 +9,53 @@ ghost use Rattle.section_store.specs.Lasting.{IsTrusted, IsExact};
 ghost use Rattle.section_store.specs.Sections.{IsFresh, Stands, form_of, sources};
 ghost use Rattle.section_store.specs.Store.{Holds};
 ghost use Rattle.recovery.specs.Excerpts.{IsExcerpt};
+ghost use Rattle.recovery.specs.Giving.{IsGiven};
 ghost use Rattle.recovery.specs.Opening.{IsOpening};
 ghost use Rattle.recovery.specs.Recovery.{IsLeftAlone, IsOutside, StandsForNoList, CauseOf};
 
 use crate::fault::RecoverFault;
+use crate::keeper::Keeper;
+use crate::kept::{Kept, Wanted};
 use crate::opening::open;
 use crate::recovered::Recovered;
-use crate::wanted::Wanted;
 use disk_model::Disk;
-use section_store::Step;
 use section_store::laws::trusted_trees;
+use section_store::{SectionStore, Step};
 use std::alloc::Global;
 use std::sync::Arc;
 use timetable::{Rides, StopId, Timetable};
+
+/// Opens the store of that timetable, and of journeys of at most `rides` rides, that a file holds. What the disk has is synced first. Then
+/// the bytes are read, a section at a time, and each tree is given to the keeper before the next is read. The trees are those of the list
+/// that the bytes stand for. A fresh file is begun; nothing else is written. The disk comes back with each fault, with the same bytes but
+/// where a beginning failed; the keeper may have been given some trees then.
+pub fn recover_to<D: Disk, K: Keeper>(
+    alloc: Global,
+    disk: D,
+    table: &Arc<Timetable>,
+    rides: Rides,
+    keeper: &mut K,
+) -> Result<SectionStore<D>, (RecoverFault, D)>
+    ensures given { IfOk result (λ store. IsGiven (form_of (arc_value table.now) rides) (D.honest disk) (D.state disk) K.takes keeper.old
+        keeper.new store.place store.stored (D.state store.disk)) }
+    ensures refused { D.honest disk → IfErr result
+        (λ e. IsOutside e.0 ⊎ StandsForNoList (form_of (arc_value table.now) rides) (D.state disk).read) }
+    ensures cause { D.honest disk → IfErr result (λ e. CauseOf (form_of (arc_value table.now) rides) (D.state disk).read e.0) }
+    ensures device { MatchResult result (λ store. D.failures store.disk ≡ D.failures disk)
+        (λ e. e.0 ≡ RecoverFault.Device → Grew (D.failures disk) (D.failures e.1)) }
+    ensures opening { D.honest disk → MatchResult result
+        (λ store. IsOpening (form_of (arc_value table.now) rides) (D.state disk) (D.state store.disk))
+        (λ e. IsOpening (form_of (arc_value table.now) rides) (D.state disk) (D.state e.1)) }
+    ensures written { D.honest disk → ¬ IsFresh (D.state disk).read → MatchResult result
+        (λ store. D.state store.disk ≡ after_sync (D.state disk))
+        (λ e. (D.state e.1 ≡ D.state disk) ⊎ (D.state e.1 ≡ after_sync (D.state disk))) }
+    ensures alone { D.honest disk → IfErr result (λ e. IsOutside e.0 ⊎ IsLeftAlone (D.state disk) (D.state e.1)) }
+    ensures honest { MatchResult result (λ store. D.honest disk ↔ D.honest store.disk) (λ e. D.honest disk ↔ D.honest e.1) }
+    ensures ready { IfOk result (λ store. (store.next ≡ Step.WriteBody) × (store.form ≡ form_of (arc_value table.now) rides)) }
+{
+    trusted_trees();
+    open(alloc, keeper, disk, table, rides)
+}
 
 /// Opens the store of that timetable, and of journeys of at most `rides` rides, that a file holds. What the disk has is
 /// synced first; then the bytes are read, a section at a time. A fresh file is begun; nothing else is written. The trees are
@@ -55,8 +89,18 @@ pub fn recover<D: Disk>(
     ensures stored { IfOk result (λ r. r.store.stored ≡ sources r.trees.items) }
     ensures known { IfOk result (λ r. All (λ tree. tree.source < stops_of (arc_value table.now)) r.trees.items) }
 {
-    trusted_trees();
-    open(alloc, &Wanted::All, disk, table, rides)
+    let mut kept = Kept {
+        alloc,
+        wanted: Wanted::All,
+        trees: Vec::new(alloc),
+    };
+    match recover_to(alloc, disk, table, rides, &mut kept) {
+        Ok(store) => Ok(Recovered {
+            store,
+            trees: kept.trees,
+        }),
+        Err(refused) => Err(refused),
+    }
 }
 
 /// The same, but of the trees only those of these stops are kept, in storing order, so that a question takes no memory for the others. The
@@ -86,6 +130,16 @@ pub fn recover_trees_of<D: Disk>(
     ensures honest { MatchResult result (λ r. D.honest disk ↔ D.honest r.store.disk) (λ e. D.honest disk ↔ D.honest e.1) }
     ensures ready { IfOk result (λ r. (r.store.next ≡ Step.WriteBody) × (r.store.form ≡ form_of (arc_value table.now) rides)) }
 {
-    trusted_trees();
-    open(alloc, &Wanted::Of(stops), disk, table, rides)
+    let mut kept = Kept {
+        alloc,
+        wanted: Wanted::Of(stops),
+        trees: Vec::new(alloc),
+    };
+    match recover_to(alloc, disk, table, rides, &mut kept) {
+        Ok(store) => Ok(Recovered {
+            store,
+            trees: kept.trees,
+        }),
+        Err(refused) => Err(refused),
+    }
 }

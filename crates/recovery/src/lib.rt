@@ -4,7 +4,10 @@
 mod calls;
 mod canonical;
 mod fault;
+mod found;
 mod header;
+mod keeper;
+mod kept;
 mod kind;
 pub mod laws;
 mod opening;
@@ -12,9 +15,9 @@ mod reading;
 mod recovered;
 mod section;
 mod sections;
-mod wanted;
 
-pub use calls::{recover, recover_trees_of};
+pub use calls::{recover, recover_to, recover_trees_of};
 pub use fault::RecoverFault;
+pub use keeper::{Keeper, Nobody};
 pub use kind::{FileKind, file_kind, is_begun};
 pub use recovered::Recovered;

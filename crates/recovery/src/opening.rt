@@ -1,6 +1,6 @@
 //! Opens a store.
 
-ghost use Rattle.std.specs.Prelude.{◌≡◌, ◌↔◌, ◌⊎◌, ◌≤◌, ◌<◌, OnOk, OnErr, IfOk, IfErr, IfSome, MatchResult, MatchOption, drop};
+ghost use Rattle.std.specs.Prelude.{◌≡◌, ◌↔◌, ◌⊎◌, ◌≤◌, ◌<◌, OnOk, OnErr, IfOk, IfErr, IfSome, IfNone, MatchResult, MatchOption, drop};
 ghost use Rattle.std.specs.Arc.{arc_value};
 ghost use Rattle.disk_model.specs.Disk.{after_sync, Grew};
 ghost use Rattle.std.specs.List.{All};
@@ -13,10 +13,10 @@ ghost use Rattle.recovery.specs.Opening.{IsOpening};
 ghost use Rattle.recovery.specs.Recovery.{IsLeftAlone, IsOutside, StandsForNoList, CauseOf};
 
 use crate::fault::RecoverFault;
+use crate::found::Found;
 use crate::header::first_gate;
-use crate::recovered::Recovered;
-use crate::sections::{Found, read_sections};
-use crate::wanted::Wanted;
+use crate::keeper::Keeper;
+use crate::sections::read_sections;
 use disk_model::Disk;
 use section_store::laws::{loses_nothing_in_turn, stands_for_one, syncs_lose_nothing};
 use section_store::{Form, PutFault, SectionStore, Step, begin};
@@ -25,9 +25,9 @@ use std::sync::Arc;
 use timetable::{Rides, Timetable};
 
 // Brings to the disk what it has, and reads the store; none where the file is fresh.
-fn look<D: Disk>(
+fn look<D: Disk, K: Keeper>(
     alloc: Global,
-    wanted: &Wanted<'_>,
+    keeper: &mut K,
     disk: &mut D,
     form: &Form,
 ) -> Result<Option<Found>, RecoverFault>
@@ -37,8 +37,9 @@ fn look<D: Disk>(
         ((D.state disk.new ≡ D.state disk.old) ⊎ (D.state disk.new ≡ after_sync (D.state disk.old))) }
     ensures fresh { D.honest disk.old → IfOk result (λ found. MatchOption found (IsFresh (D.state disk.old).read)
         (λ found. (¬ IsFresh (D.state disk.old).read) × IsShut (drop found.place (D.state disk.old).read))) }
-    ensures found { IfOk result (λ found. IfSome found (λ found. IsRead form.now wanted.now found.trees.items found.stored.items
+    ensures found { IfOk result (λ found. IfSome found (λ found. IsRead form.now K.takes keeper.old keeper.new found.stored.items
         (λ trees. D.honest disk.old → IsSoFar form.now (D.state disk.old).read trees found.place))) }
+    ensures untouched { IfOk result (λ found. IfNone found (keeper.new ≡ keeper.old)) }
     ensures refused { D.honest disk.old → IfErr result (IsRefusal form.now (D.state disk.old).read) }
     ensures present { IfOk result (λ found. IfSome found (λ found.
         IsSetOf (stops_of form.now.table) found.present found.stored.items)) }
@@ -56,7 +57,7 @@ fn look<D: Disk>(
         Err(fault) => Err(fault),
         Ok(gate) => match gate {
             None => Ok(None),
-            Some(start) => match read_sections(alloc, wanted, disk, start, end, form, &mut piece) {
+            Some(start) => match read_sections(alloc, keeper, disk, start, end, form, &mut piece) {
                 Err(fault) => Err(fault),
                 Ok(found) => Ok(Some(found)),
             },
@@ -75,32 +76,32 @@ fn begin_fault(fault: PutFault) -> RecoverFault
     }
 }
 
-/// Brings to the disk what it has, and opens the store; a fresh file is begun. The trees that are wanted are kept. The disk comes back with
+/// Brings to the disk what it has, and opens the store; a fresh file is begun. Each tree is given to the keeper. The disk comes back with
 /// each fault.
-pub(crate) fn open<D: Disk>(
+pub(crate) fn open<D: Disk, K: Keeper>(
     alloc: Global,
-    wanted: &Wanted<'_>,
+    keeper: &mut K,
     disk: D,
     table: &Arc<Timetable>,
     rides: Rides,
-) -> Result<Recovered<D>, (RecoverFault, D)>
-    ensures read { IfOk result (λ r. IsRead (form_of (arc_value table.now) rides) wanted.now r.trees.items r.store.stored
+) -> Result<SectionStore<D>, (RecoverFault, D)>
+    ensures read { IfOk result (λ r. IsRead (form_of (arc_value table.now) rides) K.takes keeper.old keeper.new r.stored
         (λ trees. D.honest disk → Stands (form_of (arc_value table.now) rides) (D.state disk).read trees
-        × Holds (form_of (arc_value table.now) rides) trees r.store.place r.store.stored (D.state r.store.disk))) }
+        × Holds (form_of (arc_value table.now) rides) trees r.place r.stored (D.state r.disk))) }
     ensures refused { D.honest disk → IfErr result
         (λ e. IsOutside e.0 ⊎ StandsForNoList (form_of (arc_value table.now) rides) (D.state disk).read) }
     ensures cause { D.honest disk → IfErr result (λ e. CauseOf (form_of (arc_value table.now) rides) (D.state disk).read e.0) }
-    ensures device { MatchResult result (λ r. D.failures r.store.disk ≡ D.failures disk)
+    ensures device { MatchResult result (λ r. D.failures r.disk ≡ D.failures disk)
         (λ e. e.0 ≡ RecoverFault.Device → Grew (D.failures disk) (D.failures e.1)) }
     ensures opening { D.honest disk → MatchResult result
-        (λ r. IsOpening (form_of (arc_value table.now) rides) (D.state disk) (D.state r.store.disk))
+        (λ r. IsOpening (form_of (arc_value table.now) rides) (D.state disk) (D.state r.disk))
         (λ e. IsOpening (form_of (arc_value table.now) rides) (D.state disk) (D.state e.1)) }
     ensures written { D.honest disk → ¬ IsFresh (D.state disk).read → MatchResult result
-        (λ r. D.state r.store.disk ≡ after_sync (D.state disk))
+        (λ r. D.state r.disk ≡ after_sync (D.state disk))
         (λ e. (D.state e.1 ≡ D.state disk) ⊎ (D.state e.1 ≡ after_sync (D.state disk))) }
     ensures alone { D.honest disk → IfErr result (λ e. IsOutside e.0 ⊎ IsLeftAlone (D.state disk) (D.state e.1)) }
-    ensures honest { MatchResult result (λ r. D.honest disk ↔ D.honest r.store.disk) (λ e. D.honest disk ↔ D.honest e.1) }
-    ensures ready { IfOk result (λ r. (r.store.next ≡ Step.WriteBody) × (r.store.form ≡ form_of (arc_value table.now) rides)) }
+    ensures honest { MatchResult result (λ r. D.honest disk ↔ D.honest r.disk) (λ e. D.honest disk ↔ D.honest e.1) }
+    ensures ready { IfOk result (λ r. (r.next ≡ Step.WriteBody) × (r.form ≡ form_of (arc_value table.now) rides)) }
 {
     stands_for_one();
     syncs_lose_nothing();
@@ -110,27 +111,21 @@ pub(crate) fn open<D: Disk>(
     };
     let form = Form::new(kept, rides);
     let mut disk = disk;
-    match look(alloc, wanted, &mut disk, &form) {
+    match look(alloc, keeper, &mut disk, &form) {
         Err(fault) => Err((fault, disk)),
         Ok(seen) => match seen {
             None => match begin(alloc, disk, table, rides) {
-                Ok(store) => Ok(Recovered {
-                    store,
-                    trees: Vec::new(alloc),
-                }),
+                Ok(store) => Ok(store),
                 Err(refused) => Err((begin_fault(refused.0), refused.1)),
             },
-            Some(found) => Ok(Recovered {
-                store: SectionStore::resume(
-                    alloc,
-                    disk,
-                    form,
-                    found.stored,
-                    found.present,
-                    found.place,
-                ),
-                trees: found.trees,
-            }),
+            Some(found) => Ok(SectionStore::resume(
+                alloc,
+                disk,
+                form,
+                found.stored,
+                found.present,
+                found.place,
+            )),
         },
     }
 }

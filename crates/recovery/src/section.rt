@@ -8,23 +8,24 @@ ghost use Rattle.recovery.specs.Reading.{OnlyCounted, IsBad, IsShut, IsFound};
 ghost use Rattle.recovery.specs.Recovery.{IsEnd, IsOutside};
 
 use crate::fault::RecoverFault;
+use crate::found::Found;
 use crate::reading::read_text;
 use disk_model::Disk;
 use pattern_tree::PatternTree;
 use section_store::reading_laws::sized_apart;
 use section_store::{Form, StopSet};
-use std::alloc::Global;
+use std::alloc::Allocator;
 use tree_codec::laws::texts_apart;
 use tree_codec::{CodecFault, decode};
 
 // The tree whose text that is, all of it, where it may stand behind the sources that are present; none where there is no such
 // tree.
-fn tree_in(
-    alloc: Global,
+fn tree_in<A: Allocator + Clone>(
+    alloc: A,
     text: &[u8],
     form: &Form,
     present: &StopSet,
-) -> Result<Option<PatternTree>, RecoverFault>
+) -> Result<Option<PatternTree<A>>, RecoverFault>
     ensures found { (stored : List ℕ) → IsSetOf (stops_of form.now.table) present.now stored → length text.now < 2 ^ 32
         → IfOk result (λ found. MatchOption found (IsBad form.now stored text.now)
         (λ tree. IsSection form.now text.now tree × IsNew tree.source stored)) }
@@ -58,44 +59,45 @@ fn tree_in(
 
 /// A tree that was read, and where the gate behind it stands.
 #[derive(Drop)]
-pub(crate) struct Section {
-    pub(crate) tree: PatternTree,
+pub(crate) struct Section<A: Allocator> {
+    pub(crate) tree: PatternTree<A>,
     pub(crate) end: u64,
 }
 
-/// The section at a place, the one of that number; none where the gate there is closed. Its text is read into `text`.
-pub(crate) fn next_section<D: Disk>(
-    alloc: Global,
+/// The section that comes next, its tree in the memory of `alloc`; none if the gate there is closed. Its text is read into `text`.
+pub(crate) fn next_section<D: Disk, A: Allocator + Clone>(
+    alloc: A,
     disk: &mut D,
-    place: u64,
     end: u64,
     form: &Form,
-    number: usize,
-    present: &StopSet,
+    found: &Found,
     text: &mut Vec<u8>,
-) -> Result<Option<Section>, RecoverFault>
-    requires within { place ≤ end }
+) -> Result<Option<Section<A>>, RecoverFault>
+    requires within { found.now.place ≤ end }
     requires whole { D.honest disk.old → end ≡ length (D.state disk.old).read }
+    requires set { IsSetOf (stops_of form.now.table) found.now.present found.now.stored.items }
     ensures honest { D.honest disk.old ↔ D.honest disk.new }
     ensures same { D.honest disk.old → D.state disk.new ≡ D.state disk.old }
-    ensures found { (stored : List ℕ) → IsSetOf (stops_of form.now.table) present.now stored → D.honest disk.old
-        → IfOk result (λ found. MatchOption found (IsShut (drop place (D.state disk.old).read))
-        (λ section. IsFound form.now stored (drop place (D.state disk.old).read) place section.tree section.end)) }
-    ensures ended { (stored : List ℕ) → IsSetOf (stops_of form.now.table) present.now stored → D.honest disk.old
-        → IfErr result (λ fault. IsOutside fault
-        ⊎ ((fault ≡ RecoverFault.Damaged number) × IsEnd form.now stored (drop place (D.state disk.old).read))) }
-    ensures known { IfOk result (λ found. IfSome found (λ section. section.tree.source < stops_of form.now.table)) }
-    ensures inside { IfOk result (λ found. IfSome found (λ section. (place < section.end) × (section.end ≤ end))) }
+    ensures next { D.honest disk.old → IfOk result (λ ahead. MatchOption ahead (IsShut (drop found.now.place (D.state disk.old).read))
+        (λ section. IsFound form.now found.now.stored.items (drop found.now.place (D.state disk.old).read) found.now.place section.tree
+        section.end)) }
+    ensures ended { D.honest disk.old → IfErr result (λ fault. IsOutside fault
+        ⊎ ((fault ≡ RecoverFault.Damaged (length found.now.stored.items))
+        × IsEnd form.now found.now.stored.items (drop found.now.place (D.state disk.old).read))) }
+    ensures known { IfOk result (λ ahead. IfSome ahead (λ section. section.tree.source < stops_of form.now.table)) }
+    ensures inside { IfOk result (λ ahead. IfSome ahead (λ section. (found.now.place < section.end) × (section.end ≤ end))) }
     ensures counted { OnlyCounted result (D.failures disk.old) (D.failures disk.new) }
 {
     sized_apart();
+    let place = found.place;
+    let number = found.stored.len();
     match read_text(disk, place, end, number, text) {
         Err(fault) => Err(fault),
         Ok(ahead) => {
             if !ahead {
                 return Ok(None);
             }
-            match tree_in(alloc, text, form, present) {
+            match tree_in(alloc, text, form, &found.present) {
                 Err(fault) => Err(fault),
                 Ok(read) => match read {
                     None => Err(RecoverFault::Damaged(number)),

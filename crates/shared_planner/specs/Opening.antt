@@ -1,12 +1,9 @@
 -- What an opening gives.
 use Rattle.std.specs.Prelude.{◌≡◌, ◌⊎◌, ℕ, List, false}
 use Rattle.std.specs.List.{AllZip}
-use Rattle.disk_model.specs.Disk.{State}
-use Rattle.disk_model.specs.Moments.{LeavesOnly}
 use Rattle.pattern_tree.specs.Content.{Content}
-use Rattle.section_store.specs.Lasting.{LosesNothing, StaysTrusted}
 use Rattle.section_store.specs.Sections.{Form, Stands, sources}
-use Rattle.recovery.specs.Recovery.{CauseOf, IsOutside, StandsAsBefore, StandsForNoList}
+use Rattle.recovery.specs.Recovery.{CauseOf, IsOutside, StandsForNoList}
 use Rattle.board.specs.Ties.{WriterData}
 use Rattle.board.specs.Trees.{IsSameTree}
 use Rattle.shared_planner.specs.Desk.{DeskView}

@@ -1,6 +1,6 @@
-use Rattle.std.proofs.Common.{rules, inl, inr, ◌≡◌, ◌<◌, [], List, ℕ, length, drop, refl, sym, ap, subst}
+use Rattle.std.proofs.Common.{rules, inl, inr, ◌≡◌, List, ℕ, drop, refl, sym, subst}
 use Rattle.std.specs.Arc.{arc_value}
-use Rattle.disk_model.specs.Disk.{State, after_sync}
+use Rattle.disk_model.specs.Disk.{after_sync}
 use Rattle.pattern_tree.specs.Content.{Content}
 use Rattle.section_store.specs.Sections.{Form, Stands, form_of, IsFresh}
 use Rattle.section_store.specs.Store.{Holds}
@@ -39,12 +39,12 @@ returns-in-Ok-begin-clause-read g c =
     let store = c.in-Ok-begin.store in
     let read = (g.D.Disk.state c.args.disk).read in
     let Known = λ (l : List Content). g.D.Disk.honest c.args.disk → Stands form read l × Holds form l store.place store.stored (g.D.Disk.state store.disk) in
-    subst (λ (l : List Content). IsRead form c.args.wanted.now l store.stored Known) (sym c.new.ensures.items)
-    (subst (λ (l : List ℕ). IsRead form c.args.wanted.now [] l Known) (sym c.in-Ok-begin.ensures.stored)
-    (read_nothing form c.args.wanted.now Known
+    let same : c.look.new.keeper ≡ c.args.keeper.now = rw c.in-None.is at c.in-Ok-look.ensures.untouched in
+    subst (λ (l : List ℕ). IsRead form g.K.Keeper.takes c.args.keeper.now c.look.new.keeper l Known) (sym c.in-Ok-begin.ensures.stored)
+    (read_nothing form g.K.Keeper.takes c.args.keeper.now c.look.new.keeper Known same
     (λ honest.
     let fresh : IsFresh read = rw c.in-None.is at (c.in-Ok-look.ensures.fresh honest) in
-    (inl (fresh, refl), c.in-Ok-begin.ensures.holds (c.look.ensures.honest.0 honest)))))
+    (inl (fresh, refl), c.in-Ok-begin.ensures.holds (c.look.ensures.honest.0 honest))))
 
 pub returns-in-None-clause-cause : goal.returns-in-None-clause-cause
 returns-in-None-clause-cause g c = λ honest.
@@ -61,7 +61,7 @@ resume-requires-clause-kept g c = λ after.
     let place = found.place in
     let stored = found.stored.items in
     let fresh : (IsFresh s.read → ⊥) × IsShut (drop place s.read) = rw c.in-Some.is at (c.in-Ok-look.ensures.fresh honest) in
-    let read : IsRead form c.args.wanted.now found.trees.items stored (λ (l : List Content). g.D.Disk.honest c.args.disk → IsSoFar form s.read l place) = rw c.in-Some.is at c.in-Ok-look.ensures.found in
+    let read : IsRead form g.K.Keeper.takes c.args.keeper.now c.look.new.keeper stored (λ (l : List Content). g.D.Disk.honest c.args.disk → IsSoFar form s.read l place) = rw c.in-Some.is at c.in-Ok-look.ensures.found in
     (read.trees, record { rest = rest_of form read.trees place s t (read.known honest) fresh.1 (c.in-Ok-look.ensures.synced honest); stored_are = read.stored_are })
 
 pub returns-clause-read : goal.returns-clause-read
@@ -75,11 +75,11 @@ returns-clause-read g c =
     let stored = found.stored.items in
     let store = c.resume.result in
     let Found = λ (f : Form) (l : List Content). g.D.Disk.honest c.args.disk → IsSoFar f s.read l place in
-    let seen : IsRead c.new-form.result c.args.wanted.now found.trees.items stored (Found c.new-form.result) = rw c.in-Some.is at c.in-Ok-look.ensures.found in
-    let read : IsRead form c.args.wanted.now found.trees.items stored (Found form) = subst (λ (f : Form). IsRead f c.args.wanted.now found.trees.items stored (Found f)) same seen in
+    let seen : IsRead c.new-form.result g.K.Keeper.takes c.args.keeper.now c.look.new.keeper stored (Found c.new-form.result) = rw c.in-Some.is at c.in-Ok-look.ensures.found in
+    let read : IsRead form g.K.Keeper.takes c.args.keeper.now c.look.new.keeper stored (Found form) = subst (λ (f : Form). IsRead f g.K.Keeper.takes c.args.keeper.now c.look.new.keeper stored (Found f)) same seen in
     let Known = λ (l : List Content). g.D.Disk.honest c.args.disk → Stands form s.read l × Holds form l store.place store.stored (g.D.Disk.state store.disk) in
-    subst (λ (v : List ℕ). IsRead form c.args.wanted.now found.trees.items v Known) (sym c.resume.ensures.stored)
-    (read_knows form c.args.wanted.now found.trees.items stored (Found form) Known read
+    subst (λ (v : List ℕ). IsRead form g.K.Keeper.takes c.args.keeper.now c.look.new.keeper v Known) (sym c.resume.ensures.stored)
+    (read_knows form g.K.Keeper.takes c.args.keeper.now c.look.new.keeper stored (Found form) Known read
     (λ honest.
     let fresh : (IsFresh s.read → ⊥) × IsShut (drop place s.read) = rw c.in-Some.is at (c.in-Ok-look.ensures.fresh honest) in
     let so_far = read.known honest in
