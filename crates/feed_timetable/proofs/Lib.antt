@@ -1,4 +1,6 @@
 pub mod Growing
+pub mod DepartureFacts
+pub mod Repeating
 pub mod Listing
 pub mod GroupSteps
 pub mod WalkRows
@@ -9,4 +11,8 @@ pub mod RowSteps
 pub mod Instancing
 pub mod Assembling
 pub mod Shifting
+pub mod BeforeFacts
+pub mod CountingFacts
 pub mod NameFacts
+pub mod LawFacts
+pub mod KnownTrips

@@ -1,9 +1,12 @@
 pub mod Children
 pub mod Index
 pub mod Winners
+pub mod Departures
 pub mod Instances
 pub mod Running
 pub mod Transfers
 pub mod Answers
 pub mod Limits
 pub mod Names
+pub mod Counting
+pub mod Laws

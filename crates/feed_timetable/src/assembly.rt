@@ -5,19 +5,22 @@ ghost use Rattle.gtfs_tables.specs.Tables.{AreTables};
 ghost use Rattle.feed_timetable.specs.Answers.{IsTimetable, IsFault};
 ghost use Rattle.feed_timetable.specs.Index.{IsIndex};
 ghost use Rattle.feed_timetable.specs.Limits.{IsFewInstances, AreFewWays, IsWaysFault};
+ghost use Rattle.feed_timetable.specs.Departures.{AreRepeats};
 ghost use Rattle.feed_timetable.specs.Running.{AreRunning};
 ghost use Rattle.gtfs_rows.specs.declared.fault.FaultKind.TheVariants.{TooMany};
 
+use crate::before::list_before;
+use crate::before_counts::count_before;
+use crate::departures::repeats_of;
+pub use crate::instances::MOST_INSTANCES;
 use crate::instances::{count_instances, list_instances};
 use crate::transfers::TransferIndex;
 use crate::walks::{Ways, count_walks, list_walks};
-use gtfs_tables::{FaultKind, FeedFault, FeedFile, Tables};
+use feed_ids::Groups;
+use gtfs_tables::{FaultKind, FeedFault, FeedFile, Frequency, Tables};
 use service_days::{Cover, Days};
 use std::alloc::Global;
 use timetable::Timetable;
-
-/// How many instances a timetable has at most.
-pub const MOST_INSTANCES: usize = 1_000_000;
 
 /// How many calls its instances have at most.
 pub const MOST_CALLS: usize = 20_000_000;
@@ -39,17 +42,27 @@ fn too_many(file: FeedFile) -> FeedFault
     }
 }
 
-// How many instances there are, where neither they nor their calls are too many.
-fn few_instances(tables: &Tables, cover: &Cover, running: &[Days]) -> Result<usize, FeedFault>
+// How many instances there are, if neither they nor their calls are too many.
+fn few_instances(
+    alloc: Global,
+    tables: &Tables,
+    cover: &Cover,
+    running: &[Days],
+    repeats: &Groups<Frequency>,
+) -> Result<usize, FeedFault>
     requires valid { AreTables tables.now }
     requires running { AreRunning tables.now cover.now running.now }
+    requires repeats { AreRepeats tables.now repeats.now }
     ensures ok { IfOk result (IsFewInstances tables.now cover.now running.now) }
     ensures fault { IfErr result (λ fault. (default_walk : ℕ) → IsFault tables.now cover.now default_walk fault) }
 {
-    let counts = count_instances(tables, cover, running);
-    if counts.instances > MOST_INSTANCES {
+    let counted = count_before(alloc, tables, cover, running, repeats)?;
+    let Some(before) = counted else {
         return Err(too_many(FeedFile::Trips));
-    }
+    };
+    let Some(counts) = count_instances(tables, cover, running, repeats, before) else {
+        return Err(too_many(FeedFile::Trips));
+    };
     if counts.calls > MOST_CALLS {
         return Err(too_many(FeedFile::StopTimes));
     }
@@ -86,8 +99,8 @@ fn few_ways(alloc: Global, tables: &Tables, default_walk: u32) -> Result<Ways, F
 
 /// The timetable of the tables over the covered days. A transfer without a written time takes `default_walk` seconds.
 ///
-/// It fails with `TooMany`, row 0, where there are too many instances (of trips.txt), calls (of stop_times.txt) or
-/// walks (of transfers.txt), tested in this order before it takes memory for them, and where memory runs out.
+/// It fails with `TooMany`, row 0, if there are too many instances (of trips.txt), calls (of stop_times.txt) or walks (of transfers.txt),
+/// tested in this order before it takes memory for them, and if memory runs out.
 pub fn assemble(
     alloc: Global,
     tables: &Tables,
@@ -99,9 +112,11 @@ pub fn assemble(
     ensures fault { IfErr result (IsFault tables.now cover.now default_walk) }
 {
     let running = cover.running_days(alloc, tables)?;
-    let count = few_instances(tables, cover, &running)?;
+    let repeats = repeats_of(alloc, tables)?;
+    let count = few_instances(alloc, tables, cover, &running, &repeats)?;
     let ways = few_ways(alloc, tables, default_walk)?;
-    let instances = list_instances(alloc, tables, cover, &running, count)?;
+    let before = list_before(alloc, tables, cover, &running, &repeats, count)?;
+    let instances = list_instances(alloc, tables, cover, &running, &repeats, before)?;
     let horizon = cover.day_start(cover.days() - 1) + LONGEST_TIME;
     Ok(Timetable::new(horizon, ways.changes, ways.walks, instances))
 }

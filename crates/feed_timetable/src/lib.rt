@@ -2,11 +2,16 @@
 #![tactic(auto)]
 
 mod assembly;
+mod before;
+mod before_counts;
+mod departures;
 mod instances;
+pub mod laws;
 mod names;
 mod running;
 mod transfers;
 mod walks;
 
 pub use assembly::{MOST_CALLS, MOST_INSTANCES, MOST_WALKS, assemble};
+pub use departures::repeats_of;
 pub use names::names_of;

@@ -100,6 +100,20 @@ pub struct Transfer {
     pub min_transfer_time: Option<u32>,
 }
 
+/// A row of frequencies.txt: a trip departs at `start` and again each `headway` seconds, as long as that is before `end`. Times are
+/// seconds from noon less twelve hours of the service day.
+#[derive(Clone, Copy, Debug, PartialEq, Eq)]
+pub struct Frequency {
+    /// The number of the trip.
+    pub trip: u32,
+    pub start: u32,
+    pub end: u32,
+    /// From 1 on.
+    pub headway: u32,
+    /// Whether the trip departs exactly then (`exact_times` 1), or about then.
+    pub exact: bool,
+}
+
 /// How many rows were left out without being at fault.
 #[derive(Clone, Copy, Debug, Default, PartialEq, Eq)]
 pub struct Skipped {

@@ -11,17 +11,19 @@ ghost use Rattle.gtfs_services.specs.CalendarDates.{calendar_date_values};
 ghost use Rattle.gtfs_stops.specs.Stops.{lists_in};
 ghost use Rattle.gtfs_stops.specs.Transfers.{IsTransfer, transfers_tests, transfer_values, skipped_transfers};
 ghost use Rattle.gtfs_calls.specs.CallLists.{AreCallLists};
-ghost use Rattle.gtfs_tables.specs.Schedules.{AreConnections, AreScheduleReaders, IsSchedule, ScheduleBytes, TimeBytes};
-ghost use Rattle.gtfs_tables.specs.Schedules.{connection_tests, connection_values};
-ghost use Rattle.gtfs_tables.specs.Schedules.{connections_in, rows_in, schedule_in, schedule_tests, schedule_values, time_values, times_in, times_tests};
+ghost use Rattle.gtfs_tables.specs.Schedules.{AreConnectionReaders, AreConnections, AreLinks, AreScheduleReaders, IsSchedule};
+ghost use Rattle.gtfs_tables.specs.Schedules.{ConnectionBytes, LinkBytes, ScheduleBytes, TimeBytes};
+ghost use Rattle.gtfs_tables.specs.Schedules.{connection_tests, connection_values, connections_in, link_tests, link_values, links_in};
+ghost use Rattle.gtfs_tables.specs.Schedules.{rows_in, schedule_in, schedule_tests, schedule_values, time_values, times_in, times_tests};
 ghost use Rattle.gtfs_tables.specs.Tables.{AreTables};
 ghost use Rattle.gtfs_tables.specs.Feed.{Feed, AreReaders, feed_tests, services_tests, values_of};
 
 use crate::tables::Tables;
 use gtfs_calls::{CallRows, read_stop_times};
+use gtfs_frequencies::read_frequencies;
 use gtfs_rows::{
-    CalendarDate, CalendarRow, FaultKind, FeedFault, FeedFile, Id, Skipped, Station, Stop, Texts,
-    Trip, open_sheet,
+    CalendarDate, CalendarRow, FaultKind, FeedFault, FeedFile, Frequency, Id, Skipped, Station,
+    Stop, Texts, Trip, open_sheet,
 };
 use gtfs_services::{read_calendar, read_calendar_dates, read_trips};
 use gtfs_stops::{StopIds, StopRows, TransferRows, read_stops, read_transfers};
@@ -38,6 +40,7 @@ pub struct Files<R> {
     pub calendar_dates: Option<R>,
     pub stop_times: Option<R>,
     pub transfers: Option<R>,
+    pub frequencies: Option<R>,
 }
 
 // The rows of transfers.txt that are kept; none where there is no such file.
@@ -130,101 +133,144 @@ fn read_times<R: Read + Drop>(
     Ok(Times { calendars, calls })
 }
 
-// The files of a schedule, each as a reader where it is there.
+// What links calls to others: the rows of transfers.txt that are kept, and those of frequencies.txt.
 #[derive(Drop)]
-struct ScheduleFiles<R> {
-    trips: Option<R>,
+struct Links {
+    transfers: TransferRows,
+    frequencies: Vec<Frequency>,
+}
+
+// What these two files say, under the ids of stops.txt and those of trips.
+fn read_links<R: Read + Drop>(
+    alloc: Global,
+    hash_keys: RandomState,
+    transfers: Option<R>,
+    frequencies: Option<R>,
+    ids: &StopIds<'_>,
+    trips: &Texts<'_>,
+) -> Result<Links, FeedFault>
+    requires stops { length ids.now.stops.keys ≤ 65_534 }
+    requires stations { length ids.now.stations.keys ≤ 999_999_999 }
+    requires trips { length trips.now.keys ≤ 999_999_999 }
+    ensures links { (bytes : LinkBytes) → IsContent R.remaining transfers bytes.transfers
+        → IsContent R.remaining frequencies bytes.frequencies
+        → Answers links_in result (link_tests (lists_in ids.now) (texts_in trips.now.keys) bytes)
+        (link_values (lists_in ids.now) (texts_in trips.now.keys) bytes) }
+    ensures valid { IfOk result (AreLinks (length ids.now.stops.keys) (length ids.now.stations.keys) (length trips.now.keys)) }
+{
+    let transfers = read_optional_transfers(alloc, transfers, ids)?;
+    let frequencies = read_frequencies(alloc, hash_keys, frequencies, trips)?;
+    Ok(Links {
+        transfers,
+        frequencies,
+    })
+}
+
+// The files that name stops and trips, each as a reader where it is there.
+#[derive(Drop)]
+struct ConnectionFiles<R> {
     calendar: Option<R>,
     calendar_dates: Option<R>,
     stop_times: Option<R>,
+    transfers: Option<R>,
+    frequencies: Option<R>,
 }
 
-// The trips of a feed, the services that they name, and when they run.
+// What connects stops: when trips run, and what links calls.
 #[derive(Drop)]
-struct Schedule {
-    services: Vec<Id>,
-    trips: Vec<Trip>,
+struct Connections {
     times: Times,
+    links: Links,
 }
 
-// The schedule that the files say, under the ids of stops.
-fn read_schedule<R: Read + Drop>(
+// The connections that the files say, under the ids of stops.txt and those of trips.
+fn read_connections<R: Read + Drop>(
     alloc: Global,
     hash_keys: RandomState,
-    files: ScheduleFiles<R>,
-    stops: &Texts<'_>,
-) -> Result<Schedule, FeedFault>
-    requires { length stops.now.keys ≤ 65_534 }
-    ensures schedule { (bytes : ScheduleBytes) → AreScheduleReaders R.remaining files bytes
-        → Answers schedule_in result (schedule_tests (texts_in stops.now.keys) bytes) (schedule_values (texts_in stops.now.keys) bytes) }
-    ensures valid { IfOk result (IsSchedule (length stops.now.keys)) }
+    files: ConnectionFiles<R>,
+    ids: &StopIds<'_>,
+    trips: &Texts<'_>,
+) -> Result<Connections, FeedFault>
+    requires stops { length ids.now.stops.keys ≤ 65_534 }
+    requires stations { length ids.now.stations.keys ≤ 999_999_999 }
+    requires trips { length trips.now.keys ≤ 999_999_999 }
+    ensures connections { (bytes : ConnectionBytes) → AreConnectionReaders R.remaining files bytes
+        → Answers connections_in result (connection_tests (lists_in ids.now) (texts_in trips.now.keys) bytes)
+        (connection_values (lists_in ids.now) (texts_in trips.now.keys) bytes) }
+    ensures valid { IfOk result (AreConnections (length ids.now.stops.keys) (length ids.now.stations.keys) (length trips.now.keys)) }
 {
-    let trips_sheet = open_sheet(alloc, FeedFile::Trips, files.trips)?;
-    let trips = read_trips(alloc, hash_keys, &trips_sheet)?;
     let times = read_times(
         alloc,
         hash_keys,
         files.calendar,
         files.calendar_dates,
         files.stop_times,
-        stops,
-        &trips.ids,
+        &ids.stops,
+        trips,
     )?;
+    let links = read_links(
+        alloc,
+        hash_keys,
+        files.transfers,
+        files.frequencies,
+        ids,
+        trips,
+    )?;
+    Ok(Connections { times, links })
+}
+
+// The files of a schedule, each as a reader where it is there.
+#[derive(Drop)]
+struct ScheduleFiles<R> {
+    trips: Option<R>,
+    connections: ConnectionFiles<R>,
+}
+
+// The trips of a feed, the services that they name, and what connects stops.
+#[derive(Drop)]
+struct Schedule {
+    services: Vec<Id>,
+    trips: Vec<Trip>,
+    connections: Connections,
+}
+
+// The schedule that the files say, under the ids of stops.txt.
+fn read_schedule<R: Read + Drop>(
+    alloc: Global,
+    hash_keys: RandomState,
+    files: ScheduleFiles<R>,
+    ids: &StopIds<'_>,
+) -> Result<Schedule, FeedFault>
+    requires stops { length ids.now.stops.keys ≤ 65_534 }
+    requires stations { length ids.now.stations.keys ≤ 999_999_999 }
+    ensures schedule { (bytes : ScheduleBytes) → AreScheduleReaders R.remaining files bytes
+        → Answers schedule_in result (schedule_tests (lists_in ids.now) bytes) (schedule_values (lists_in ids.now) bytes) }
+    ensures valid { IfOk result (IsSchedule (length ids.now.stops.keys) (length ids.now.stations.keys)) }
+{
+    let trips_sheet = open_sheet(alloc, FeedFile::Trips, files.trips)?;
+    let trips = read_trips(alloc, hash_keys, &trips_sheet)?;
+    let connections = read_connections(alloc, hash_keys, files.connections, ids, &trips.ids)?;
     Ok(Schedule {
         services: trips.services,
         trips: trips.trips,
-        times,
+        connections,
     })
 }
 
-// What connects stops: the schedule, and the rows of transfers.txt that are kept.
-#[derive(Drop)]
-struct Connections {
-    schedule: Schedule,
-    transfers: TransferRows,
-}
-
-// The connections that the files say, under the ids of stops.txt.
-fn read_connections<R: Read + Drop>(
+// The schedule, under ids that nobody needs behind it.
+fn schedule_of<R: Read + Drop>(
     alloc: Global,
     hash_keys: RandomState,
     files: ScheduleFiles<R>,
-    transfers: Option<R>,
-    ids: &StopIds<'_>,
-) -> Result<Connections, FeedFault>
-    requires stops { length ids.now.stops.keys ≤ 65_534 }
-    requires stations { length ids.now.stations.keys ≤ 999_999_999 }
-    ensures connections { (bytes : ScheduleBytes) (links : Option (List ℕ)) → AreScheduleReaders R.remaining files bytes
-        → IsContent R.remaining transfers links
-        → Answers connections_in result (connection_tests (lists_in ids.now) bytes links)
-        (connection_values (lists_in ids.now) bytes links) }
-    ensures valid { IfOk result (AreConnections (length ids.now.stops.keys) (length ids.now.stations.keys)) }
-{
-    let schedule = read_schedule(alloc, hash_keys, files, &ids.stops)?;
-    let transfers = read_optional_transfers(alloc, transfers, ids)?;
-    Ok(Connections {
-        schedule,
-        transfers,
-    })
-}
-
-// The connections, under ids that nobody needs behind them.
-fn connections_of<R: Read + Drop>(
-    alloc: Global,
-    hash_keys: RandomState,
-    files: ScheduleFiles<R>,
-    transfers: Option<R>,
     ids: StopIds<'_>,
-) -> Result<Connections, FeedFault>
+) -> Result<Schedule, FeedFault>
     requires stops { length ids.stops.keys ≤ 65_534 }
     requires stations { length ids.stations.keys ≤ 999_999_999 }
-    ensures connections { (bytes : ScheduleBytes) (links : Option (List ℕ)) → AreScheduleReaders R.remaining files bytes
-        → IsContent R.remaining transfers links
-        → Answers connections_in result (connection_tests (lists_in ids.entry) bytes links)
-        (connection_values (lists_in ids.entry) bytes links) }
-    ensures valid { IfOk result (AreConnections (length ids.entry.stops.keys) (length ids.entry.stations.keys)) }
+    ensures schedule { (bytes : ScheduleBytes) → AreScheduleReaders R.remaining files bytes
+        → Answers schedule_in result (schedule_tests (lists_in ids.entry) bytes) (schedule_values (lists_in ids.entry) bytes) }
+    ensures valid { IfOk result (IsSchedule (length ids.entry.stops.keys) (length ids.entry.stations.keys)) }
 {
-    read_connections(alloc, hash_keys, files, transfers, &ids)
+    read_schedule(alloc, hash_keys, files, &ids)
 }
 
 // What was read of all files.
@@ -232,7 +278,7 @@ fn connections_of<R: Read + Drop>(
 struct FeedRows {
     stops: Vec<Stop>,
     stations: Vec<Station>,
-    connections: Connections,
+    schedule: Schedule,
 }
 
 // The rows of all files, by the order of their tests.
@@ -246,9 +292,13 @@ fn read_rows<R: Read + Drop>(
 {
     let schedule_files = ScheduleFiles {
         trips: files.trips,
-        calendar: files.calendar,
-        calendar_dates: files.calendar_dates,
-        stop_times: files.stop_times,
+        connections: ConnectionFiles {
+            calendar: files.calendar,
+            calendar_dates: files.calendar_dates,
+            stop_times: files.stop_times,
+            transfers: files.transfers,
+            frequencies: files.frequencies,
+        },
     };
     let sheet = open_sheet(alloc, FeedFile::Stops, files.stops)?;
     let StopRows {
@@ -256,11 +306,11 @@ fn read_rows<R: Read + Drop>(
         stations,
         ids,
     } = read_stops(alloc, hash_keys, &sheet)?;
-    let connections = connections_of(alloc, hash_keys, schedule_files, files.transfers, ids)?;
+    let schedule = schedule_of(alloc, hash_keys, schedule_files, ids)?;
     Ok(FeedRows {
         stops,
         stations,
-        connections,
+        schedule,
     })
 }
 
@@ -272,13 +322,14 @@ fn tables_of(rows: FeedRows) -> Tables
     let FeedRows {
         stops,
         stations,
-        connections,
-    } = rows;
-    let Connections {
         schedule,
+    } = rows;
+    let Connections { times, links } = schedule.connections;
+    let Times { calendars, calls } = times;
+    let Links {
         transfers,
-    } = connections;
-    let Times { calendars, calls } = schedule.times;
+        frequencies,
+    } = links;
     let skipped = Skipped {
         calls: calls.skipped,
         transfers: transfers.skipped,
@@ -292,11 +343,12 @@ fn tables_of(rows: FeedRows) -> Tables
         calendar_dates: calendars.dates,
         calls: calls.calls,
         transfers: transfers.transfers,
+        frequencies,
         skipped,
     }
 }
 
-/// Reads the six files of a feed (GTFS Schedule reference): the values of their rows where every test of the feed holds,
+/// Reads the seven files of a feed (GTFS Schedule reference): the values of their rows where every test of the feed holds,
 /// else the fault of the first that doesn't, by the order of files, rows and tests in docs/FORMATS.md. `ReadFailed`, where a
 /// file's reader fails, and `Memory` can come in place of any answer.
 ///

@@ -1,0 +1,35 @@
+-- How instances are counted. Only private clauses cite these words.
+use Rattle.std.specs.Prelude.{◌≡◌, ℕ, ◌*◌, ◌<◌, ◌≤◌, nat_le, List, length, Option, if◌then◌else◌}
+use Rattle.std.specs.Option.{MatchOption}
+use Rattle.gtfs_rows.specs.declared.values.StopTime.{StopTime}
+use Rattle.feed_timetable.specs.declared.instances.Counts.{Counts}
+use Rattle.feed_timetable.specs.Instances.{calls_from, calls_left}
+
+-- there are not too many instances, and each has at most so many calls
+pub record AreFewCounts (counts : Counts) : Type 0 where
+  pub few : counts.instances ≤ 1_000_000
+  pub few_calls : counts.calls ≤ 65_535 * counts.instances
+
+-- so many instances with so many calls, which are not too many
+pub record AreCounts (counts : Counts) (instances calls : ℕ) : Type 0 where
+  pub instances_are : counts.instances ≡ instances
+  pub calls_are : counts.calls ≡ calls
+  pub few : AreFewCounts counts
+
+-- these were counted; none if there are too many instances
+abbrev pub Counted : Option Counts → ℕ → ℕ → Type 0
+Counted counts instances calls = MatchOption counts (1_000_000 < instances) (λ c. AreCounts c instances calls)
+
+-- the instances and the calls of a trip with so many calls left: none if these are fewer than two
+abbrev pub weight : ℕ → ℕ
+weight calls = if nat_le 2 calls then 1 else 0
+
+abbrev pub call_weight : ℕ → ℕ
+call_weight calls = if nat_le 2 calls then calls else 0
+
+-- the same of a trip that departs first at this time of the day before
+abbrev pub weight_at : ℕ → ℕ → List StopTime → ℕ → ℕ
+weight_at before first calls time = weight (length (calls_left before (calls_from time first calls)))
+
+abbrev pub call_weight_at : ℕ → ℕ → List StopTime → ℕ → ℕ
+call_weight_at before first calls time = call_weight (length (calls_left before (calls_from time first calls)))
