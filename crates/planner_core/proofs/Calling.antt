@@ -12,7 +12,7 @@ use Rattle.pattern_tree.specs.Finished.{FinishedTree}
 use Rattle.section_store.specs.Lasting.{IsExact, LosesNothing}
 use Rattle.section_store.specs.Sections.{Form, IsSections, IsBeforeOrAfter, open_gate, sources}
 use Rattle.section_store.specs.declared.fault.PutFault.{PutFault}
-use Rattle.section_store.specs.Store.{IsRest, IsBody, IsDurable, IsOpened, WroteBody, BodyFailed}
+use Rattle.section_store.specs.Store.{Holds, IsRest, IsBody, IsDurable, IsOpened, WroteBody, BodyFailed}
 use Rattle.section_store.specs.StoreView.{ReceiptView}
 use Rattle.section_store.specs.declared.step.Step.{Step}
 use Rattle.section_store.specs.declared.step.Step.TheVariants as N
@@ -156,6 +156,25 @@ after_sync_gate form form' stored stored' storing acknowledged acknowledged' sou
       };
     })
 
+-- what a call that was done makes of a section
+pub body_kept : (r : Result Unit PutFault) (form : Form) (place extent place' extent' : ℕ) (old new : State)
+    → ((trees : List Content) (tree : Content) → IsBody form trees tree place extent old → OnOk r (IsBody form trees tree place' extent' new × IsDurable new))
+    → OnOk r ((trees : List Content) (tree : Content) → IsBody form trees tree place extent old → IsBody form trees tree place' extent' new)
+body_kept (Ok u) form place extent place' extent' old new is = λ trees tree body. (is trees tree body).0
+body_kept (Err e) form place extent place' extent' old new is = tt
+
+pub body_opened : (r : Result Unit PutFault) (form : Form) (place extent place' extent' : ℕ) (old new : State)
+    → ((trees : List Content) (tree : Content) → IsBody form trees tree place extent old → OnOk r (IsOpened form (trees ++ tree ∷ []) (place' + extent') new))
+    → OnOk r ((trees : List Content) (tree : Content) → IsBody form trees tree place extent old → IsOpened form (trees ++ tree ∷ []) (place' + extent') new)
+body_opened (Ok u) form place extent place' extent' old new is = is
+body_opened (Err e) form place extent place' extent' old new is = tt
+
+pub put_rests : (r : Result ReceiptView PutFault) (form : Form) (end place : ℕ) (old new : State)
+    → ((trees : List Content) → IsOpened form trees end old → OnOk r (IsRest form trees place new))
+    → OnOk r ((trees : List Content) → IsOpened form trees end old → IsRest form trees place new)
+put_rests (Ok receipt) form end place old new is = is
+put_rests (Err e) form end place old new is = tt
+
 -- two views are equal where their parts are
 pub same_view : {form form' : Form} {stored stored' : List ℕ} {place place' extent extent' : ℕ} {next next' : Step} {disk disk' : State} {storing storing' acknowledged acknowledged' : List ℕ}
     → form ≡ form' → stored ≡ stored' → place ≡ place' → extent ≡ extent' → next ≡ next' → disk ≡ disk' → storing ≡ storing' → acknowledged ≡ acknowledged'
@@ -167,19 +186,22 @@ same_view a b c d e f g h = rw (a, b, c, d, e, f, g, h) refl
 pub gate_case : (r : Result Unit PutFault) (fails : Bool) (a : ArchiveView) (form : Form) (stored : List ℕ) (place extent : ℕ) (next : Step) (disk : State) (storing acknowledged : List ℕ)
     → fails ≡ not (is_ok r) → Writes a.place (open_gate ∷ []) r a.disk disk → MatchResult r (λ _. next ≡ N.SyncGate) (λ _. next ≡ N.Failed)
     → form ≡ a.form → stored ≡ a.stored → place ≡ a.place → extent ≡ a.extent → storing ≡ a.storing → acknowledged ≡ a.acknowledged
-    → LosesNothing a.form a.disk disk → OpensGate fails a (record { form = form; stored = stored; place = place; extent = extent_of next extent; next = next; disk = disk; storing = storing; acknowledged = acknowledged })
-gate_case (Ok u) fails a form stored place extent next disk storing acknowledged made written going e1 e2 e3 e4 e5 e6 lasts =
-    rw (made, going) (same_view e1 e2 e3 e4 refl written e5 e6, lasts)
-gate_case (Err e) fails a form stored place extent next disk storing acknowledged made written going e1 e2 e3 e4 e5 e6 lasts =
+    → LosesNothing a.form a.disk disk
+    → OnOk r ((trees : List Content) (tree : Content) → IsBody a.form trees tree a.place a.extent a.disk → IsOpened a.form (trees ++ tree ∷ []) (place + extent) disk)
+    → OpensGate fails a (record { form = form; stored = stored; place = place; extent = extent_of next extent; next = next; disk = disk; storing = storing; acknowledged = acknowledged })
+gate_case (Ok u) fails a form stored place extent next disk storing acknowledged made written going e1 e2 e3 e4 e5 e6 lasts opens =
+    rw (made, going) (same_view e1 e2 e3 e4 refl written e5 e6, lasts, opens)
+gate_case (Err e) fails a form stored place extent next disk storing acknowledged made written going e1 e2 e3 e4 e5 e6 lasts opens =
     rw (made, going) (disk, written, same_view e1 e2 e3 refl refl refl e5 e6, lasts)
 
 -- the section was written
 pub section_made : (fails : Bool) (t : FinishedTree) (a : ArchiveView) (form : Form) (stored : List ℕ) (place extent : ℕ) (next : Step) (disk : State) (storing acknowledged : List ℕ)
     → fails ≡ false → WroteBody a.form t.tree a.place extent a.disk disk → next ≡ N.SyncBody → form ≡ a.form → stored ≡ a.stored → place ≡ a.place
     → storing ≡ a.storing ++ t.tree.source ∷ [] → acknowledged ≡ a.acknowledged → LosesNothing a.form a.disk disk
+    → ((trees : List Content) → Holds a.form trees a.place a.stored a.disk → IsBody a.form trees t.tree place extent disk)
     → WritesSection fails t a (record { form = form; stored = stored; place = place; extent = extent_of next extent; next = next; disk = disk; storing = storing; acknowledged = acknowledged })
-section_made fails t a form stored place extent next disk storing acknowledged made wrote going e1 e2 e3 e4 e5 lasts =
-    rw (made, going) (extent, disk, wrote, same_view e1 e2 e3 refl refl refl e4 e5, lasts)
+section_made fails t a form stored place extent next disk storing acknowledged made wrote going e1 e2 e3 e4 e5 lasts adds =
+    rw (made, going) (extent, disk, wrote, same_view e1 e2 e3 refl refl refl e4 e5, lasts, adds)
 
 -- its write failed
 pub section_failed : (fails : Bool) (t : FinishedTree) (a : ArchiveView) (form : Form) (stored : List ℕ) (place extent : ℕ) (next : Step) (disk : State) (storing acknowledged : List ℕ)
@@ -194,10 +216,11 @@ pub synced_case : (r : Result Unit PutFault) (fails : Bool) (a : ArchiveView) (f
     → fails ≡ not (is_ok r) → Syncs r a.disk disk → MatchResult r (λ _. next ≡ N.OpenGate) (λ _. next ≡ N.Failed)
     → form ≡ a.form → stored ≡ a.stored → place ≡ a.place → extent ≡ a.extent → storing ≡ a.storing → acknowledged ≡ a.acknowledged
     → LosesNothing a.form a.disk disk
+    → OnOk r ((trees : List Content) (tree : Content) → IsBody a.form trees tree a.place a.extent a.disk → IsBody a.form trees tree place extent disk)
     → SyncsSection fails a (record { form = form; stored = stored; place = place; extent = extent_of next extent; next = next; disk = disk; storing = storing; acknowledged = acknowledged })
-synced_case (Ok u) fails a form stored place extent next disk storing acknowledged made synced going e1 e2 e3 e4 e5 e6 lasts =
-    rw (made, going) (same_view e1 e2 e3 e4 refl synced e5 e6, lasts)
-synced_case (Err e) fails a form stored place extent next disk storing acknowledged made synced going e1 e2 e3 e4 e5 e6 lasts =
+synced_case (Ok u) fails a form stored place extent next disk storing acknowledged made synced going e1 e2 e3 e4 e5 e6 lasts keeps =
+    rw (made, going) (same_view e1 e2 e3 e4 refl synced e5 e6, lasts, keeps)
+synced_case (Err e) fails a form stored place extent next disk storing acknowledged made synced going e1 e2 e3 e4 e5 e6 lasts keeps =
     rw (made, going) (same_view e1 e2 e3 refl refl synced e5 e6, lasts)
 
 -- the open gate was brought to the disk, or not
@@ -206,8 +229,9 @@ pub receipt_case : (r : Result ReceiptView PutFault) (fails : Bool) (source : �
     → form ≡ a.form → MatchResult r (λ _. stored ≡ a.stored ++ source ∷ []) (λ _. stored ≡ a.stored)
     → MatchResult r (λ _. place ≡ a.place + a.extent) (λ _. place ≡ a.place) → storing ≡ a.storing
     → MatchBool (is_ok r) (acknowledged ≡ a.acknowledged ++ source ∷ []) (acknowledged ≡ a.acknowledged) → LosesNothing a.form a.disk disk
+    → OnOk r ((trees : List Content) → IsOpened a.form trees (a.place + a.extent) a.disk → IsRest a.form trees place disk)
     → SyncsGate fails source a (record { form = form; stored = stored; place = place; extent = extent_of next extent; next = next; disk = disk; storing = storing; acknowledged = acknowledged })
-receipt_case (Ok receipt) fails source a form stored place extent next disk storing acknowledged made synced going e1 e2 e3 e4 e5 lasts =
-    rw (made, going) (same_view e1 e2 e3 refl refl synced e4 e5, lasts)
-receipt_case (Err e) fails source a form stored place extent next disk storing acknowledged made synced going e1 e2 e3 e4 e5 lasts =
+receipt_case (Ok receipt) fails source a form stored place extent next disk storing acknowledged made synced going e1 e2 e3 e4 e5 lasts rests =
+    rw (made, going) (same_view e1 e2 e3 refl refl synced e4 e5, lasts, rests)
+receipt_case (Err e) fails source a form stored place extent next disk storing acknowledged made synced going e1 e2 e3 e4 e5 lasts rests =
     rw (made, going) (same_view e1 e2 e3 refl refl synced e4 e5, lasts)

@@ -1,5 +1,5 @@
 -- What the disk of an open store holds.
-use Rattle.std.proofs.Common.{◌≡◌, ℕ, List, [], ◌∷◌, ◌++◌, All, sym, ◌∙◌, subst, inl, inr}
+use Rattle.std.proofs.Common.{◌≡◌, ℕ, List, [], ◌∷◌, ◌++◌, All, slice_index_or, refl, sym, ◌∙◌, subst, inl, inr}
 use Rattle.std.specs.List.{Contains}
 use Rattle.std.proofs.lemmas.List.{append-nil, map-append}
 use Rattle.std.proofs.lemmas.List.Elements.{All-push, All-weaker, Contains-append_left}
@@ -8,15 +8,31 @@ use Rattle.disk_model.specs.Disk.{State}
 use Rattle.disk_model.specs.Moments.{Leaves}
 use Rattle.disk_model.proofs.Moments.{only_settled}
 use Rattle.pattern_tree.specs.Content.{Content}
-use Rattle.section_store.specs.Going.{IsFront}
-use Rattle.section_store.specs.Lasting.{IsExact, IsTrusted}
+use Rattle.section_store.specs.Going.{IsFront, StandsForFront}
+use Rattle.section_store.specs.Lasting.{IsExact, IsTrustedFile}
 use Rattle.section_store.specs.Laws.{StandsForOne}
 use Rattle.section_store.specs.Sections.{Form, Stands, IsSections, IsBeforeOrAfter, sources}
 use Rattle.section_store.specs.Store.{IsRest}
 use Rattle.section_store.specs.declared.step.Step.{Step}
 use Rattle.section_store.specs.declared.step.Step.TheVariants as N
 use Rattle.planner_core.specs.Archive.{IsStage, IsArchive}
-use Rattle.planner_core.specs.Safety.{IsSafeFile, IsSafeDisk}
+use Rattle.planner_core.specs.Safety.{IsSafeDisk}
+
+-- the bytes stand for exact trees whose sources are a front of the storing order that holds each acknowledged source
+record IsSafeFile (form : Form) (storing acknowledged bytes : List ℕ) : Type 0 where
+  trees : List Content
+  stands : Stands form bytes trees
+  exact : All (IsExact form) trees
+  front : IsFront (sources trees) storing
+  holds : All (Contains (sources trees)) acknowledged
+
+-- a disk each of whose outcomes is such a file is safe
+files_safe : (form : Form) (storing acknowledged : List ℕ) (disk : State) → Leaves (IsSafeFile form storing acknowledged) disk.now → IsSafeDisk form storing acknowledged disk
+files_safe form storing acknowledged disk each = record {
+  trusted = λ bytes left. let is = each bytes left in record { trees = is.trees; stands = is.stands; exact = is.exact };
+  front = λ bytes left. let is = each bytes left in record { trees = is.trees; stands = is.stands; holds = (sources is.trees, refl); front = is.front };
+  held = λ k d below bytes left. let is = each bytes left in record { trees = is.trees; stands = is.stands; has = is.holds k d below };
+}
 
 -- a store at rest stands for its trees
 pub rest_leaves : (form : Form) (trees : List Content) (place : ℕ) (disk : State) → IsRest form trees place disk → Leaves (λ bytes. IsSections form bytes trees) disk.now
@@ -58,7 +74,7 @@ module _ (form : Form) (storing acknowledged : List ℕ) where
   safe_either trees tree bytes (inr stands) exact one are held = safe_after trees tree bytes stands exact one are held
 
   safe_stage : (next : Step) (trees : List Content) (source place extent : ℕ) (disk : State) → IsStage next form trees storing source place extent disk → All (IsExact form) trees
-      → All (Contains (sources trees)) acknowledged → IsSafeDisk form storing acknowledged disk
+      → All (Contains (sources trees)) acknowledged → Leaves (IsSafeFile form storing acknowledged) disk.now
   safe_stage N.WriteBody trees source place extent disk is exact held = λ bytes left.
       safe_before trees [] bytes (rest_leaves form trees place disk is.rest bytes left) exact (is.storing_are ∙ sym (append-nil (sources trees))) held
   safe_stage N.SyncBody trees source place extent disk is exact held = λ bytes left.
@@ -74,29 +90,37 @@ module _ (form : Form) (storing acknowledged : List ℕ) where
 pub archive_safe : (form : Form) (stored storing acknowledged : List ℕ) (next : Step) (source place extent : ℕ) (disk : State)
     → IsArchive form stored storing acknowledged next source place extent disk → IsSafeDisk form storing acknowledged disk
 archive_safe form stored storing acknowledged next source place extent disk is =
-    safe_stage form storing acknowledged next is.trees source place extent disk is.stage is.exact
-    (subst (λ (l : List ℕ). All (Contains l) acknowledged) is.stored_are is.held)
+    files_safe form storing acknowledged disk (safe_stage form storing acknowledged next is.trees source place extent disk is.stage is.exact
+    (subst (λ (l : List ℕ). All (Contains l) acknowledged) is.stored_are is.held))
 
--- a safe disk is trusted
-pub safe_trusted : (form : Form) (storing acknowledged : List ℕ) (disk : State) → IsSafeDisk form storing acknowledged disk → IsTrusted form disk
-safe_trusted form storing acknowledged disk safe = λ bytes left. let is = safe bytes left in record { trees = is.trees; stands = is.stands; exact = is.exact }
+-- what a crash left is as safe as the disk was
+module _ (image now : Image) (bytes : List ℕ) where
+  left_so : (P : List ℕ → Type 0) → IsOutcome image bytes → now ≡ settled_image bytes → Leaves P image → Leaves P now
+  left_so P left is each = λ other there.
+      let same : other ≡ bytes = only_settled bytes other (subst (λ (i : Image). IsOutcome i other) is there) in
+      rw same (each bytes left)
 
--- what a crash left
-pub crash_safe : (form : Form) (storing acknowledged bytes : List ℕ) (image now : Image) → Leaves (IsSafeFile form storing acknowledged) image → IsOutcome image bytes
-    → now ≡ settled_image bytes → Leaves (IsSafeFile form storing acknowledged) now
-crash_safe form storing acknowledged bytes image now safe left is = λ other there.
-    let same : other ≡ bytes = only_settled bytes other (subst (λ (i : Image). IsOutcome i other) is there) in
-    rw same (safe bytes left)
+pub crash_safe : (form : Form) (storing acknowledged bytes : List ℕ) (old new : State) → IsSafeDisk form storing acknowledged old → IsOutcome old.now bytes
+    → new.now ≡ settled_image bytes → IsSafeDisk form storing acknowledged new
+crash_safe form storing acknowledged bytes old new safe left is = record {
+  trusted = left_so old.now new.now bytes (IsTrustedFile form) left is safe.trusted;
+  front = left_so old.now new.now bytes (StandsForFront form [] storing) left is safe.front;
+  held = λ k d below. left_so old.now new.now bytes _ left is (safe.held k d below);
+}
 
--- what the bytes of such a file stand for is a front of the storing order that holds each acknowledged source
+-- what the bytes stand for is a front of the storing order that holds each acknowledged source
 pub recovered : StandsForOne → (form : Form) (storing acknowledged : List ℕ) (disk : State) (trees : List Content) → IsSafeDisk form storing acknowledged disk
     → IsOutcome disk.now disk.read → Stands form disk.read trees → IsFront (sources trees) storing × All (Contains (sources trees)) acknowledged
 recovered one form storing acknowledged disk trees safe left stands =
-    let is = safe disk.read left in
-    let same : is.trees ≡ trees = one form disk.read is.trees trees is.stands stands in
-    (subst (λ (l : List Content). IsFront (sources l) storing) same is.front, subst (λ (l : List Content). All (Contains (sources l)) acknowledged) same is.holds)
+    let is = safe.front disk.read left in
+    let same : is.trees ≡ trees = one form disk.read is.trees trees is.stands stands in (
+      subst (λ (l : List Content). IsFront (sources l) storing) same is.front,
+      λ k d below.
+          let has = safe.held k d below disk.read left in
+          subst (λ (l : List Content). Contains (sources l) (slice_index_or acknowledged k d)) (one form disk.read has.trees trees has.stands stands) has.has,
+    )
 
 -- the bytes stand for some list
 pub safe_stands : (form : Form) (storing acknowledged : List ℕ) (disk : State) → IsSafeDisk form storing acknowledged disk → IsOutcome disk.now disk.read
     → ((trees : List Content) → Stands form disk.read trees → ⊥) → ⊥
-safe_stands form storing acknowledged disk safe left none = let is = safe disk.read left in none is.trees is.stands
+safe_stands form storing acknowledged disk safe left none = let is = safe.trusted disk.read left in none is.trees is.stands

@@ -9,18 +9,17 @@ use Rattle.section_store.specs.Lasting.{BeginsWith, HasSource, Keeps, LosesNothi
 use Rattle.section_store.specs.Sections.{Form}
 use Rattle.section_store.proofs.Lasting.{in_turn, one_more, still}
 use Rattle.planner_core.specs.Calls.{Lasts, OpensGate, SyncsGate, SyncsSection, WritesSection}
-use Rattle.planner_core.specs.Opened.{disk_in}
 use Rattle.planner_core.specs.Run.{Run}
 use Rattle.planner_core.specs.Running.{IsSound}
 use Rattle.planner_core.specs.Steps.{Case, Crashes, StepsTo}
-use Rattle.planner_core.specs.Views.{ArchiveView, Basis, Phase, RunningView, StoppedView, runs, stopped}
+use Rattle.planner_core.specs.Views.{ArchiveView, Basis, Phase, disk_in, RunningView, StoppedView, runs, stopped}
 use Rattle.planner_core.specs.declared.step.Reply.{Reply}
 use Rattle.planner_core.specs.declared.step.Step.{Step}
 use Rattle.planner_core.specs.declared.step.Step.TheVariants as E
 use Rattle.planner_core.proofs.Hands.{gate_opened, section_begun, section_synced}
 
 -- what runs is for that form
-abbrev IsFor : Form → Phase → Type 0
+abbrev pub IsFor : Form → Phase → Type 0
 IsFor form (runs u) = u.archive.form ≡ form
 IsFor form (stopped d) = Unit {0}
 
@@ -28,7 +27,7 @@ pub sound_for : (basis : Basis) (phase : Phase) → IsSound basis phase → IsFo
 sound_for basis (runs u) sound = sound.form
 sound_for basis (stopped d) sound = tt
 
-abbrev Goes : Form → Phase → Phase → Type 0
+abbrev pub Goes : Form → Phase → Phase → Type 0
 Goes form old new = LosesNothing form (disk_in old) (disk_in new) × IsFor form new
 
 -- what leaves the store as it is
@@ -45,7 +44,7 @@ called form u m a own is lasts same =
 
 body_lasts : (fails : Bool) (t : FinishedTree) (a b : ArchiveView) → WritesSection fails t a b → Lasts a b
 body_lasts true t a b (disk, failed, is, lasts) = lasts
-body_lasts false t a b (size, disk, wrote, is, lasts) = lasts
+body_lasts false t a b (size, disk, wrote, is, lasts, adds) = lasts
 
 sync_lasts : (fails : Bool) (a b : ArchiveView) → SyncsSection fails a b → Lasts a b
 sync_lasts true a b call = call.1
@@ -112,9 +111,9 @@ case_goes law basis E.Restart (runs u) (stopped d) reply own c = absurd c
 case_goes law basis E.Restart (stopped d) (runs m) reply own c = (c.lasts, c.begins.form)
 case_goes law basis event (stopped d) new reply own c = absurd c
 
-step_goes : MakesOutcomes → (basis : Basis) (event : Step) (old new : Phase) (reply : Reply) → IsFor basis.form old → StepsTo basis event old reply new → Goes basis.form old new
-step_goes law basis event old new reply own (inl c) = case_goes law basis event old new reply own c
-step_goes law basis event old new reply own (inr idle) =
+pub step_lasts : MakesOutcomes → (basis : Basis) (event : Step) (old new : Phase) (reply : Reply) → IsFor basis.form old → StepsTo basis event old reply new → Goes basis.form old new
+step_lasts law basis event old new reply own (inl c) = case_goes law basis event old new reply own c
+step_lasts law basis event old new reply own (inr idle) =
     subst (λ (p : Phase). Goes basis.form old p) (sym idle.1) (still basis.form (disk_in old) (disk_in old) refl, own)
 
 -- so a whole run loses nothing
@@ -124,5 +123,5 @@ run_lasts law basis old new [] [] own r = still basis.form (disk_in old) (disk_i
 run_lasts law basis old new [] (reply ∷ replies) own r = absurd r
 run_lasts law basis old new (event ∷ events) [] own r = absurd r
 run_lasts law basis old new (event ∷ events) (reply ∷ replies) own r =
-    let one = step_goes law basis event old r.0 reply own r.1 in
+    let one = step_lasts law basis event old r.0 reply own r.1 in
     in_turn basis.form (disk_in old) (disk_in r.0) (disk_in new) one.0 (run_lasts law basis r.0 new events replies one.1 r.4)

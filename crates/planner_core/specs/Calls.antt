@@ -1,10 +1,11 @@
 -- The four calls of the disk by which a tree is put, each done or failed.
-use Rattle.std.specs.Prelude.{◌≡◌, ℕ, ◌+◌, Bool, true, false, [], ◌∷◌, ◌++◌}
+use Rattle.std.specs.Prelude.{◌≡◌, ℕ, ◌+◌, Bool, true, false, List, [], ◌∷◌, ◌++◌}
 use Rattle.disk_model.specs.Disk.{State, after_sync, after_write, WriteFailed}
+use Rattle.pattern_tree.specs.Content.{Content}
 use Rattle.pattern_tree.specs.Finished.{FinishedTree}
 use Rattle.section_store.specs.Lasting.{LosesNothing}
 use Rattle.section_store.specs.Sections.{open_gate}
-use Rattle.section_store.specs.Store.{WroteBody, BodyFailed}
+use Rattle.section_store.specs.Store.{Holds, IsBody, IsOpened, IsRest, WroteBody, BodyFailed}
 use Rattle.section_store.specs.declared.step.Step.{Step}
 use Rattle.section_store.specs.declared.step.Step.TheVariants.{WriteBody, SyncBody, OpenGate, SyncGate, Failed}
 use Rattle.planner_core.specs.Views.{ArchiveView}
@@ -29,6 +30,25 @@ after_call next disk a = record a { next = next; disk = disk }
 abbrev pub with_put : ℕ → ArchiveView → ArchiveView
 with_put source a = record a { storing = a.storing ++ source ∷ [] }
 
+-- What the file has after a call that was done, whatever trees it had before: at rest, and the section of the tree behind them; the same
+-- section behind the same trees; the section opened; that tree behind them, at rest.
+abbrev pub AddsSection : Content → ArchiveView → ArchiveView → Type 0
+AddsSection tree old new =
+    (trees : List Content) → Holds old.form trees old.place old.stored old.disk → IsBody old.form trees tree new.place new.extent new.disk
+
+abbrev pub KeepsSection : ArchiveView → ArchiveView → Type 0
+KeepsSection old new =
+    (trees : List Content) (tree : Content) → IsBody old.form trees tree old.place old.extent old.disk
+    → IsBody old.form trees tree new.place new.extent new.disk
+
+abbrev pub OpensSection : ArchiveView → ArchiveView → Type 0
+OpensSection old new =
+    (trees : List Content) (tree : Content) → IsBody old.form trees tree old.place old.extent old.disk
+    → IsOpened old.form (trees ++ tree ∷ []) (new.place + new.extent) new.disk
+
+abbrev pub Rests : ArchiveView → ArchiveView → Type 0
+Rests old new = (trees : List Content) → IsOpened old.form trees (old.place + old.extent) old.disk → IsRest old.form trees new.place new.disk
+
 -- what each outcome held, each outcome holds: a source, and trees with which the list begins
 abbrev pub Lasts : ArchiveView → ArchiveView → Type 0
 Lasts old new = LosesNothing old.form old.disk new.disk
@@ -41,16 +61,18 @@ WritesSection true t old new =
 WritesSection false t old new =
     (size : ℕ) × (disk : State) × WroteBody old.form t.tree old.place size old.disk disk
     × (new ≡ record old { extent = size; next = SyncBody; disk = disk; storing = old.storing ++ t.tree.source ∷ [] }) × Lasts old new
+    × AddsSection t.tree old new
 
 -- it is brought to the disk
 abbrev pub SyncsSection : Bool → ArchiveView → ArchiveView → Type 0
 SyncsSection true old new = (new ≡ after_failure old.disk old) × Lasts old new
-SyncsSection false old new = (new ≡ after_call OpenGate (after_sync old.disk) old) × Lasts old new
+SyncsSection false old new = (new ≡ after_call OpenGate (after_sync old.disk) old) × Lasts old new × KeepsSection old new
 
 -- the gate before it is opened
 abbrev pub OpensGate : Bool → ArchiveView → ArchiveView → Type 0
 OpensGate true old new = (disk : State) × WriteFailed old.place 1 old.disk disk × (new ≡ after_failure disk old) × Lasts old new
-OpensGate false old new = (new ≡ after_call SyncGate (after_write old.place (open_gate ∷ []) old.disk) old) × Lasts old new
+OpensGate false old new =
+    (new ≡ after_call SyncGate (after_write old.place (open_gate ∷ []) old.disk) old) × Lasts old new × OpensSection old new
 
 -- that is brought to the disk, and then the source has its receipt: its tree is stored, and the closed gate stands behind it
 abbrev pub SyncsGate : Bool → ℕ → ArchiveView → ArchiveView → Type 0
@@ -63,4 +85,4 @@ SyncsGate false source old new =
       next = WriteBody;
       disk = after_sync old.disk;
       acknowledged = old.acknowledged ++ source ∷ [];
-    }) × Lasts old new
+    }) × Lasts old new × Rests old new

@@ -11,7 +11,7 @@ use Rattle.section_store.specs.Sections.{Form, Stands, form_of, sources}
 use Rattle.planner_core.specs.Cores.{running_of}
 use Rattle.planner_core.specs.Safety.{IsSafeDisk}
 use Rattle.planner_core.specs.Steps.{Begins}
-use Rattle.planner_core.proofs.Files.{recovered, safe_stands, safe_trusted}
+use Rattle.planner_core.proofs.Files.{recovered, safe_stands}
 use Rattle.planner_core.proofs.Starting.{begin_sound}
 use Rattle.planner_core.proofs.phase.restart.Goals as goal
 
@@ -31,7 +31,7 @@ begin-requires-clause-exact c =
     let d = c.args.stopped in
     let same : form_of (arc_value c.table.result.now) c.rides.result ≡ c.args.tools.now.form = rw (c.table.ensures, c.rides.ensures) refl in
     let safe = subst (λ (f : Form). IsSafeDisk f d.storing.items d.acknowledged.items (state_of d.disk)) (sym same) c.requires in
-    let exact = c.in-Ok.ensures.exact tt (safe_trusted _ d.storing.items d.acknowledged.items (state_of d.disk) safe) in
+    let exact = c.in-Ok.ensures.exact tt safe.trusted in
     subst (λ (f : Form). All (IsExact f) c.deref.result.now) (sym c.in-Ok.ensures.ready.1) (subst (λ (l : List Content). All (IsExact (form_of (arc_value c.table.result.now) c.rides.result)) l) (sym c.deref.ensures.value) exact)
 
 pub begin-requires-clause-held : goal.begin-requires-clause-held
@@ -66,8 +66,8 @@ returns-in-Ok-begin-clause-sound c =
     let d = c.args.stopped in
     let trees = c.in-Ok.recovered.trees.items in
     let same : form_of (arc_value c.table.result.now) c.rides.result ≡ c.args.tools.now.form = rw (c.table.ensures, c.rides.ensures) refl in
-    let exact = c.in-Ok.ensures.exact tt (safe_trusted _ d.storing.items d.acknowledged.items (state_of d.disk)
-    (subst (λ (f : Form). IsSafeDisk f d.storing.items d.acknowledged.items (state_of d.disk)) (sym same) c.requires)) in
+    let safe = subst (λ (f : Form). IsSafeDisk f d.storing.items d.acknowledged.items (state_of d.disk)) (sym same) c.requires in
+    let exact = c.in-Ok.ensures.exact tt safe.trusted in
     let begins = subst (λ (l : List Content). Begins c.args.tools.now l (running_of c.in-Ok-begin.running)) c.deref.ensures.value c.in-Ok-begin.ensures.begins in
     begin_sound c.args.tools.now trees (running_of c.in-Ok-begin.running) begins (subst (λ (f : Form). All (IsExact f) trees) same exact)
     (subst (λ (f : Form). All (λ (tree : Content). tree.source < stops_of f.table) trees) same c.in-Ok.ensures.known)

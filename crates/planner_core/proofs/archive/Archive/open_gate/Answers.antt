@@ -1,14 +1,16 @@
-use Rattle.std.proofs.Common.{◌≡◌, ◌∙◌, [], ◌∷◌, ap, not, refl, sym}
+use Rattle.std.proofs.Common.{◌≡◌, ◌∙◌, ◌+◌, OnOk, List, [], ◌∷◌, ◌++◌, ap, not, refl, sym}
 use Rattle.std.proofs.lemmas.Result.{on_ok_weaker}
 use Rattle.disk_model.specs.Disk.{Writes}
 use Rattle.disk_model.specs.MemDisk.{state_of}
+use Rattle.pattern_tree.specs.Content.{Content}
 use Rattle.section_store.specs.Lasting.{LosesNothing}
+use Rattle.section_store.specs.Store.{IsBody, IsOpened}
 use Rattle.section_store.specs.Sections.{open_gate}
 use Rattle.section_store.specs.declared.step.Step.{Step}
 use Rattle.section_store.specs.declared.step.Step.TheVariants as N
 use Rattle.planner_core.specs.Calls.{extent_of}
 use Rattle.planner_core.specs.Views.{ArchiveView}
-use Rattle.planner_core.proofs.Calling.{after_open_gate, as_before, gate_case, still_archive}
+use Rattle.planner_core.proofs.Calling.{after_open_gate, as_before, body_opened, gate_case, still_archive}
 use Rattle.planner_core.proofs.archive.Archive.open_gate.Goals as goal
 
 pub invariant_of-self : goal.invariant_of-self
@@ -47,11 +49,15 @@ returns c =
     let lasts : LosesNothing a.form a.disk (state_of new.disk) =
     rw (← form, ← disk) (c.open_gate.ensures.lasting told.form is.trees is.stage.tree tt at_gate.1 at_gate.2) in
     let written : Writes a.place (open_gate ∷ []) c.open_gate.result a.disk (state_of new.disk) = rw (← place, ← disk) (c.open_gate.ensures.written tt) in
+    let opens : OnOk c.open_gate.result ((trees : List Content) (tree : Content) → IsBody a.form trees tree a.place a.extent a.disk
+    → IsOpened a.form (trees ++ tree ∷ []) (new.place + new.extent) (state_of new.disk)) =
+    rw (← place, ← extent, ← disk) (body_opened c.open_gate.result a.form told.place told.extent new.place new.extent (state_of told.disk) (state_of new.disk)
+    (λ trees tree body. c.open_gate.ensures.opened a.form trees tree tt body)) in
     on_ok_weaker c.as_told.result
     (λ made.
     gate_case c.open_gate.result c.args.fails a new.form new.stored new.place new.extent new.next (state_of new.disk) at.storing.items at.acknowledged.items
     (made ∙ ap not c.is_ok-made.ensures.value) written c.open_gate.ensures.next
     (c.open_gate.ensures.form ∙ same.2 ∙ ap (λ (x : ArchiveView). x.form) v)
     (c.open_gate.ensures.stored ∙ c.tell.ensures.stored ∙ ap (λ (x : ArchiveView). x.stored) v)
-    (c.open_gate.ensures.place ∙ place) (c.open_gate.ensures.extent ∙ extent) (ap (λ (x : ArchiveView). x.storing) v) (ap (λ (x : ArchiveView). x.acknowledged) v) lasts)
+    (c.open_gate.ensures.place ∙ place) (c.open_gate.ensures.extent ∙ extent) (ap (λ (x : ArchiveView). x.storing) v) (ap (λ (x : ArchiveView). x.acknowledged) v) lasts opens)
     c.as_told.ensures

@@ -1,14 +1,16 @@
-use Rattle.std.proofs.Common.{◌≡◌, ◌∙◌, ◌+◌, ◌++◌, [], ◌∷◌, ap, is_ok, not, refl, sym}
+use Rattle.std.proofs.Common.{◌≡◌, ◌∙◌, ◌+◌, ◌++◌, OnOk, List, [], ◌∷◌, ap, is_ok, not, refl, sym}
 use Rattle.std.specs.Prelude.{MatchResult}
 use Rattle.std.proofs.lemmas.Result.{on_ok_weaker}
 use Rattle.disk_model.specs.Disk.{after_sync}
 use Rattle.disk_model.specs.MemDisk.{state_of}
+use Rattle.pattern_tree.specs.Content.{Content}
 use Rattle.section_store.specs.Lasting.{LosesNothing}
+use Rattle.section_store.specs.Store.{IsOpened, IsRest}
 use Rattle.section_store.specs.declared.step.Step.{Step}
 use Rattle.section_store.specs.declared.step.Step.TheVariants as N
 use Rattle.planner_core.specs.Calls.{extent_of}
 use Rattle.planner_core.specs.Views.{ArchiveView}
-use Rattle.planner_core.proofs.Calling.{after_sync_gate, as_before, receipt_case, same_source}
+use Rattle.planner_core.proofs.Calling.{after_sync_gate, as_before, put_rests, receipt_case, same_source}
 use Rattle.planner_core.proofs.archive.Archive.sync_gate.Goals.{then-made, else-made}
 use Rattle.planner_core.proofs.archive.Archive.sync_gate.Goals as goal
 
@@ -80,17 +82,20 @@ returns c =
     let going : new.form ≡ a.form = c.sync_gate.ensures.form ∙ same.2 ∙ ap (λ (x : ArchiveView). x.form) v in
     let noted : at.storing.items ≡ a.storing = ap (λ (x : ArchiveView). x.storing) v in
     let held : c.reserve.new.self.items ≡ a.acknowledged = c.reserve.ensures.items ∙ ap (λ (x : ArchiveView). x.acknowledged) v in
+    let rests : OnOk c.sync_gate.result ((trees : List Content) → IsOpened a.form trees (a.place + a.extent) a.disk → IsRest a.form trees new.place (state_of new.disk)) =
+    rw (← place, ← extent, ← disk) (put_rests c.sync_gate.result a.form (told.place + told.extent) new.place (state_of told.disk) (state_of new.disk)
+    (λ trees opened. c.sync_gate.ensures.rest a.form trees tt opened)) in
     elim c.if-made.branch [
       | then-made w ↦ rw w.self-is (on_ok_weaker c.as_told.result
           (λ made.
           receipt_case c.sync_gate.result c.args.fails c.args.source a new.form new.stored new.place new.extent new.next (state_of new.disk) at.storing.items w.push_reserved.new.self.items
           (made ∙ ap not answer) synced c.sync_gate.ensures.next going grown moved noted
-          (rw (sym answer ∙ w.if-made.true) (w.push_reserved.ensures.items ∙ ap (λ l. l ++ c.args.source ∷ []) held)) lasts)
+          (rw (sym answer ∙ w.if-made.true) (w.push_reserved.ensures.items ∙ ap (λ l. l ++ c.args.source ∷ []) held)) lasts rests)
           c.as_told.ensures)
       | else-made w ↦ rw w.self-is (on_ok_weaker c.as_told.result
           (λ made.
           receipt_case c.sync_gate.result c.args.fails c.args.source a new.form new.stored new.place new.extent new.next (state_of new.disk) at.storing.items c.reserve.new.self.items
           (made ∙ ap not answer) synced c.sync_gate.ensures.next going grown moved noted
-          (rw (sym answer ∙ w.if-made.false) held) lasts)
+          (rw (sym answer ∙ w.if-made.false) held) lasts rests)
           c.as_told.ensures)
     ]

@@ -1,11 +1,11 @@
-use Rattle.std.proofs.Common.{rules, ◌≡◌, ◌∙◌, ◌++◌, [], ◌∷◌, ap, inl, inr, refl, subst, sym, not, true, false}
+use Rattle.std.proofs.Common.{rules, ◌≡◌, ◌∙◌, List, ◌++◌, [], ◌∷◌, ap, inl, inr, refl, subst, sym, not, true, false}
 use Rattle.disk_model.specs.MemDisk.{state_of}
 use Rattle.pattern_tree.specs.Content.{Content}
 use Rattle.section_store.specs.Fault.{CauseOf, IsTooLarge}
 use Rattle.section_store.specs.Lasting.{IsExact, LosesNothing}
 use Rattle.timetable.specs.Table.{IsTable}
 use Rattle.section_store.specs.Sections.{Form, MayStand}
-use Rattle.section_store.specs.Store.{WroteBody, BodyFailed}
+use Rattle.section_store.specs.Store.{Holds, IsBody, WroteBody, BodyFailed}
 use Rattle.section_store.specs.declared.step.Step.TheVariants as N
 use Rattle.planner_core.specs.Views.{ArchiveView}
 use Rattle.planner_core.proofs.Calling.{after_write_body, as_before, still_archive, section_made, section_failed}
@@ -116,7 +116,8 @@ returns c =
     let storing : c.push_reserved.new.self.items ≡ a.storing ++ t.tree.source ∷ [] =
     c.push_reserved.ensures.items ∙ ap (λ l. l ++ c.source.result ∷ []) (c.reserve.ensures.items ∙ ap (λ (x : ArchiveView). x.storing) v)
     ∙ ap (λ n. a.storing ++ n ∷ []) (c.source.ensures ∙ ap (λ (x : Content). x.source) c.tree-content.ensures.value) in
-    let stored = c.write_body.ensures.stored ∙ c.tell.ensures.stored ∙ ap (λ (x : ArchiveView). x.stored) v in
+    let before : mid.stored ≡ a.stored = c.tell.ensures.stored ∙ ap (λ (x : ArchiveView). x.stored) v in
+    let stored = c.write_body.ensures.stored ∙ before in
     let acknowledged = ap (λ (x : ArchiveView). x.acknowledged) v in
     let next : store.next ≡ N.WriteBody = ap (λ (x : ArchiveView). x.next) v ∙ c.requires.ready in
     let is = as_before same.2 c.tell.ensures.stored refl refl (sym next) c.tell.ensures.section.1 same.0 c.tell.ensures.section.0 c.tell.ensures.state c.self.invariant in
@@ -125,10 +126,12 @@ returns c =
       | in-Ok w ↦
           let fails : c.args.fails ≡ false = c.in_ok-as_told.ensures ∙ ap not w.made-is in
           let small : ¬ IsTooLarge a.form t.tree a.place = rw (← form, ← place, ← c.tree-content.ensures.value) w.in-Ok.ensures.cause.3 in
-          let wrote : WroteBody a.form t.tree a.place new.extent a.disk (state_of new.disk) = rw (← form, ← place, ← state, ← c.tree-content.ensures.value) (w.in-Ok.ensures.written tt) in (
+          let wrote : WroteBody a.form t.tree a.place new.extent a.disk (state_of new.disk) = rw (← form, ← place, ← state, ← c.tree-content.ensures.value) (w.in-Ok.ensures.written tt) in
+          let adds : (trees : List Content) → Holds a.form trees a.place a.stored a.disk → IsBody a.form trees t.tree new.place new.extent (state_of new.disk) =
+          rw (← form, ← place, ← state, ← before, ← c.tree-content.ensures.value) (λ trees holds. w.in-Ok.ensures.body trees tt holds) in (
             small,
             section_made c.args.fails t a new.form new.stored new.place new.extent new.next (state_of new.disk) c.push_reserved.new.self.items at.acknowledged.items
-                fails wrote w.in-Ok.ensures.next (c.write_body.ensures.form ∙ form) stored (c.write_body.ensures.place ∙ place) storing acknowledged lasts,
+                fails wrote w.in-Ok.ensures.next (c.write_body.ensures.form ∙ form) stored (c.write_body.ensures.place ∙ place) storing acknowledged lasts adds,
           )
       | in-Err-Device w ↦
           let fails : c.args.fails ≡ true = c.in_ok-as_told.ensures ∙ ap not w.made-is in

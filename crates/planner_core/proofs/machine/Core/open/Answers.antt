@@ -3,6 +3,8 @@ use Rattle.disk_model.specs.Disk.{State}
 use Rattle.disk_model.specs.MemDisk.{state_of}
 use Rattle.section_store.specs.Sections.{Form, Stands}
 use Rattle.planner_core.specs.Cores.{running_of}
+use Rattle.planner_core.specs.Kept.{ShowsKept}
+use Rattle.planner_core.specs.Views.{runs}
 use Rattle.planner_core.proofs.Kept.{begins_shown}
 use Rattle.planner_core.proofs.machine.Core.open.Goals as goal
 
@@ -21,5 +23,10 @@ returns-in-Ok-open-clause-opened c =
       runs_so = refl;
       begins = is.2;
       acknowledged = is.3;
-      shows = begins_shown tools is.0 running is.2;
+      shows = subst (λ (f : Form). ShowsKept f is.0 (runs running)) c.in-Ok.ensures.form (begins_shown tools is.0 running is.2);
     }
+
+pub invariant_of-result : goal.invariant_of-result
+invariant_of-result c =
+    let is = c.in-Ok-open.ensures.opened in
+    record { sound = c.in-Ok-open.ensures.sound; kept = is.0; shows = begins_shown c.in-Ok.tools is.0 (running_of c.in-Ok-open.running) is.2 }
