@@ -9,7 +9,7 @@ use Rattle.timetable.specs.Journeys.{Journey, Serves, Reaches}
 use Rattle.timetable.specs.Table.{Table}
 use Rattle.pattern_tree.specs.Content.{Content}
 use Rattle.pattern_query.specs.Answer.{PointData, numbers, AreBest}
-use Rattle.planner.specs.Questions.{IsAskedPoint, ReachesBetween}
+use Rattle.pattern_query.specs.Questions.{IsAskedPoint, ReachesBetween}
 use Rattle.scanned_journeys.specs.Journeys.{IsJourney}
 use Rattle.answering.specs.Answers.{Journeys, IsReached, IsRideBetween, TellsReached}
 use Rattle.answering.specs.Found.{IsHeldBetween, IsJourneyBetween}

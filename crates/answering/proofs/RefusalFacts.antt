@@ -3,9 +3,9 @@ use Rattle.std.proofs.Common.{Option, ◌≡◌, ℕ, ◌<◌, ◌≤◌, None, 
 use Rattle.std.specs.Option.{unwrap_or}
 use Rattle.timetable.specs.Table.{Table}
 use Rattle.feed_ids.specs.Names.{stops_at}
-use Rattle.planner.specs.Questions as planner
-use Rattle.planner.specs.declared.refusal.Refusal.{Refusal}
-use Rattle.planner.specs.declared.refusal.Refusal.TheVariants as refusals
+use Rattle.pattern_query.specs.Questions as questions
+use Rattle.pattern_query.specs.declared.refusal.Refusal.{Refusal}
+use Rattle.pattern_query.specs.declared.refusal.Refusal.TheVariants as refusals
 use Rattle.question_lines.specs.declared.question.Question.{Question}
 use Rattle.feed_basis.specs.Basis.{BasisData}
 use Rattle.answering.specs.Refusals.{IsCovered, IsMissing, IsRefused}
@@ -26,9 +26,9 @@ not_covered table moment d is late covered =
     let b : ⊥ = omega (arith, at, late, within) in b
 
 -- a refusal of a question between places is one of the question
-pub refused : (basis : BasisData) (held : planner.Held) (moment : Option ℕ) (question : Question) (d : ℕ) (refusal : Refusal)
+pub refused : (basis : BasisData) (held : questions.Held) (moment : Option ℕ) (question : Question) (d : ℕ) (refusal : Refusal)
     → d ≡ unwrap_or moment 4_294_967_295 → basis.timetable.horizon ≤ 2_851_199
-    → planner.IsRefusal basis.timetable basis.names held question.from.now question.to.now d refusal
+    → questions.IsRefusal basis.timetable basis.names held question.from.now question.to.now d refusal
     → IsRefused (stops_at basis.names) (IsMissing basis held question) basis.timetable moment question refusal
 refused basis held moment question d (refusals.UnknownStop id) is bound h = h
 refused basis held moment question d refusals.NotCovered is bound h = ((h.0, h.1), not_covered basis.timetable moment d is h.2)

@@ -8,7 +8,7 @@ use Rattle.timetable.specs.Journeys.{Journey, Serves, arrives, pattern}
 use Rattle.timetable.specs.Table.{Table}
 use Rattle.pattern_query.specs.Answer.{AreBest}
 use Rattle.pattern_tree.specs.Content.{Content}
-use Rattle.planner.specs.Questions.{AreComplete, AskedReaches, Held, IsStored, ReachesBetween}
+use Rattle.pattern_query.specs.Questions.{AreComplete, AskedReaches, Held, IsStored, ReachesBetween}
 use Rattle.answer_lines.specs.declared.answer.Answer.{Answer}
 use Rattle.answer_lines.specs.declared.answer.Answer.TheVariants as answers
 use Rattle.answer_lines.specs.declared.answer.Point.{Point}

@@ -4,7 +4,7 @@ use Rattle.std.specs.List.{All}
 use Rattle.timetable.specs.Table.{Table}
 use Rattle.pattern_query.specs.Answer.{PointData, AreBest, numbers}
 use Rattle.feed_ids.specs.Names.{stops_at}
-use Rattle.planner.specs.Questions.{AreComplete, AskedReaches, Held, IsStored, ReachesBetween}
+use Rattle.pattern_query.specs.Questions.{AreComplete, AskedReaches, Held, IsStored, ReachesBetween}
 use Rattle.question_lines.specs.declared.question.Question.{Question}
 use Rattle.feed_basis.specs.Basis.{BasisData}
 use Rattle.answering.specs.Answers.{IsHeldJourney, IsJourneyOf}

@@ -2,9 +2,9 @@
 use Rattle.std.specs.Prelude.{◌≡◌, ℕ, ◌≤◌, ◌⊎◌, List, [], Option, None, Some, slice_index_or}
 use Rattle.timetable.specs.Table.{Table}
 use Rattle.feed_ids.specs.Names.{stops_at}
-use Rattle.planner.specs.Questions.{Held, IsFirstMissing}
-use Rattle.planner.specs.declared.refusal.Refusal.{Refusal}
-use Rattle.planner.specs.declared.refusal.Refusal.TheVariants as refusals
+use Rattle.pattern_query.specs.Questions.{Held, IsFirstMissing}
+use Rattle.pattern_query.specs.declared.refusal.Refusal.{Refusal}
+use Rattle.pattern_query.specs.declared.refusal.Refusal.TheVariants as refusals
 use Rattle.faults.specs.declared.fault.Fault.{Fault}
 use Rattle.faults.specs.declared.fault.Fault.TheVariants as faults
 use Rattle.feed_basis.specs.Basis.{BasisData}

@@ -13,7 +13,7 @@ use answer_lines::Answer;
 use direct_connections::Network;
 use faults::Fault;
 use feed_basis::Basis;
-use planner::{Refusal, Trees, ask_on};
+use pattern_query::{Refusal, Trees, ask_on};
 use question_lines::Question;
 use rounds::Rides;
 use scanned_journeys::scan_journeys;

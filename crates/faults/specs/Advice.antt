@@ -4,8 +4,8 @@ use Rattle.service_days.specs.declared.fault.DayFault.{DayFault}
 use Rattle.service_days.specs.declared.fault.DayFault.TheVariants as days
 use Rattle.recovery.specs.declared.fault.RecoverFault.{RecoverFault}
 use Rattle.recovery.specs.declared.fault.RecoverFault.TheVariants as stores
-use Rattle.planner.specs.declared.refusal.Refusal.{Refusal}
-use Rattle.planner.specs.declared.refusal.Refusal.TheVariants as refusals
+use Rattle.pattern_query.specs.declared.refusal.Refusal.{Refusal}
+use Rattle.pattern_query.specs.declared.refusal.Refusal.TheVariants as refusals
 use Rattle.faults.specs.declared.fault.Fault.{Fault}
 use Rattle.faults.specs.declared.fault.Fault.TheVariants as fault
 use Rattle.faults.specs.declared.advice.TheConstants.{BAD_DATE, BAD_RANGE, BAD_TIME, DAMAGED, DEVICE, GATE_DAMAGED, IN_USE, NOT_A_STORE}

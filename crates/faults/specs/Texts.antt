@@ -12,7 +12,7 @@ use Rattle.recovery.specs.declared.fault.RecoverFault.{RecoverFault}
 use Rattle.recovery.specs.declared.fault.RecoverFault.TheVariants as stores
 use Rattle.faults.specs.declared.fault.Fault.{Fault}
 use Rattle.faults.specs.declared.fault.Fault.TheVariants as fault
-use Rattle.planner.specs.Refusals.{refusal_text}
+use Rattle.pattern_query.specs.Refusals.{refusal_text}
 
 abbrev pub kind_text : FaultKind → List ℕ
 kind_text kinds.MissingFile = codes "F1 MissingFile"

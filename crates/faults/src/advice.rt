@@ -4,7 +4,7 @@ ghost use Rattle.std.specs.Prelude.{◌≡◌, option_map};
 ghost use Rattle.faults.specs.Advice.{advice_of, days_advice, question_advice, store_advice};
 
 use crate::fault::Fault;
-use planner::Refusal;
+use pattern_query::Refusal;
 use recovery::RecoverFault;
 use service_days::DayFault;
 

@@ -2,7 +2,7 @@
 
 use faults::{Fault, file_name};
 use itinerary_texts::{FaultText, fault_text_json};
-use planner::Refusal;
+use pattern_query::Refusal;
 use std::alloc::{AllocError, Global};
 use std::format;
 

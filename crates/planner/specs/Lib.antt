@@ -1,3 +1,6 @@
-pub mod Questions
-pub mod Gathered
-pub mod Refusals
+pub mod PlannerView
+pub mod AskTexts
+pub mod Asking
+pub mod Desk
+pub mod Opening
+pub mod Sharing

@@ -1,67 +1,72 @@
-//! Answers to questions between two places.
+//! Questions, asked of the trees that a board shows.
 
-ghost use Rattle.std.specs.Prelude.{◌≡◌, ◌≤◌, MatchResult};
-ghost use Rattle.feed_ids.specs.Names.{stops_in};
-ghost use Rattle.planner.specs.Questions.{IsAnswer, IsRefusal};
-ghost use Rattle.planner.specs.Gathered.{IsTo, AddsAsked};
+ghost use Rattle.std.specs.Prelude.{◌≡◌, IfOk, MatchResult};
+ghost use Rattle.std.specs.List.{All};
+ghost use Rattle.board.specs.Trees.{IsRight};
+ghost use Rattle.pattern_query.specs.Questions.{IsAnswer, IsRefusal};
+ghost use Rattle.planner.specs.Asking.{AreBestBetween, IsAnswered, IsUnanswered, held_by};
 
-use crate::places::stops_of;
-use crate::refusal::Refusal;
-use crate::trees::Trees;
-use direct_connections::Network;
-use feed_ids::Names;
-use pattern_query::{Answer, BestSoFar, Patterns};
-use timetable::{LATEST_MOMENT, StopId};
+use crate::fault::AskFault;
+use crate::look::Look;
+use crate::plan::Planner;
+use board::Reader;
+use pattern_query::{Answer, Refusal, ask_on};
 
-// Puts in the journeys of the patterns to each of the stops.
-fn search_to(
-    network: &Network,
-    patterns: &Patterns,
-    tos: &[StopId],
-    depart: u32,
-    best: &mut BestSoFar,
-)
-    requires early { depart ≤ LATEST_MOMENT }
-    ensures { AddsAsked network.now (IsTo patterns.now tos.now) depart best.old best.new }
-{
-    for to in tos {
-        best.search(network, patterns, *to, depart);
+impl Planner {
+    // The answer from the trees of a look, or why there is none.
+    fn answer_on<'a>(
+        &'a self,
+        look: &Look,
+        from: &'a str,
+        to: &'a str,
+        depart: u32,
+    ) -> Result<Answer, Refusal<'a>>
+        requires own { look.now.view.origin.form ≡ self.now.form }
+        ensures answer { MatchResult result
+            (IsAnswer self.now.form.table self.now.names (held_by self.now look.now.view) from.now to.now depart)
+            (IsRefusal self.now.form.table self.now.names (held_by self.now look.now.view) from.now to.now depart) }
+        ensures exact { All (IsRight self.now.form) look.now.view.origin.opened.list
+            → IfOk result (AreBestBetween self.now from.now to.now depart) }
+    {
+        // It says that the list goes on from the opened trees with such as are complete.
+        let _shown = look.view.told();
+        ask_on(&self.network, &self.names, look, from, to, depart)
     }
-}
 
-/// The best journeys between two places, each a stop or a station by its id, at a moment: of all journeys of the trees of the first
-/// place's stops to the second place's stops, one for each of the numbers that no other's beat, by rising rides. Where the trees are
-/// complete, these are the best numbers of all journeys between these stops. A station without stops gives no journeys.
-///
-/// It is refused where an id names nothing, the first before the second; else where the moment isn't covered; else where a tree isn't
-/// there, with the id of the first stop that lacks one. The names are those of the timetable's feed. It takes no
-/// memory.
-pub fn ask_on<'a, T: Trees>(
-    network: &Network,
-    names: &'a Names,
-    trees: &T,
-    from: &'a str,
-    to: &'a str,
-    depart: u32,
-) -> Result<Answer, Refusal<'a>>
-    ensures { MatchResult result (IsAnswer network.now names.now (T.held trees.now) from.now to.now depart)
-        (IsRefusal network.now names.now (T.held trees.now) from.now to.now depart) }
-{
-    let Some(start) = names.place(from) else {
-        return Err(Refusal::UnknownStop(from));
-    };
-    let Some(end) = names.place(to) else {
-        return Err(Refusal::UnknownStop(to));
-    };
-    if !network.timetable().covers(depart) {
-        return Err(Refusal::NotCovered);
-    }
-    let mut best = BestSoFar::new();
-    for source in stops_of(&start) {
-        let Some(patterns) = trees.patterns(*source) else {
-            return Err(Refusal::NotStored(names.stop(*source)));
+    /// The best journeys between two places, each a stop or a station by its id, at a moment, from the trees that are shown at one look:
+    /// at all that the reader saw before and was told of, or at more. The reader comes back, and knows what it saw. It takes no
+    /// memory, and waits for nobody.
+    ///
+    /// Where the trees of the first place's stops are complete, these are the best of all journeys of at most so many rides; each
+    /// tree that was published is, and so is each tree with which the board was opened where the disk was trusted.
+    ///
+    /// It is refused where the board gives no look; else as questions are: where an id names nothing, the first before the second; where
+    /// the moment isn't covered; and where a tree isn't shown, with the id of the first stop that lacks one.
+    pub fn ask<'a>(
+        &'a self,
+        reader: Reader,
+        from: &'a str,
+        to: &'a str,
+        depart: u32,
+    ) -> (Reader, Result<Answer, AskFault<'a>>)
+        requires own { reader.origin.form ≡ self.now.form }
+        ensures answer { MatchResult result.1
+            (IsAnswered self.now reader result.0 from.now to.now depart)
+            (IsUnanswered self.now reader result.0 from.now to.now depart) }
+        ensures exact { All (IsRight self.now.form) reader.origin.opened.list
+            → IfOk result.1 (AreBestBetween self.now from.now to.now depart) }
+    {
+        let view = match reader.look() {
+            Err(reader) => return (reader, Err(AskFault::BoardRefused)),
+            Ok(view) => view,
         };
-        search_to(network, patterns, stops_of(&end), depart, &mut best);
+        let look = Look { view };
+        let answer = self.answer_on(&look, from, to, depart);
+        let Look { view } = look;
+        let reader = view.leave();
+        match answer {
+            Ok(points) => (reader, Ok(points)),
+            Err(refusal) => (reader, Err(AskFault::Question(refusal))),
+        }
     }
-    Ok(best.answer())
 }

@@ -4,7 +4,7 @@ use Rattle.std.specs.List.{All, Contains}
 use Rattle.disk_model.specs.Disk.{State}
 use Rattle.timetable.specs.Table.{stops_of}
 use Rattle.pattern_tree.specs.Content.{Content}
-use Rattle.planner.specs.Questions.{IsStored}
+use Rattle.pattern_query.specs.Questions.{IsStored}
 use Rattle.section_store.specs.Going.{IsKept}
 use Rattle.section_store.specs.Sections.{Form, IsNew}
 use Rattle.store_excerpt.specs.Board.{IsBoardOf, shown}

@@ -9,10 +9,10 @@ use crate::publishing::Publisher;
 use crate::taking::Taker;
 use disk_model::Disk;
 use flusher::{FlushEnd, flush};
+use planner::Desk;
 use section_store::Step;
 use section_store::going_laws::goes_on;
 use shared_ledger::Basis;
-use shared_planner::Desk;
 use std::alloc::Global;
 use std::sync::Wait;
 

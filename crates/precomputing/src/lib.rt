@@ -2,10 +2,11 @@
 //! scratch and an arena of its own, and the calling thread stores what they hand in and shows it.
 #![tactic(auto)]
 
-mod bench;
+mod builder;
 mod crew;
 mod flushing;
 mod gate;
+mod halt;
 mod held;
 mod meanwhile;
 mod missing;
@@ -13,7 +14,6 @@ mod outcome;
 mod precomputing;
 mod progress;
 mod publishing;
-mod stop;
 mod taking;
 mod threads;
 mod worker;
@@ -21,8 +21,8 @@ mod workshop;
 
 pub use crew::Crew;
 pub use gate::{Free, Gate};
+pub use halt::Halt;
 pub use meanwhile::{Meanwhile, precompute_while};
 pub use outcome::Outcome;
 pub use precomputing::{precompute, precompute_telling, precompute_until};
 pub use progress::{Progress, Silent};
-pub use stop::Stop;

@@ -9,16 +9,16 @@ ghost use Rattle.precomputing.specs.Outcome.{IsDoneAtOnce, IsLeft, IsPrecomputed
 
 use crate::crew::Crew;
 use crate::gate::Gate;
+use crate::halt::Halt;
 use crate::missing::{has_each, mark, missing_stops};
 use crate::outcome::Outcome;
 use crate::progress::{Progress, Silent};
-use crate::stop::Stop;
 use crate::threads::run_over;
 use disk_model::Disk;
 use flusher::FlushEnd;
+use planner::{Desk, Planner};
 use section_store::going_laws::goes_on;
 use section_store::{Step, StopSet};
-use shared_planner::{Desk, Planner};
 use std::alloc::{AllocError, Global};
 use std::marker::Brand;
 use std::sync::Wait;
@@ -130,7 +130,7 @@ pub fn precompute_until<D: Disk + Drop, R: Threads + Wait + Sync, G: Gate + Sync
     planner: &Planner,
     workers: usize,
     gate: &G,
-    stop: &Stop,
+    stop: &Halt,
 ) -> (Desk<D>, Outcome)
     requires own { desk.form ≡ planner.now.form }
     requires workers { (0 < workers) × (workers ≤ 64) }
@@ -161,6 +161,6 @@ pub fn precompute<D: Disk + Drop, R: Threads + Wait + Sync, G: Gate + Sync>(
     ensures precomputed { IsPrecomputed D.honest D.state D.failures desk result.0 result.1 }
     ensures at_once { IsDoneAtOnce desk result.0 result.1 }
 {
-    let stop = Stop::new();
+    let stop = Halt::new();
     precompute_until(alloc, rt, desk, planner, workers, gate, &stop)
 }

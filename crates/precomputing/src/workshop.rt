@@ -4,7 +4,7 @@ ghost use Rattle.std.specs.Prelude.{◌≡◌};
 ghost use Rattle.section_store.specs.Sections.{form_of};
 
 use crate::gate::Gate;
-use crate::stop::Stop;
+use crate::halt::Halt;
 use direct_connections::Network;
 use shared_ledger::{Basis, Seat, Shared};
 use std::alloc::Global;
@@ -21,6 +21,6 @@ pub(crate) struct Workshop<'a, B: Basis, R: Wait, G: Gate> {
     pub(crate) shared: &'a Shared<B>,
     pub(crate) seats: &'a Mutex<Vec<Seat>>,
     pub(crate) gate: &'a G,
-    pub(crate) stop: &'a Stop,
+    pub(crate) stop: &'a Halt,
     pub(crate) ghost own: { form_of network.now rides ≡ form_of B.table B.rides },
 }

@@ -6,7 +6,7 @@ use Rattle.command_line.specs.declared.format.Style.TheVariants as styles
 use Rattle.faults.specs.Lines.{fault_lines}
 use Rattle.faults.specs.declared.fault.Fault.{Fault}
 use Rattle.faults.specs.declared.fault.Fault.TheVariants as faults
-use Rattle.planner.specs.declared.refusal.Refusal.TheVariants as refusals
+use Rattle.pattern_query.specs.declared.refusal.Refusal.TheVariants as refusals
 use Rattle.printing.specs.declared.fault.Voice.{Voice}
 use Rattle.streams.specs.Streams.{IsSaid, StreamData}
 use Rattle.tellers.specs.Tellings.{Telling}

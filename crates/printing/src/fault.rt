@@ -8,7 +8,7 @@ ghost use Rattle.tellers.specs.Tellings.{telling_of};
 
 use command_line::Style;
 use faults::{Fault, FaultLines};
-use planner::Refusal;
+use pattern_query::Refusal;
 use std::alloc::Global;
 use std::io::Write;
 use streams::Stream;

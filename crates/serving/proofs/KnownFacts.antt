@@ -5,11 +5,11 @@ use Rattle.timetable.specs.Journeys.{Journey}
 use Rattle.feed_ids.specs.NameLists.{NameLists}
 use Rattle.timetable.specs.Table.{Table}
 use Rattle.pattern_query.specs.Answer.{PointData}
-use Rattle.planner.specs.Questions.{Held, IsAnswer, IsAskedPoint}
+use Rattle.pattern_query.specs.Questions.{Held, IsAnswer, IsAskedPoint}
 use Rattle.feed_basis.specs.Basis.{BasisData, IsSound}
 use Rattle.told_journeys.specs.Points.{IsKnownJourney}
 use Rattle.told_journeys.proofs.StageFacts.{journey_known}
-use Rattle.shared_planner.specs.PlannerView.{PlannerView}
+use Rattle.planner.specs.PlannerView.{PlannerView}
 use Rattle.serving.specs.Answers.{IsOver}
 
 -- what holds of all holds of one that is among them

@@ -4,10 +4,10 @@ use Rattle.feed_basis.specs.Basis.{BasisData}
 use Rattle.pattern_query.specs.Answer.{PointData}
 use Rattle.board.specs.Ties.{BoardPart}
 use Rattle.board.specs.Trees.{IsRight}
-use Rattle.shared_planner.specs.Asking.{AreBestBetween, IsAnswered, IsLook, IsUnanswered}
-use Rattle.shared_planner.specs.PlannerView.{PlannerView}
-use Rattle.shared_planner.specs.declared.fault.AskFault.{AskFault}
-use Rattle.shared_planner.specs.declared.fault.AskFault.TheVariants as faults
+use Rattle.planner.specs.Asking.{AreBestBetween, IsAnswered, IsLook, IsUnanswered}
+use Rattle.planner.specs.PlannerView.{PlannerView}
+use Rattle.planner.specs.declared.fault.AskFault.{AskFault}
+use Rattle.planner.specs.declared.fault.AskFault.TheVariants as faults
 use Rattle.question_lines.specs.declared.question.Question.{Question}
 use Rattle.serving.specs.Answers.{IsAsked, IsRefused, IsReply, IsTold}
 use Rattle.serving.specs.declared.reply.Refusal.TheVariants as refusals

@@ -7,9 +7,9 @@ use Rattle.service_days.specs.Cover.{CoverDays}
 use Rattle.pattern_query.specs.Answer.{PointData}
 use Rattle.board.specs.Ties.{BoardPart}
 use Rattle.board.specs.Trees.{IsRight}
-use Rattle.shared_planner.specs.Asking.{AreBestBetween, IsAnswered, IsLook, IsUnanswered}
-use Rattle.shared_planner.specs.PlannerView.{PlannerView}
-use Rattle.shared_planner.specs.declared.fault.AskFault.{AskFault}
+use Rattle.planner.specs.Asking.{AreBestBetween, IsAnswered, IsLook, IsUnanswered}
+use Rattle.planner.specs.PlannerView.{PlannerView}
+use Rattle.planner.specs.declared.fault.AskFault.{AskFault}
 use Rattle.answer_lines.specs.declared.answer.Answer.{Answer}
 use Rattle.answer_lines.specs.declared.answer.Answer.TheVariants as answers
 use Rattle.feed_basis.specs.Basis.{BasisData}

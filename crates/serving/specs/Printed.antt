@@ -1,6 +1,6 @@
 -- How replies are shown as lines.
 use Rattle.std.specs.Prelude.{ℕ, List, [], ◌∷◌, ◌++◌, codes}
-use Rattle.shared_planner.specs.AskTexts.{ask_text}
+use Rattle.planner.specs.AskTexts.{ask_text}
 use Rattle.answer_lines.specs.Printed.{answer_text}
 use Rattle.serving.specs.declared.reply.Refusal.{Refusal}
 use Rattle.serving.specs.declared.reply.Refusal.TheVariants as refusals

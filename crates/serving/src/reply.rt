@@ -4,7 +4,7 @@ ghost use Rattle.std.specs.Prelude.{Some};
 ghost use Rattle.serving.specs.Printed.{refusal_text, reply_text};
 
 use answer_lines::Answer;
-use shared_planner::AskFault;
+use planner::AskFault;
 use std::fmt;
 
 /// Why a line has no answer. Shown by its code, where it has one, and its name.

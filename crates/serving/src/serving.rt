@@ -11,8 +11,8 @@ use crate::replying::reply_of;
 use crate::telling::ReplyTeller;
 use board::Reader;
 use feed_basis::Basis;
+use planner::Planner;
 use question_lines::Line;
-use shared_planner::Planner;
 use std::alloc::Global;
 use std::io::{BufRead, Write};
 

@@ -10,7 +10,7 @@ use Rattle.timetable.specs.Journeys.{Journey, pattern}
 use Rattle.timetable.specs.Table.{Table}
 use Rattle.pattern_tree.specs.Content.{Content}
 use Rattle.pattern_query.specs.Answer.{AreBest, TreeReaches}
-use Rattle.planner.specs.Questions.{AskedReaches, IsStored}
+use Rattle.pattern_query.specs.Questions.{AskedReaches, IsStored}
 use Rattle.section_store.specs.Sections.{AreApart, Form, Stands, sources}
 use Rattle.store_excerpt.specs.Board.{AreOf, shown}
 use Rattle.store_excerpt.proofs.BoardFacts.{new_lacks}

@@ -3,8 +3,8 @@ use Rattle.std.specs.Prelude.{◌≡◌, ◌⊎◌, ◌≤◌, ⊤, ℕ, List, [
 use denote.Ref.{Bor}
 use Rattle.disk_model.specs.Disk.{State}
 use Rattle.pattern_tree.specs.Content.{Content, longest}
-use Rattle.planner.specs.Questions.{Held}
-use Rattle.planner.specs.declared.refusal.Refusal.TheVariants as refusals
+use Rattle.pattern_query.specs.Questions.{Held}
+use Rattle.pattern_query.specs.declared.refusal.Refusal.TheVariants as refusals
 use Rattle.section_store.specs.Sections.{IsNew, Stands}
 use Rattle.store_excerpt.specs.Board.{IsOneOf}
 use Rattle.recovery.specs.Opening.{IsOpening, StandsForSources}

@@ -10,7 +10,7 @@ use auditing::{Difference, first_difference};
 use disk_model::Disk;
 use faults::Fault;
 use feed_basis::Basis;
-use planner::{Refusal, Trees};
+use pattern_query::{Refusal, Trees};
 use std::alloc::Global;
 use std::slice;
 use store_excerpt::Excerpt;

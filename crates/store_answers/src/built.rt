@@ -13,7 +13,7 @@ use command_line::Workers;
 use disk_model::Disk;
 use faults::Fault;
 use feed_basis::Basis;
-use precomputing::{Crew, Free, Outcome, Progress, Stop, precompute_telling};
+use precomputing::{Crew, Free, Halt, Outcome, Progress, precompute_telling};
 use recovery::laws::opening_goes_on;
 use section_store::going_laws::goes_on;
 use section_store::laws::loses_nothing_in_turn;
@@ -95,7 +95,7 @@ pub fn build<'a, D: Disk + Drop, T: Threads + Wait + Sync, P: Progress>(
         Ok(opened) => opened,
         Err((fault, disk)) => return (Err(Fault::from(fault)), disk),
     };
-    let stop = Stop::new();
+    let stop = Halt::new();
     let crew = Crew {
         workers: usize::from(workers.number),
         gate: &Free,

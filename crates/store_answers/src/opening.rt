@@ -4,17 +4,17 @@ ghost use Rattle.std.specs.Prelude.{◌≡◌, ◌↔◌, ◌⊎◌, MatchResult
 ghost use Rattle.disk_model.specs.Disk.{Grew};
 ghost use Rattle.recovery.specs.Opening.{IsOpening, StandsForSources};
 ghost use Rattle.recovery.specs.Recovery.{CauseOf, IsLeftAlone, IsOutside, StandsForNoList};
-ghost use Rattle.shared_planner.specs.Desk.{IsSound};
+ghost use Rattle.planner.specs.Desk.{IsSound};
 ghost use Rattle.store_answers.specs.Replies.{IsOpenedReader};
 ghost use Rattle.store_answers.specs.Stores.{cause_of, form_over, planner_over};
 
 use board::Reader;
 use disk_model::Disk;
 use feed_basis::Basis;
+use planner::{Desk, OpenFault, Opened, Planner};
 use recovery::RecoverFault;
 use section_store::Step;
 use section_store::going_laws::goes_on;
-use shared_planner::{Desk, OpenFault, Opened, Planner};
 use std::alloc::Global;
 use std::sync::{Arc, Wait};
 use timetable::Rides;

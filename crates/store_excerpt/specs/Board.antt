@@ -4,7 +4,7 @@ use Rattle.std.specs.List.{Contains}
 use Rattle.std.specs.List.Sorted.{IsPermutation}
 use Rattle.pattern_tree.specs.Content.{Content, longest}
 use Rattle.pattern_tree.specs.Completeness.{Complete, IsTreeOf}
-use Rattle.planner.specs.Questions.{IsStored}
+use Rattle.pattern_query.specs.Questions.{IsStored}
 use Rattle.section_store.specs.Sections.{Form, IsNew}
 use Rattle.section_store.specs.Sources.{is_among}
 

@@ -2,7 +2,7 @@
 use Rattle.std.specs.Prelude.{ℕ, List, Option}
 use Rattle.std.specs.List.{All}
 use Rattle.pattern_tree.specs.Content.{Content}
-use Rattle.planner.specs.Questions.{AreComplete, IsStored}
+use Rattle.pattern_query.specs.Questions.{AreComplete, IsStored}
 use Rattle.section_store.specs.Sections.{Form}
 use Rattle.store_excerpt.specs.Board.{AreWholeAmong, shown}
 

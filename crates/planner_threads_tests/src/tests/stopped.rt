@@ -3,7 +3,7 @@
 use super::setting::{Setting, basis, open_on};
 use disk_model::{MemDisk, read_up_to};
 use feed_basis::Basis;
-use precomputing::{Gate, Outcome, Stop, precompute_until};
+use precomputing::{Gate, Halt, Outcome, precompute_until};
 use std::alloc::Global;
 use std::sync::Wait;
 use std::sync::atomic::{AtomicU64, Ordering};
@@ -40,7 +40,7 @@ fn build_on<R: Threads + Wait + Sync>(
     basis: &Basis,
     disk: MemDisk,
     workers: usize,
-    stop: &Stop,
+    stop: &Halt,
 ) -> Result<Built, Fail> {
     if workers == 0 || workers > 64 {
         return Err(Fail::new("too few workers or too many"));
@@ -102,7 +102,7 @@ fn claims_nothing<R: Threads + Wait + Sync>(
     workers: usize,
 ) -> Result<bool, Fail> {
     let file = fresh_file(rt, alloc, basis)?;
-    let stop = Stop::new();
+    let stop = Halt::new();
     stop.now(rt);
     let Built {
         outcome,
@@ -124,7 +124,7 @@ fn leaves_the_file<R: Threads + Wait + Sync>(
     basis: &Basis,
     workers: usize,
 ) -> Result<bool, Fail> {
-    let stop = Stop::new();
+    let stop = Halt::new();
     let first = build_on(rt, alloc, basis, MemDisk::new(alloc), 2, &stop)?;
     let Built {
         outcome,

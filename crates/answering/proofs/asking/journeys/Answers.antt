@@ -3,7 +3,7 @@ use Rattle.std.proofs.lemmas.List.Elements.{All-weaker}
 use Rattle.feed_ids.specs.NameLists.{NameLists}
 use Rattle.timetable.specs.Table.{Table}
 use Rattle.pattern_tree.specs.Content.{Content}
-use Rattle.planner.specs.Questions as planner
+use Rattle.pattern_query.specs.Questions as questions
 use Rattle.answering.specs.Found.{IsHeldBetween}
 use Rattle.answering.proofs.AnswerFacts.{held_between}
 use Rattle.answering.proofs.RefusalFacts.{refused}
@@ -16,7 +16,7 @@ returns-in-Ok-clause-found g c =
     let question = c.args.question.now in
     let depart = c.unwrap_or-depart.result in
     let found =
-    subst₂ (λ (t : Table) (names : NameLists). planner.IsAnswer t names held question.from.now question.to.now depart c.in-Ok.journeys)
+    subst₂ (λ (t : Table) (names : NameLists). questions.IsAnswer t names held question.from.now question.to.now depart c.in-Ok.journeys)
     c.requires.network c.names.ensures.value c.in-Ok.ensures in
     record {
       froms = found.froms;
@@ -24,7 +24,7 @@ returns-in-Ok-clause-found g c =
       leaves = found.leaves;
       reaches = found.arrives;
       stored = found.stored;
-      each = All-weaker (planner.IsAskedPoint table held found.froms found.tos depart) (IsHeldBetween table held found.froms found.tos depart)
+      each = All-weaker (questions.IsAskedPoint table held found.froms found.tos depart) (IsHeldBetween table held found.froms found.tos depart)
           (held_between table held found.froms found.tos depart) c.in-Ok.journeys found.points_are;
       best = found.best;
       exact = found.exact;
@@ -37,6 +37,6 @@ returns-in-Err-clause-refusal g c =
     let question = c.args.question.now in
     let depart = c.unwrap_or-depart.result in
     let why =
-    subst₂ (λ (t : Table) (names : NameLists). planner.IsRefusal t names held question.from.now question.to.now depart c.in-Err.refusal)
+    subst₂ (λ (t : Table) (names : NameLists). questions.IsRefusal t names held question.from.now question.to.now depart c.in-Err.refusal)
     c.requires.network c.names.ensures.value c.in-Err.ensures in
     refused basis held c.args.moment question depart c.in-Err.refusal c.unwrap_or-depart.ensures c.names.ensures.sound.valid.horizon why

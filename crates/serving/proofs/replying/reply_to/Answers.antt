@@ -1,7 +1,7 @@
 use Rattle.std.proofs.Common.{List, All, Result, IfOk, MatchResult, subst, sym}
 use Rattle.pattern_query.specs.Answer.{PointData}
-use Rattle.shared_planner.specs.Asking.{AreBestBetween, IsAnswered, IsUnanswered, held_by}
-use Rattle.shared_planner.specs.declared.fault.AskFault.{AskFault}
+use Rattle.planner.specs.Asking.{AreBestBetween, IsAnswered, IsUnanswered, held_by}
+use Rattle.planner.specs.declared.fault.AskFault.{AskFault}
 use Rattle.told_journeys.specs.Points.{IsKnownJourney}
 use Rattle.serving.specs.Answers.{IsAsked, IsReply, IsTold}
 use Rattle.serving.proofs.KnownFacts.{known}

@@ -21,8 +21,7 @@ returns g c =
     let bs = c.ending_at-ending.result.beginnings.now in
     let items = c.ending_at-ending.result.patterns.now in
     let path = c.args.path.now in
-    let all = c.loop-pattern-test.false in
-    (
+    let all = c.loop-pattern-test.false in (
       λ no. absurd (false≢true no),
       λ has. absurd (none (path_of bs) items path (λ i d within. c.loop-pattern.invariant i d (omega (arith, within, all))) ((c.ending_at-ending.ensures path).1 has)),
     )

@@ -1,5 +1,0 @@
-use Rattle.planner.proofs.PlaceFacts.{place_found}
-use Rattle.planner.proofs.places.place_named.Goals as goal
-
-pub returns : goal.returns
-returns c = place_found c.args.names.now c.args.id.now c.place.result c.place.ensures.value
