@@ -2,8 +2,9 @@
 
 ghost use Rattle.std.specs.Prelude.{◌≡◌, []};
 ghost use Rattle.section_store.specs.Sections.{form_of};
-ghost use Rattle.precomputing.specs.Flushed.{Flushed};
+ghost use Rattle.precomputing.specs.Flushed.{Flushed, ShowsTo};
 
+use crate::audience::Audience;
 use crate::progress::Progress;
 use crate::publishing::Publisher;
 use crate::taking::Taker;
@@ -16,18 +17,20 @@ use shared_ledger::Basis;
 use std::alloc::Global;
 use std::sync::Wait;
 
-/// Stores and shows trees, until no more come or the device fails. Of each that is stored `progress` is told.
+/// Stores trees, and shows them to the audience, until no more come or the device fails. `progress` is told of each that is stored.
 pub(crate) fn flush_desk<D: Disk, B: Basis, R: Wait, P: Progress>(
     rt: &R,
     alloc: Global,
     taker: Taker<'_, B, R>,
     desk: Desk<D>,
     progress: &mut P,
+    audience: Audience,
 ) -> (Desk<D>, FlushEnd)
     requires ready { desk.next ≡ Step.WriteBody }
     requires fresh { (taker.taken.items ≡ []) × (taker.acked.items ≡ []) }
     requires form { form_of B.table B.rides ≡ desk.form }
-    ensures { Flushed D.honest D.state D.failures result.1 desk result.0 }
+    ensures flushed { Flushed D.honest D.state D.failures result.1 desk result.0 }
+    ensures shown { ShowsTo audience desk.board result.0.board }
 {
     goes_on();
     let mut taker = taker;
@@ -39,6 +42,7 @@ pub(crate) fn flush_desk<D: Disk, B: Basis, R: Wait, P: Progress>(
         alloc,
         stops,
         progress,
+        audience,
         writer,
     };
     let end = flush(&mut store, &mut taker, &mut publisher);
@@ -47,6 +51,7 @@ pub(crate) fn flush_desk<D: Disk, B: Basis, R: Wait, P: Progress>(
         alloc: _,
         stops: _,
         progress: _,
+        audience: _,
         writer,
     } = publisher;
     (Desk::new(store, writer), end)

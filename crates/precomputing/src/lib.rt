@@ -2,6 +2,7 @@
 //! scratch and an arena of its own, and the calling thread stores what they hand in and shows it.
 #![tactic(auto)]
 
+mod audience;
 mod builder;
 mod crew;
 mod flushing;
@@ -19,6 +20,7 @@ mod threads;
 mod worker;
 mod workshop;
 
+pub use audience::Audience;
 pub use crew::Crew;
 pub use gate::{Free, Gate};
 pub use halt::Halt;

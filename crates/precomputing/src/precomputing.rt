@@ -5,8 +5,10 @@ ghost use Rattle.timetable.specs.Table.{stops_of};
 ghost use Rattle.section_store.specs.Sections.{form_of};
 ghost use Rattle.section_store.specs.Sources.{IsSetOf};
 ghost use Rattle.precomputing.specs.Missing.{missing_of};
+ghost use Rattle.precomputing.specs.Flushed.{ShowsTo};
 ghost use Rattle.precomputing.specs.Outcome.{IsDoneAtOnce, IsLeft, IsPrecomputed};
 
+use crate::audience::Audience;
 use crate::crew::Crew;
 use crate::gate::Gate;
 use crate::halt::Halt;
@@ -75,10 +77,10 @@ fn left(set: StopSet, stored: &[StopId], before: usize, stops: usize, room: Vec<
     Outcome::Partial(missing)
 }
 
-/// Builds the trees that the desk's store lacks, in the crew's threads, while the calling thread stores them and shows each once it is
-/// stored. All threads have ended when this returns. The gate is told of each build, by the thread that makes it. `progress` is told how
-/// many are stored as it begins, and after each put, by the calling thread. Once the flag is set no source is claimed any more, and what
-/// is in hand ends.
+/// Builds the trees that the desk's store lacks, in the crew's threads, while the calling thread stores them. It shows each to the crew's
+/// audience once it is stored. All threads have ended when this returns. The gate is told of each build, by the thread that makes it.
+/// `progress` is told how many are stored as it begins, and after each put, by the calling thread. Once the flag is set no source is
+/// claimed any more, and what is in hand ends.
 ///
 /// If each stop has its tree, nothing is started, and no memory is taken. A source whose tree is too large, or for which memory is refused,
 /// stays missing. A thread that can't be made is left out. After `DeviceFailed` the store has to be opened again.
@@ -97,6 +99,7 @@ pub fn precompute_telling<D: Disk + Drop, R: Threads + Wait + Sync, G: Gate + Sy
     requires ready { desk.next ≡ Step.WriteBody }
     ensures precomputed { IsPrecomputed D.honest D.state D.failures desk result.0 result.1 }
     ensures at_once { IsDoneAtOnce desk result.0 result.1 }
+    ensures shown { ShowsTo crew.now.audience desk.board result.0.board }
 {
     goes_on();
     let stops = planner.network().timetable().stops();
@@ -142,6 +145,7 @@ pub fn precompute_until<D: Disk + Drop, R: Threads + Wait + Sync, G: Gate + Sync
         workers,
         gate,
         stop,
+        audience: Audience::Readers,
     };
     precompute_telling(alloc, rt, desk, planner, &crew, &mut Silent)
 }

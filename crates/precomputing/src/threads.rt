@@ -5,8 +5,9 @@ ghost use denote.Param.Send.{IsSend, IsSync};
 ghost use Rattle.std.specs.Arc.{arc_value};
 ghost use Rattle.timetable.specs.Table.{stops_of};
 ghost use Rattle.section_store.specs.Sections.{form_of};
-ghost use Rattle.precomputing.specs.Flushed.{Flushed};
+ghost use Rattle.precomputing.specs.Flushed.{Flushed, ShowsTo};
 
+use crate::audience::Audience;
 use crate::crew::Crew;
 use crate::flushing::flush_desk;
 use crate::gate::Gate;
@@ -47,14 +48,16 @@ fn run<
     seat: &Seat,
     taker: Taker<'_, B, R>,
     progress: &mut P,
+    audience: Audience,
     desk: Desk<D>,
 ) -> (Desk<D>, Option<FlushEnd>)
     requires ready { desk.next ≡ Step.WriteBody }
     requires fresh { (taker.taken.items ≡ []) × (taker.acked.items ≡ []) }
     requires form { form_of B.table B.rides ≡ desk.form }
-    ensures { MatchOption result.1
+    ensures flushed { MatchOption result.1
         (result.0 ≡ desk)
         (λ end. Flushed D.honest D.state D.failures end desk result.0) }
+    ensures shown { ShowsTo audience desk.board result.0.board }
 {
     let rt = workshop.rt;
     let held = Held::new(rt, desk);
@@ -66,7 +69,8 @@ fn run<
                 × (taker.acked.items ≡ []) × (form_of B.table B.rides ≡ held.desk.form) }
             ensures { MatchOption result.1
                 (result.0 ≡ held.entry.desk)
-                (λ end. Flushed D.honest D.state D.failures end held.entry.desk result.0) }
+                (λ end. Flushed D.honest D.state D.failures end held.entry.desk result.0)
+                × ShowsTo audience held.entry.desk.board result.0.board }
         {
             let mut started = false;
             for _ in 0..workers {
@@ -81,15 +85,15 @@ fn run<
             if !started {
                 return (desk, None);
             }
-            let (desk, end) = flush_desk(workshop.rt, workshop.alloc, taker, desk, progress);
-            workshop.shared.close(workshop.rt, seat);
+            let (desk, end) = flush_desk(rt, workshop.alloc, taker, desk, progress, audience);
+            workshop.shared.close(rt, seat);
             (desk, Some(end))
         },
     )
 }
 
-/// Builds trees in the crew's threads, as the ledger gives out their sources, and stores them. None where memory is refused or no thread
-/// could be made, and then nothing was done.
+/// Builds trees in the crew's threads, as the ledger gives out their sources, and stores them. No more threads are made than trees are
+/// missing. None if memory is refused or no thread could be made, and then nothing was done.
 pub(crate) fn run_over<
     B: Basis + Send + Sync,
     D: Disk + Drop,
@@ -110,12 +114,15 @@ pub(crate) fn run_over<
     requires form { form_of B.table B.rides ≡ desk.form }
     requires own { planner.now.form ≡ form_of B.table B.rides }
     requires ready { desk.next ≡ Step.WriteBody }
-    ensures { MatchOption result.1
+    ensures flushed { MatchOption result.1
         (result.0 ≡ desk)
         (λ end. Flushed D.honest D.state D.failures end desk result.0) }
+    ensures shown { ShowsTo crew.now.audience desk.board result.0.board }
 {
     let stops = ledger.timetable().stops();
-    let Ok((shared, mut seats)) = Shared::<B>::open(alloc, ledger, crew.workers + 1) else {
+    let missing = stops.saturating_sub(desk.stored().len());
+    let workers = crew.workers.min(missing.max(1));
+    let Ok((shared, mut seats)) = Shared::<B>::open(alloc, ledger, workers + 1) else {
         return (desk, None);
     };
     let Some(seat) = seats.pop() else {
@@ -135,5 +142,13 @@ pub(crate) fn run_over<
         gate: crew.gate,
         stop: crew.stop,
     };
-    run(&workshop, crew.workers, &seat, taker, progress, desk)
+    run(
+        &workshop,
+        workers,
+        &seat,
+        taker,
+        progress,
+        crew.audience,
+        desk,
+    )
 }

@@ -62,4 +62,4 @@ shared_syncs B g s =
     let desk_syncs : IsSync (mutex.the_row (desk.the_row B g)) = search (sendable, crosses, sent) depth 20 in
     recorded_sync (shared.the_field B g).row _ _ (shared.the_type B g).to_one
     (struct_sync (shape (shared.the_type B g))
-    (desk_syncs, (search (sendable, crosses) depth 20, (search (sendable, crosses, table.the_send, table.the_sync) depth 20, (rides.the_sync, (search sendable, tt))))))
+    (desk_syncs, (search (sendable, crosses) depth 20, (search (sendable, crosses) depth 20, (search (sendable, crosses, table.the_send, table.the_sync) depth 20, (rides.the_sync, (search sendable, tt)))))))

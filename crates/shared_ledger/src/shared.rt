@@ -15,10 +15,13 @@ use work_ledger::{Claimed, Compared, Entry, Fault, Ledger, Outcome, Refusal, Tak
 
 /// A ledger that several threads share. Each call is one of the ledger's, made under the lock; what that one promises holds of it, and
 /// the history under the lock is one that a single thread could have made.
+///
+/// Who hands in waits at `room`, and who takes at `trees`. A place that comes free wakes one who hands in, and a tree wakes those who take.
 #[derive(Drop)]
 pub struct Shared<B: Basis> {
     desk: Mutex<Desk<B>>,
-    moved: Condvar,
+    room: Condvar,
+    trees: Condvar,
     table: Arc<Timetable>,
     rides: Rides,
     others: usize,
@@ -50,7 +53,8 @@ impl<B: Basis> Shared<B> {
         let rides = ledger.k();
         let shared = Shared {
             desk: Mutex::new(Desk::new(ledger)),
-            moved: Condvar::new(),
+            room: Condvar::new(),
+            trees: Condvar::new(),
             table,
             rides,
             others: seats - 1,
@@ -106,13 +110,16 @@ impl<B: Basis> Shared<B> {
         for _ in rt.forever() {
             match desk.hand_in(seat.number(), kept) {
                 Ok(()) => {
-                    self.moved.notify_all();
+                    self.trees.notify_all();
                     return Ok(());
                 }
                 Err((Refusal::Full, back)) if !desk.is_closed() => kept = back,
-                Err((refusal, back)) => return Err((refusal, back.into_tree())),
+                Err((refusal, back)) => {
+                    self.room.notify_one();
+                    return Err((refusal, back.into_tree()));
+                }
             }
-            desk = self.moved.wait_while(rt, desk, |desk| desk.lacks_room());
+            desk = self.room.wait_while(rt, desk, |desk| desk.lacks_room());
         }
         unreachable!()
     }
@@ -120,7 +127,7 @@ impl<B: Basis> Shared<B> {
     /// Gives a claimed source up.
     pub fn give_back<R: Wait>(&self, rt: &R, seat: &Seat, source: StopId) -> Result<(), Fault> {
         let answer = self.desk.lock(rt).give_back(seat.number(), source);
-        self.moved.notify_all();
+        self.trees.notify_all();
         answer
     }
 
@@ -134,7 +141,7 @@ impl<B: Basis> Shared<B> {
         for _ in rt.forever() {
             match desk.take()? {
                 Taken::Tree(tree) => {
-                    self.moved.notify_all();
+                    self.room.notify_one();
                     return Ok(Some(tree));
                 }
                 Taken::Closed => return Ok(None),
@@ -142,7 +149,7 @@ impl<B: Basis> Shared<B> {
                 Taken::Empty => {}
             }
             desk = self
-                .moved
+                .trees
                 .wait_while(rt, desk, |desk| desk.lacks_tree(others));
         }
         unreachable!()
@@ -162,7 +169,7 @@ impl<B: Basis> Shared<B> {
     /// From now on no source is given out.
     pub fn stop<R: Wait>(&self, rt: &R, _seat: &Seat) -> Result<(), AllocError> {
         let answer = self.desk.lock(rt).stop();
-        self.moved.notify_all();
+        self.trees.notify_all();
         answer
     }
 
@@ -170,7 +177,8 @@ impl<B: Basis> Shared<B> {
     /// reaches it all the same.
     pub fn close<R: Wait>(&self, rt: &R, _seat: &Seat) {
         let _stopped = self.desk.lock(rt).close();
-        self.moved.notify_all();
+        self.room.notify_all();
+        self.trees.notify_all();
     }
 
     /// The seat makes no more calls.
@@ -181,7 +189,7 @@ impl<B: Basis> Shared<B> {
     // One seat more is left.
     fn count_left<R: Wait>(&self, rt: &R) {
         self.desk.lock(rt).leave();
-        self.moved.notify_all();
+        self.trees.notify_all();
     }
 
     /// Sits down at a seat, which is left however its worker ends.

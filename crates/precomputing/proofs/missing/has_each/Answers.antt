@@ -1,4 +1,4 @@
-use Rattle.std.proofs.Common.{◌≡◌, ◌<◌, ◌+◌, ◌-◌, ℕ, true, false, List, [], sym, ◌∙◌, ap, subst, arith}
+use Rattle.std.proofs.Common.{◌≡◌, ◌<◌, ◌+◌, ◌-◌, ℕ, false, List, sym, ◌∙◌, ap, arith}
 use Rattle.timetable.specs.Table.{stops_of}
 use Rattle.section_store.specs.Sources.{is_among}
 use Rattle.precomputing.specs.Missing.{missing_of}
