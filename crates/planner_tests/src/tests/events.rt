@@ -40,6 +40,7 @@ pub enum Wanted {
     Source(usize),
     Tree(usize),
     Done,
+    OtherTimetable,
     NotYours,
     Full,
     Empty,
@@ -95,11 +96,11 @@ fn is_ledgers(reply: work_ledger::Reply, wanted: Wanted) -> bool {
             matches!(wanted, Wanted::Tree(number) if source.number() == number)
         }
         work_ledger::Reply::Done => matches!(wanted, Wanted::Done),
+        work_ledger::Reply::OtherTimetable => matches!(wanted, Wanted::OtherTimetable),
         work_ledger::Reply::NotYours => matches!(wanted, Wanted::NotYours),
         work_ledger::Reply::Full => matches!(wanted, Wanted::Full),
         work_ledger::Reply::Empty => matches!(wanted, Wanted::Empty),
         work_ledger::Reply::Closed => matches!(wanted, Wanted::Closed),
-        work_ledger::Reply::OtherTimetable => false,
     }
 }
 

@@ -2,11 +2,12 @@
 
 use super::events::{Event, Wanted, are_wanted, replies_to, steps_of};
 use disk_model::MemDisk;
-use sample_store::Sample;
+use sample_store::{Sample, tree_of};
 use section_store::laws::empty_is_trusted;
 use std::alloc::Global;
 use std::process::Abort;
 use std::test::Fail;
+use timetable::Rides;
 use work_ledger::Outcome;
 
 // A is given up by whom it was given to, and isn't given out again before a restart. Once the ledger is stopped, B may still come.
@@ -73,7 +74,19 @@ const KEPT: [(Event, Wanted); 9] = [
     (Event::Claim(0), Wanted::Source(1)),
 ];
 
-const RUNS: [&[(Event, Wanted)]; 3] = [&GIVEN_BACK, &FULL, &KEPT];
+// A's tree for journeys of at most two rides isn't taken in, and A stays with whom it was given to.
+const OF_TWO_RIDES: [(Event, Wanted); 5] = [
+    (Event::Claim(0), Wanted::Source(0)),
+    (Event::HandIn(0, OTHER), Wanted::OtherTimetable),
+    (Event::HandIn(1, OTHER), Wanted::OtherTimetable),
+    (Event::Take, Wanted::Empty),
+    (Event::HandIn(0, 0), Wanted::Done),
+];
+
+// Behind the trees of the five stops.
+const OTHER: usize = 5;
+
+const RUNS: [&[(Event, Wanted)]; 4] = [&GIVEN_BACK, &FULL, &KEPT, &OF_TWO_RIDES];
 
 // Goes over the runs.
 fn check_runs(rt: &impl Abort, alloc: Global, sample: &Sample) -> Result<(), Fail> {
@@ -88,6 +101,8 @@ fn check_runs(rt: &impl Abort, alloc: Global, sample: &Sample) -> Result<(), Fai
 
 #[test]
 fn ledger_steps(rt: HostRuntime) -> Result<(), Fail> {
-    let sample = Sample::new(&rt)?;
+    let mut sample = Sample::new(&rt)?;
+    let other = tree_of(rt.alloc(), &sample.table, 0, Rides::new(2))?;
+    sample.trees.push(other)?;
     check_runs(&rt, rt.alloc(), &sample)
 }

@@ -54,7 +54,16 @@ const GATE: [(Event, Wanted); 14] = [
     (Event::Claim(0), Wanted::Source(1)),
 ];
 
-const SHUT_GATE: [(Event, Wanted); 9] = [
+// Once with its write done, and once failed.
+const SHUT_GATE: [(Event, Wanted); 17] = [
+    (Event::Claim(0), Wanted::Source(0)),
+    (Event::HandIn(0, 0), Wanted::Done),
+    (Event::Take, Wanted::Tree(0)),
+    (Event::WriteBody(false), Wanted::Made),
+    (Event::SyncBody(false), Wanted::Made),
+    (Event::OpenGate(false), Wanted::Made),
+    (Event::Crash(216, &SHUT), Wanted::Crashed),
+    (Event::Restart, Wanted::Restarted(&[])),
     (Event::Claim(0), Wanted::Source(0)),
     (Event::HandIn(0, 0), Wanted::Done),
     (Event::Take, Wanted::Tree(0)),

@@ -1,10 +1,11 @@
 //! Stores whose disk fails: in a put, which is followed by a crash, and while they are opened.
 
 use super::opening::Opening;
+use super::refused::store_of_a;
 use disk_model::{Disk, MemDisk};
 use recovery::{RecoverFault, Recovered, recover};
 use sample_feed::demo;
-use sample_store::{Sample, TEXTS, bytes_of, file_of, new_store};
+use sample_store::{Sample, TEXTS, bytes_of, file_of};
 use section_store::{PutFault, SectionStore};
 use std::alloc::Global;
 use std::process::Abort;
@@ -26,8 +27,7 @@ const STOPS: [(u64, u64, u8, usize); 8] = [
 
 // The disk of a store with A's tree, whose put of B's failed at its n-th call.
 fn stopped(alloc: Global, sample: &Sample, n: u64) -> Result<MemDisk, Fail> {
-    let mut store = new_store(alloc, sample)?;
-    store.put(sample.trees.first().ok_or("no trees")?)?;
+    let mut store = store_of_a(alloc, sample)?;
     let b = sample.trees.get(1).ok_or("no tree of B")?;
     store.fail_at(n);
     match (store.put(b), store.put(b)) {
