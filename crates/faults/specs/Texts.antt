@@ -35,6 +35,7 @@ file_text files.Calendar = codes "calendar.txt"
 file_text files.CalendarDates = codes "calendar_dates.txt"
 file_text files.StopTimes = codes "stop_times.txt"
 file_text files.Transfers = codes "transfers.txt"
+file_text files.Frequencies = codes "frequencies.txt"
 
 -- the kind, the file and the row
 abbrev pub feed_text : FeedFault → List ℕ

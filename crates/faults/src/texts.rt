@@ -40,6 +40,7 @@ pub fn file_name(file: FeedFile) -> &'static str
         FeedFile::CalendarDates => "calendar_dates.txt",
         FeedFile::StopTimes => "stop_times.txt",
         FeedFile::Transfers => "transfers.txt",
+        FeedFile::Frequencies => "frequencies.txt",
     }
 }
 
