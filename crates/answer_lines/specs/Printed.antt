@@ -29,7 +29,7 @@ day_time_text t = date_text (unsigned_abs t.date.year) t.date.month t.date.day +
 
 -- a ride as its trip and the stop and time at which it boards and alights; a walk as its stops and when it arrives
 abbrev pub stage_text : Stage → List ℕ
-stage_text (stages.Ride trip board leaves alight comes) =
+stage_text (stages.Ride leg trip board leaves alight comes) =
     codes "  ride " ++ (shown trip
     ++ (32 ∷ shown board ++ (32 ∷ day_time_text leaves ++ (32 ∷ shown alight ++ (32 ∷ day_time_text comes)))))
 stage_text (stages.Walk leaves reaches comes) = codes "  walk " ++ (shown leaves ++ (32 ∷ shown reaches ++ (32 ∷ day_time_text comes)))

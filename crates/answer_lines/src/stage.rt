@@ -7,12 +7,15 @@ use crate::moment::DayTime;
 use gtfs_tables::Id;
 use shown_ids::Shown;
 use std::fmt;
+use timetable::Leg;
 
 /// A ride or a walk of a journey, with the ids of its stops. Shown as the program prints it: `  ride TRIP FROM DATE TIME TO DATE
 /// TIME` or `  walk FROM TO DATE TIME`.
 #[derive(Debug, Drop)]
 pub enum Stage {
     Ride {
+        /// Which ride of the timetable it is. It isn't shown.
+        leg: Leg,
         trip: Id,
         from: Id,
         departs: DayTime,
@@ -37,6 +40,7 @@ impl fmt::Display for Stage {
                 departs,
                 to,
                 arrives,
+                ..
             } => write!(
                 f,
                 "  ride {} {} {departs} {} {arrives}",

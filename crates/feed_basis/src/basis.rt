@@ -3,9 +3,10 @@
 ghost use Rattle.std.specs.Prelude.{◌≡◌, ◌∷◌, ◌<◌, [], true, IfOk, IfErr, IfSome, OnOk, is_some, option_map};
 ghost use Rattle.std.specs.Arc.{arc_value};
 ghost use Rattle.answer_lines.specs.Moments.{TellsMoment};
-ghost use Rattle.feed_basis.specs.Basis.{AreTablesOf, IsBasis, IsSound};
+ghost use Rattle.feed_basis.specs.Basis.{AreTablesOf, IsBasis, IsSound, IsTold};
 ghost use Rattle.feed_basis.specs.BasisFaults.{IsBasisFault, IsKeyedFault};
 ghost use Rattle.feed_basis.specs.Ids.{stop_alone};
+ghost use Rattle.feed_ids.specs.Groups.{group};
 ghost use Rattle.gtfs_tables.specs.Feed.{Feed, AreReaders};
 ghost use Rattle.service_days.specs.Answers.{IsMoment};
 ghost use Rattle.timetable.specs.Table.{IsTable, stops_of};
@@ -13,9 +14,9 @@ ghost use Rattle.timetable.specs.Table.{IsTable, stops_of};
 use answer_lines::{DayTime, day_time};
 use direct_connections::Network;
 use faults::Fault;
-use feed_ids::Names;
-use feed_timetable::{assemble, names_of};
-use gtfs_tables::{Files, Tables, read_tables};
+use feed_ids::{Groups, Names};
+use feed_timetable::{assemble, names_of, repeats_of};
+use gtfs_tables::{Files, Frequency, Tables, read_tables};
 use jiff::civil::Date;
 use options::Settings;
 use service_days::Cover;
@@ -26,11 +27,12 @@ use std::marker::Model;
 use std::sync::Arc;
 use timetable::{StopId, Timetable};
 
-/// A feed's timetable on the covered days, with the ids of its stops, stations and trips.
+/// A feed's timetable on the covered days, with the ids of its stops, stations and trips, and the rows that repeat trips.
 #[derive(Drop)]
 pub struct Basis {
     timetable: Arc<Timetable>,
     names: Arc<Names>,
+    repeats: Groups<Frequency>,
     cover: Cover,
 }
 
@@ -40,9 +42,10 @@ impl Model for Basis {
 
     ghost Value = { BasisData };
 
-    ghost view = { λ b. record { timetable = arc_value b.timetable; names = arc_value b.names; cover = b.cover } };
+    ghost view = { λ b. record { timetable = arc_value b.timetable; names = arc_value b.names; repeats = b.repeats; cover = b.cover } };
 
-    ghost invariant = { λ b. IsSound (record { timetable = arc_value b.timetable; names = arc_value b.names; cover = b.cover }) };
+    ghost invariant = { λ b.
+        IsSound (record { timetable = arc_value b.timetable; names = arc_value b.names; repeats = b.repeats; cover = b.cover }) };
 }
 
 impl Basis {
@@ -94,6 +97,13 @@ impl Basis {
         self.names.stop_named(id)
     }
 
+    /// The rows of frequencies.txt that repeat a trip, by its number, in file order; none if it runs at its own times.
+    pub fn repeats(&self, trip: u32) -> &[Frequency]
+        ensures { result.now ≡ group self.now.repeats trip }
+    {
+        self.repeats.of(trip as usize)
+    }
+
     /// The covered days.
     pub fn cover(&self) -> &Cover
         ensures { result.now ≡ self.now.cover }
@@ -115,6 +125,13 @@ impl Basis {
     {
         self.cover.moment(day, seconds)
     }
+
+    /// The moment of a time that was told by `day_time`, also of one past 167:59:59; none if the day isn't covered.
+    pub fn told(&self, day: Date, seconds: u32) -> Option<u32>
+        ensures { IsTold self.now.cover day seconds result }
+    {
+        self.cover.moment(day, 0)?.checked_add(seconds)
+    }
 }
 
 // The timetable of a feed's tables on the days from the first one on.
@@ -132,6 +149,7 @@ fn basis_over<'a>(
     let timetable = assemble(alloc, tables, &cover, settings.default_walk)?;
     let names = names_of(alloc, hash_keys, tables)?;
     names.know_their_stops();
+    let repeats = repeats_of(alloc, tables)?;
     let Ok(timetable) = Arc::new(alloc, timetable) else {
         return Err(Fault::Memory);
     };
@@ -141,6 +159,7 @@ fn basis_over<'a>(
     Ok(Basis {
         timetable,
         names,
+        repeats,
         cover,
     })
 }

@@ -33,13 +33,13 @@ trip_of table instance = unwrap_or (option_map (λ run. run.trip) (slice_get tab
 abbrev pub trip_id : Table → NameLists → ℕ → List ℕ
 trip_id table names instance = slice_index_or names.trips (trip_of table instance) []
 
--- a ride is told by its trip, and the stop and the time at which it boards and alights; a walk by its stops, and when it arrives
+-- a ride is told by its leg and trip, and the stop and time at which it boards and alights; a walk by its stops, and when it arrives
 abbrev pub TellsStage : BasisData → NumberedStage → Stage → Type 0
-TellsStage basis (numbered.Ride leg) (stages.Ride trip board leaves alight comes) =
-    (trip ≡ trip_id basis.timetable basis.names leg.instance)
+TellsStage basis (numbered.Ride leg) (stages.Ride ride trip board leaves alight comes) =
+    (ride ≡ leg) × (trip ≡ trip_id basis.timetable basis.names leg.instance)
     × (board ≡ stop_id basis.names (from basis.timetable leg)) × TellsMoment basis.cover (departs basis.timetable leg) leaves
     × (alight ≡ stop_id basis.names (to basis.timetable leg)) × TellsMoment basis.cover (arrives basis.timetable leg) comes
 TellsStage basis (numbered.Walk p q z) (stages.Walk leaves reaches comes) =
     (leaves ≡ stop_id basis.names p) × (reaches ≡ stop_id basis.names q) × TellsMoment basis.cover z comes
 TellsStage basis (numbered.Ride leg) (stages.Walk leaves reaches comes) = ⊥
-TellsStage basis (numbered.Walk p q z) (stages.Ride trip board leaves alight comes) = ⊥
+TellsStage basis (numbered.Walk p q z) (stages.Ride ride trip board leaves alight comes) = ⊥

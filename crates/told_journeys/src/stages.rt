@@ -22,6 +22,7 @@ fn stage_of(alloc: Global, basis: &Basis, stage: NumberedStage) -> Result<Stage,
         NumberedStage::Ride(leg) => {
             let trip = timetable.instance(leg.instance as usize).trip();
             Stage::Ride {
+                leg,
                 trip: Id::new(alloc, names.trip(trip))?,
                 from: Id::new(alloc, names.stop(timetable.boarding_stop(leg)))?,
                 departs: basis.day_time(timetable.departure_of(leg)),

@@ -3,6 +3,7 @@ use Rattle.std.proofs.lemmas.Result.{err_from_is_err_and}
 use Rattle.gtfs_tables.specs.Feed.{values_of}
 use Rattle.gtfs_tables.specs.Tables.{TableValues}
 use Rattle.feed_timetable.specs.Answers.{IsFault, IsTimetable}
+use Rattle.feed_timetable.specs.Departures.{AreRepeats}
 use Rattle.feed_ids.specs.NameLists.{NameLists}
 use Rattle.feed_ids.specs.Names.{KnowsStops}
 use Rattle.feed_timetable.specs.Names.{AreNamesOf}
@@ -33,6 +34,11 @@ returns-in_err-names-clause-fault c = λ feed h.
     let p = err_from_is_err_and c.from_residual-in_err-names.result c.from_residual-in_err-names.ensures.1 in
     rw (p.1, p.2) tt
 
+pub returns-in_err-repeats-clause-fault : goal.returns-in_err-repeats-clause-fault
+returns-in_err-repeats-clause-fault c = λ feed h.
+    let p = err_from_is_err_and c.from_residual-in_err-repeats.result c.from_residual-in_err-repeats.ensures.1 in
+    rw (p.1, p.2) tt
+
 pub returns-clause-basis : goal.returns-clause-basis
 returns-clause-basis c = λ feed h.
     let cover = c.in_ok-cover.cover in
@@ -43,6 +49,7 @@ returns-clause-basis c = λ feed h.
           c.in_ok-timetable.ensures.ok;
       named = subst (λ (names : NameLists). AreNamesOf (values_of feed) names) (sym c.in-Ok-new.ensures.ok)
           (subst (λ (t : TableValues). AreNamesOf t c.in_ok-names.names) h.1 c.in_ok-names.ensures);
+      repeated = subst (λ (t : TableValues). AreRepeats t c.in_ok-repeats.repeats) h.1 c.in_ok-repeats.ensures;
     }
 
 pub invariant_of-result : goal.invariant_of-result
@@ -51,7 +58,8 @@ invariant_of-result c =
     let walk = c.args.settings.now.default_walk in
     let is = c.in-Ok.ensures.ok in
     let valid : IsTable c.in_ok-timetable.timetable = subst IsTable c.timetable.view_is c.timetable.invariant in
-    is_sound c.args.tables.now cover walk _ (subst IsTable (sym is) valid)
+    let covered = c.in_ok-cover.ensures in
+    is_sound c.args.tables.now c.args.first c.args.settings.now.days covered.1 cover walk _ covered.3 (subst IsTable (sym is) valid)
     (subst (λ (table : Table). IsTimetable c.args.tables.now cover walk table) (sym is) c.in_ok-timetable.ensures.ok)
     (subst (λ (names : NameLists). AreNamesOf c.args.tables.now names) (sym c.in-Ok-new.ensures.ok) c.in_ok-names.ensures)
     (subst (λ (names : NameLists). KnowsStops names) (sym c.in-Ok-new.ensures.ok) c.know_their_stops.ensures)
