@@ -49,6 +49,15 @@ pub struct Trip {
     pub route: Option<Route>,
 }
 
+/// How a trip repeats, by its row of frequencies.txt.
+#[derive(Clone, Copy)]
+pub struct Frequency {
+    /// How many seconds lie between two of its departures.
+    pub headway_secs: u32,
+    /// Whether it departs exactly at its times, or about then.
+    pub exact_times: bool,
+}
+
 /// How one gets on.
 #[derive(Clone, Copy)]
 pub enum Kind {
@@ -62,6 +71,8 @@ pub struct Leg {
     pub kind: Kind,
     /// The trip of a ride.
     pub trip: Option<Trip>,
+    /// How the trip repeats, if it does.
+    pub frequency: Option<Frequency>,
     /// Where and when the ride departs, or the walk begins.
     pub from: Stay,
     /// Where and when it arrives.

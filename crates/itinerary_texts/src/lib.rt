@@ -12,7 +12,9 @@ mod stop_map;
 
 pub use fault::{FaultText, fault_text_json};
 pub use geo::geojson;
-pub use itinerary::{Itinerary, Journey, Kind, Leg, Place, Route, Stay, StopList, Time, Trip};
+pub use itinerary::{
+    Frequency, Itinerary, Journey, Kind, Leg, Place, Route, Stay, StopList, Time, Trip,
+};
 pub use people::people_text;
 pub use plain::{itinerary_json, stops_json};
 pub use stop_map::stops_geojson;

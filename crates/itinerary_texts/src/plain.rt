@@ -1,6 +1,8 @@
 //! Answers and lists of stops as JSON.
 
-use crate::itinerary::{Itinerary, Journey, Kind, Leg, Place, Route, Stay, StopList, Time, Trip};
+use crate::itinerary::{
+    Frequency, Itinerary, Journey, Kind, Leg, Place, Route, Stay, StopList, Time, Trip,
+};
 use crate::json_writer::JsonWriter;
 use std::alloc::{AllocError, Global};
 
@@ -61,6 +63,17 @@ fn write_trip(out: &mut JsonWriter, trip: &Option<Trip>) {
     out.end_object();
 }
 
+// Writes how a trip repeats; nothing if it doesn't.
+fn write_frequency(out: &mut JsonWriter, frequency: &Option<Frequency>) {
+    if let Some(frequency) = frequency {
+        out.name("frequency");
+        out.begin_object();
+        out.member("headway_secs", &frequency.headway_secs);
+        out.member("exact_times", &frequency.exact_times);
+        out.end_object();
+    }
+}
+
 // Writes a place and the time there, under these names.
 fn write_stay(out: &mut JsonWriter, place: &str, time: &str, stay: &Stay) {
     out.name(place);
@@ -75,6 +88,7 @@ fn write_leg(out: &mut JsonWriter, leg: &Leg) {
     write_kind(out, leg.kind);
     out.name("trip");
     write_trip(out, &leg.trip);
+    write_frequency(out, &leg.frequency);
     write_stay(out, "from", "departure", &leg.from);
     write_stay(out, "to", "arrival", &leg.to);
     out.member("seconds", &leg.seconds);
