@@ -2,6 +2,7 @@
 //! looked up for display alone. The texts are made by `itinerary_texts`.
 #![tactic(auto)]
 
+mod repeats;
 mod telling;
 mod through;
 

@@ -1,9 +1,12 @@
 //! From an answer to what is told of it.
 
+use crate::repeats::frequency_of;
 use crate::through::stops_between;
 use answer_lines::{Answer, DayTime, Point, Stage};
 use feed_basis::Basis;
-use itinerary_texts::{Itinerary, Journey, Kind, Leg, Place, Stay, StopList, Time, Trip};
+use itinerary_texts::{
+    Frequency, Itinerary, Journey, Kind, Leg, Place, Stay, StopList, Time, Trip,
+};
 use std::alloc::{AllocError, Global};
 use told_names::{NameSheets, Names};
 use zone_clock::Clock;
@@ -160,8 +163,8 @@ impl Teller<'_> {
 
     // The seconds from one time to a later one.
     fn seconds(&self, departs: DayTime, arrives: DayTime) -> Option<u32> {
-        let departs = self.basis.moment(departs.date, departs.seconds)?;
-        let arrives = self.basis.moment(arrives.date, arrives.seconds)?;
+        let departs = self.basis.told(departs.date, departs.seconds)?;
+        let arrives = self.basis.told(arrives.date, arrives.seconds)?;
         arrives.checked_sub(departs)
     }
 
@@ -182,6 +185,14 @@ impl Teller<'_> {
         }
     }
 
+    // How the trip of a ride repeats, if it does.
+    fn frequency(&self, stage: &Stage) -> Option<Frequency> {
+        match stage {
+            Stage::Ride { leg, .. } => frequency_of(self.basis, *leg),
+            Stage::Walk { .. } => None,
+        }
+    }
+
     // A place and a time there.
     fn stay(&self, alloc: Global, id: &str, at: DayTime) -> Result<Stay, AllocError> {
         Ok(Stay {
@@ -197,6 +208,7 @@ impl Teller<'_> {
         Ok(Leg {
             kind: kind_of(stage),
             trip: self.trip(alloc, stage)?,
+            frequency: self.frequency(stage),
             from: self.stay(alloc, from, departs)?,
             to: self.stay(alloc, to, arrives)?,
             seconds: self.seconds(departs, arrives),
