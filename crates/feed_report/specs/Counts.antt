@@ -1,5 +1,5 @@
 -- How many of each a feed has, from the bytes of its files on; or why that isn't told.
--- GTFS Schedule reference, "Dataset files": calendar.txt, calendar_dates.txt and transfers.txt may be left out.
+-- GTFS Schedule reference, "Dataset files": calendar.txt, calendar_dates.txt, transfers.txt and frequencies.txt may be left out.
 use Rattle.std.specs.Prelude.{◌≡◌, ◌↔◌, Bool, true, false, IsTrue, None, length, sum_by}
 use Rattle.gtfs_rows.specs.Faults.{first_fault, Explains}
 use Rattle.gtfs_tables.specs.Feed.{Feed, feed_tests, values_of}
@@ -15,6 +15,7 @@ pub record IsMissing {R : Type 0} (files : Files R) (missing : Missing) : Type 0
   pub calendar : IsTrue missing.calendar ↔ (files.calendar ≡ None)
   pub calendar_dates : IsTrue missing.calendar_dates ↔ (files.calendar_dates ≡ None)
   pub transfers : IsTrue missing.transfers ↔ (files.transfers ≡ None)
+  pub frequencies : IsTrue missing.frequencies ↔ (files.frequencies ≡ None)
 
 -- how many of each the tables have
 abbrev pub counts_in : TableValues → Missing → Counts
@@ -25,6 +26,7 @@ counts_in tables missing = record {
   trips = length tables.trips;
   calls = sum_by (λ calls. length calls) tables.calls;
   transfers = length tables.transfers;
+  frequencies = length tables.frequencies;
   skipped = tables.skipped;
   missing = missing;
 }
@@ -36,6 +38,7 @@ pub record AreCounts (feed : Feed) (counts : Counts) : Type 0 where
   pub calendar : IsTrue counts.missing.calendar ↔ (feed.calendar ≡ None)
   pub calendar_dates : IsTrue counts.missing.calendar_dates ↔ (feed.calendar_dates ≡ None)
   pub transfers : IsTrue counts.missing.transfers ↔ (feed.transfers ≡ None)
+  pub frequencies : IsTrue counts.missing.frequencies ↔ (feed.frequencies ≡ None)
 
 -- with hash keys to look ids up with, the fault of the feed's first test that doesn't hold; memory may run out at any time
 abbrev pub IsReadingFault : Feed → Fault → Type 0

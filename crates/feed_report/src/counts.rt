@@ -16,6 +16,7 @@ pub struct Missing {
     pub calendar: bool,
     pub calendar_dates: bool,
     pub transfers: bool,
+    pub frequencies: bool,
 }
 
 /// How many of each a feed has. Rows that are skipped don't count.
@@ -29,6 +30,8 @@ pub struct Counts {
     /// The calls of all trips.
     pub calls: usize,
     pub transfers: usize,
+    /// The rows of frequencies.txt.
+    pub frequencies: usize,
     /// How many rows were left out without being at fault.
     pub skipped: Skipped,
     pub missing: Missing,
@@ -41,6 +44,7 @@ fn missing_of<R>(files: &Files<R>) -> Missing
         calendar: files.calendar.is_none(),
         calendar_dates: files.calendar_dates.is_none(),
         transfers: files.transfers.is_none(),
+        frequencies: files.frequencies.is_none(),
     }
 }
 
@@ -65,6 +69,7 @@ fn counted(tables: &Tables, missing: Missing) -> Counts
         trips: tables.trips().len(),
         calls: calls_in(tables),
         transfers: tables.transfers().len(),
+        frequencies: tables.frequencies().len(),
         skipped: tables.skipped(),
         missing,
     }

@@ -38,6 +38,8 @@ pub struct Feed<'a> {
     pub calendar_dates: &'a str,
     pub stop_times: &'a str,
     pub transfers: &'a str,
+    /// None if there is no such file.
+    pub frequencies: Option<&'a str>,
 }
 
 impl Feed<'static> {
@@ -49,6 +51,7 @@ impl Feed<'static> {
         calendar_dates: "service_id,date,exception_type\n",
         stop_times: STOP_TIMES,
         transfers: TRANSFERS,
+        frequencies: None,
     };
 }
 
@@ -95,6 +98,10 @@ pub fn tables_of(rt: &HostRuntime, feed: Feed<'_>) -> Result<Tables, Fail> {
         calendar_dates: Some(feed.calendar_dates.as_bytes()),
         stop_times: Some(feed.stop_times.as_bytes()),
         transfers: Some(feed.transfers.as_bytes()),
+        frequencies: match feed.frequencies {
+            Some(rows) => Some(rows.as_bytes()),
+            None => None,
+        },
     };
     Ok(read_tables(rt.alloc(), RandomState::new(rt)?, files)?)
 }

@@ -40,6 +40,7 @@ pub fn basis(rt: &HostRuntime) -> Result<Basis, Fail> {
         calendar_dates: Some(Feed::SAMPLE.calendar_dates.as_bytes()),
         stop_times: Some(Feed::SAMPLE.stop_times.as_bytes()),
         transfers: Some(Feed::SAMPLE.transfers.as_bytes()),
+        frequencies: None,
     };
     let keys = RandomState::new(rt)?;
     match basis_of(

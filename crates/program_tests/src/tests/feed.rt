@@ -19,6 +19,8 @@ T,A,1,08:00:00,08:00:00\nT,B,2,08:10:00,08:10:00\n";
 
 const TRANSFERS: &[u8] = b"from_stop_id,to_stop_id,transfer_type\n";
 
+const FREQUENCIES: &[u8] = b"trip_id,start_time,end_time,headway_secs\n";
+
 /// A reader of these bytes, which fails at their end where it is to fail.
 #[derive(Drop)]
 pub struct Source {
@@ -58,5 +60,6 @@ pub fn feed(failure: Failure) -> Files<Source> {
         calendar_dates: reader_of(FeedFile::CalendarDates, CALENDAR_DATES, failure),
         stop_times: reader_of(FeedFile::StopTimes, STOP_TIMES, failure),
         transfers: reader_of(FeedFile::Transfers, TRANSFERS, failure),
+        frequencies: reader_of(FeedFile::Frequencies, FREQUENCIES, failure),
     }
 }
