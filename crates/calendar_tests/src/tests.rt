@@ -26,9 +26,9 @@ const ROW: Frequency = Frequency {
 #[test]
 fn rows_by_trip(rt: HostRuntime) -> Result<(), Fail> {
     let tables = tables_of(&rt, REPEATED)?;
-    assert!(rt; tables.frequencies() == &[ROW]);
+    assert!(rt; tables.frequencies() == [ROW].as_slice());
     let repeats = repeats_of(rt.alloc(), &tables)?;
-    assert!(rt; repeats.of(0).is_empty() && repeats.of(1) == &[ROW]);
+    assert!(rt; repeats.of(0).is_empty() && repeats.of(1) == [ROW].as_slice());
     Ok(())
 }
 
