@@ -7,13 +7,13 @@ ghost use Rattle.store_answers.specs.Builds.{CountsLeft, CountsStored, IsBuilt, 
 ghost use Rattle.store_answers.specs.Stores.{OnlyFailing};
 
 use crate::ids::ids;
-use crate::opening::{OpenStore, open};
+use crate::opening::open_unshown;
 use answer_lines::Report;
 use command_line::Workers;
 use disk_model::Disk;
 use faults::Fault;
 use feed_basis::Basis;
-use precomputing::{Crew, Free, Outcome, Progress, Stop, precompute_telling};
+use precomputing::{Audience, Crew, Free, Outcome, Progress, Stop, precompute_telling};
 use recovery::laws::opening_goes_on;
 use section_store::going_laws::goes_on;
 use section_store::laws::loses_nothing_in_turn;
@@ -65,8 +65,8 @@ pub fn told<'a>(
 
 /// Stores the trees that the file of the disk lacks, for the basis's timetable and journeys of at most so many rides: workers build them in
 /// threads, and the calling thread stores each as it is handed in. It tells how many the file has then, and the stops without one. The file
-/// is recovered, and a fresh one begun; `progress` is told how far the build is. The disk comes back. A stop is left without its tree
-/// where that is too large or memory is refused for it.
+/// is recovered, and a fresh one begun. No tree is kept in memory once it is stored. `progress` is told how far the build is. The disk
+/// comes back. A stop is left without its tree where that is too large or memory is refused for it.
 ///
 /// Of an honest disk, whatever the order of the workers' steps: stopped before, within or after any call, the file stands for a list that
 /// begins with the old one, and has each tree whose storing was done; the same build again goes on from there.
@@ -87,11 +87,7 @@ pub fn build<'a, D: Disk + Drop, T: Threads + Wait + Sync, P: Progress>(
     opening_goes_on();
     goes_on();
     loses_nothing_in_turn();
-    let OpenStore {
-        planner,
-        desk,
-        reader: _reader,
-    } = match open(alloc, rt, basis, rides, disk) {
+    let (planner, desk) = match open_unshown(alloc, rt, basis, rides, disk) {
         Ok(opened) => opened,
         Err((fault, disk)) => return (Err(Fault::from(fault)), disk),
     };
@@ -100,6 +96,7 @@ pub fn build<'a, D: Disk + Drop, T: Threads + Wait + Sync, P: Progress>(
         workers: usize::from(workers.number),
         gate: &Free,
         stop: &stop,
+        audience: Audience::Nobody,
     };
     let (desk, outcome) = precompute_telling(alloc, rt, desk, &planner, &crew, progress);
     progress.ended();

@@ -88,3 +88,41 @@ pub fn open<D: Disk, T: Wait>(
         None => Err((RecoverFault::Memory, desk.into_disk(rt))),
     }
 }
+
+/// The same, but no tree of the store is kept in memory, and nobody can ask. It is for a build.
+pub fn open_unshown<D: Disk, T: Wait>(
+    alloc: Global,
+    rt: &T,
+    basis: &Basis,
+    rides: Rides,
+    disk: D,
+) -> Result<(Planner, Desk<D>), (RecoverFault, D)>
+    ensures planner { IfOk result (λ o. o.0 ≡ planner_over basis.now rides) }
+    ensures form { IfOk result (λ o. o.1.form ≡ form_over basis.now rides) }
+    ensures ready { IfOk result (λ o. o.1.next ≡ Step.WriteBody) }
+    ensures stood { D.honest disk
+        → IfOk result (λ o. StandsForSources (form_over basis.now rides) o.1.stored (D.state disk).read) }
+    ensures sound { D.honest disk → IfOk result (λ o. IsSound D.honest D.state o.1) }
+    ensures cause { D.honest disk → IfErr result (λ e. CauseOf (form_over basis.now rides) (D.state disk).read e.0) }
+    ensures refused { D.honest disk
+        → IfErr result (λ e. IsOutside e.0 ⊎ StandsForNoList (form_over basis.now rides) (D.state disk).read) }
+    ensures device { MatchResult result (λ o. D.failures o.1.disk ≡ D.failures disk)
+        (λ e. e.0 ≡ RecoverFault.Device → Grew (D.failures disk) (D.failures e.1)) }
+    ensures moments { D.honest disk → MatchResult result
+        (λ o. IsOpening (form_over basis.now rides) (D.state disk) (D.state o.1.disk))
+        (λ e. IsOpening (form_over basis.now rides) (D.state disk) (D.state e.1)) }
+    ensures alone { D.honest disk → IfErr result (λ e. IsOutside e.0 ⊎ IsLeftAlone (D.state disk) (D.state e.1)) }
+    ensures honest { MatchResult result (λ o. D.honest disk ↔ D.honest o.1.disk) (λ e. D.honest disk ↔ D.honest e.1) }
+{
+    goes_on();
+    let Ok(network) = basis.network(alloc) else {
+        return Err((RecoverFault::Memory, disk));
+    };
+    let Ok(names) = Arc::try_clone(basis.shared_names()) else {
+        return Err((RecoverFault::Memory, disk));
+    };
+    match Planner::open_unshown(alloc, rt, disk, network, names, rides) {
+        Ok(opened) => Ok(opened),
+        Err((fault, disk)) => Err((cause(fault), disk)),
+    }
+}

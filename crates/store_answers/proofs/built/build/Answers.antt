@@ -22,7 +22,7 @@ returns-clause-built g c = λ honest.
     let k = c.args.rides in
     let state = g.D.Disk.state in
     let old = state c.args.disk in
-    let first = c.in-Ok.opened.desk in
+    let first = c.in-Ok.opened.1 in
     let last = c.precompute_telling-desk.result.0 in
     let outcome = c.precompute_telling-desk.result.1 in
     let p = c.precompute_telling-desk.ensures.precomputed in
@@ -48,13 +48,13 @@ told-report-requires g c =
     let last = c.precompute_telling-desk.result.0 in
     let outcome = c.precompute_telling-desk.result.1 in
     subst (λ (l : List ℕ). CountsLeft (stops_of c.args.basis.now.timetable) l outcome) (sym c.stored.ensures.stored)
-    (left_of g.D.Disk.honest g.D.Disk.state g.D.Disk.failures c.in-Ok.opened.desk last (form_over c.args.basis.now c.args.rides) outcome
+    (left_of g.D.Disk.honest g.D.Disk.state g.D.Disk.failures c.in-Ok.opened.1 last (form_over c.args.basis.now c.args.rides) outcome
     c.in-Ok.ensures.form c.precompute_telling-desk.ensures.precomputed)
 
 pub returns-clause-device : goal.returns-clause-device
 returns-clause-device g c =
     let failures = g.D.Disk.failures in
-    let first = c.in-Ok.opened.desk in
+    let first = c.in-Ok.opened.1 in
     let last = c.precompute_telling-desk.result.0 in
     let outcome = c.precompute_telling-desk.result.1 in
     subst (λ d. IfErr c.told-report.result (OnlyFailing (failures c.args.disk) (failures d))) (sym c.into_disk.ensures)
@@ -66,7 +66,7 @@ returns-clause-device g c =
 pub returns-clause-honest : goal.returns-clause-honest
 returns-clause-honest g c =
     let honest = g.D.Disk.honest in
-    let first = c.in-Ok.opened.desk in
+    let first = c.in-Ok.opened.1 in
     let last = c.precompute_telling-desk.result.0 in
     let opened = c.in-Ok.ensures.honest in
     let stays = stays_honest honest g.D.Disk.state g.D.Disk.failures first last c.precompute_telling-desk.result.1 c.precompute_telling-desk.ensures.precomputed in
