@@ -1,6 +1,6 @@
 //! Where the answers from a tree differ first from those of the timetable.
 
-ghost use Rattle.std.specs.Prelude.{◌<◌, ◌≤◌, IfOk};
+ghost use Rattle.std.specs.Prelude.{◌<◌, ◌≤◌, IfOk, IfSome};
 ghost use Rattle.pattern_tree.specs.Content.{longest};
 ghost use Rattle.rounds.specs.Scratch.{IsAlike, IsMadeFor, rides_of};
 ghost use Rattle.timetable.specs.Table.{stops_of};
@@ -39,6 +39,7 @@ fn first_at(
     ensures same { IsAlike scratch.old scratch.new }
     ensures first { AgreeUnmarked network.now patterns.now (rides_of scratch.old) marks.now
         → IfOk result (IsFirstStop network.now patterns.now (rides_of scratch.old) depart) }
+    ensures within { IfOk result (λ found. IfSome found (λ to. to < stops_of network.now)) }
 {
     let rides = scratch.rides();
     let view = scratch.run(network.timetable(), patterns.source(), depart)?;
@@ -58,7 +59,8 @@ pub fn first_difference(
     rides: Rides,
 ) -> Result<Option<Difference>, AllocError>
     requires { patterns.now.source < stops_of network.now }
-    ensures { longest patterns.now.pairs ≤ rides → IfOk result (IsFirstDifference network.now patterns.now rides) }
+    ensures first { longest patterns.now.pairs ≤ rides → IfOk result (IsFirstDifference network.now patterns.now rides) }
+    ensures within { IfOk result (λ difference. IfSome difference (λ d. d.to < stops_of network.now)) }
 {
     let table = network.timetable();
     let source = patterns.source();

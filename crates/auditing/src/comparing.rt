@@ -1,6 +1,6 @@
 //! The answers from a tree and those of the rounds at one moment.
 
-ghost use Rattle.std.specs.Prelude.{◌≡◌, ◌≤◌, ◌<◌, ◌↔◌, IsTrue, IfOk, map};
+ghost use Rattle.std.specs.Prelude.{◌≡◌, ◌≤◌, ◌<◌, ◌↔◌, IsTrue, IfOk, IfSome, map};
 ghost use Rattle.pattern_query.specs.Answer.{numbers};
 ghost use Rattle.rounds.specs.Answers.{AreRounds};
 ghost use Rattle.rounds.specs.Scratch.{rounds_of};
@@ -92,8 +92,9 @@ pub(crate) fn first_stop(
     requires from { patterns.now.source < stops_of network.now }
     requires early { depart ≤ LATEST_MOMENT }
     requires rounds { AreRounds network.now patterns.now.source depart rides (rounds_of view.now) }
-    ensures { AgreeUnmarked network.now patterns.now rides marks.now
+    ensures first { AgreeUnmarked network.now patterns.now rides marks.now
         → IfOk result (IsFirstStop network.now patterns.now rides depart) }
+    ensures within { IfOk result (λ found. IfSome found (λ to. to < stops_of network.now)) }
 {
     for number in 0..network.timetable().stops() {
         let stop = StopId::new(number as u16);

@@ -1,5 +1,5 @@
 -- The audit of a stored tree.
-use Rattle.std.proofs.Common.{◌≡◌, ◌⊎◌, ◌<◌, ◌≤◌, ◌∙◌, ℕ, List, [], ◌∷◌, Option, None, Some, IfSome, Contains, arith, refl, sym, subst, inl, inr, absurd}
+use Rattle.std.proofs.Common.{◌≡◌, ◌⊎◌, ◌<◌, ◌≤◌, ◌∙◌, ℕ, List, [], ◌∷◌, Option, None, Some, IfSome, Contains, arith, refl, sym, subst, inl, inr}
 use Rattle.std.specs.Option.{option_map}
 use Rattle.disk_model.specs.Disk.{State}
 use Rattle.timetable.specs.Table.{Table, stops_of}
@@ -32,7 +32,7 @@ shallow_text : (form : Form) (texts : List (List ℕ)) (trees : List Content) (t
 shallow_text form [] [] tree are has = absurd has
 shallow_text form [] (t ∷ trees) tree are has = absurd are
 shallow_text form (text ∷ texts) [] tree are has = absurd are
-shallow_text form (text ∷ texts) (t ∷ trees) tree are (inl e) = subst (λ (x : Content). longest x.pairs ≤ form.rides) e are.0.shallow
+shallow_text form (text ∷ texts) (t ∷ trees) tree are (inl e) = subst (λ (x : Content). longest x.pairs ≤ form.rides) (sym e) are.0.shallow
 shallow_text form (text ∷ texts) (t ∷ trees) tree are (inr has) = shallow_text form texts trees tree are.1 has
 
 shallow : (form : Form) (bytes : List ℕ) (trees : List Content) (tree : Content) → Stands form bytes trees → IsIn tree trees

@@ -8,4 +8,4 @@ returns-clause-first c = λ unmarked.
     let table = c.args.network.now in
     let tree = c.args.patterns.now in
     subst (λ (k : ℕ). IfOk c.first_stop.result (IsFirstStop table tree k c.args.depart)) c.rides-rides.ensures
-    (c.first_stop.ensures (subst (λ (k : ℕ). AgreeUnmarked table tree k c.args.marks.now) (sym c.rides-rides.ensures) unmarked))
+    (c.first_stop.ensures.first (subst (λ (k : ℕ). AgreeUnmarked table tree k c.args.marks.now) (sym c.rides-rides.ensures) unmarked))

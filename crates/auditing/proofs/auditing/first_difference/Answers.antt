@@ -1,4 +1,4 @@
-use Rattle.std.proofs.Common.{◌≡◌, ◌∙◌, ◌<◌, ◌≤◌, ℕ, Bool, false, List, Option, slice_index, length, below_more, arith, refl, sym, subst}
+use Rattle.std.proofs.Common.{◌≡◌, ◌∙◌, ◌<◌, ◌≤◌, ℕ, Bool, false, List, Option, IfSome, slice_index, length, below_more, arith, refl, sym, subst}
 use Rattle.timetable.specs.Table.{Table, stops_of}
 use Rattle.pattern_tree.specs.Content.{longest}
 use Rattle.rounds.specs.Events.{AreEvents}
@@ -8,8 +8,8 @@ use Rattle.auditing.specs.Lacks.{AgreeUnmarked, is_marked}
 use Rattle.auditing.proofs.EventFacts.{difference_at, early_at, no_difference}
 use Rattle.auditing.proofs.auditing.first_difference.Goals as goal
 
-pub returns-then-not-has_mark : goal.returns-then-not-has_mark
-returns-then-not-has_mark c = λ short e event t within.
+pub returns-then-not-has_mark-clause-first : goal.returns-then-not-has_mark-clause-first
+returns-then-not-has_mark-clause-first c = λ short e event t within.
     let table = c.args.network.now in
     let tree = c.args.patterns.now in
     let marks : List Bool = c.in_ok-marks.marks.items in
@@ -29,8 +29,8 @@ first_at-requires-clause-early c =
     (subst (λ (x : Table). AreEvents x c.source-source.result c.in_ok-events.events.items) c.timetable-table.ensures.value c.in_ok-events.ensures))
     c.loop-depart-test.true
 
-pub returns-in-Some : goal.returns-in-Some
-returns-in-Some c = λ short.
+pub returns-in-Some-clause-first : goal.returns-in-Some-clause-first
+returns-in-Some-clause-first c = λ short.
     let table = c.args.network.now in
     let tree = c.args.patterns.now in
     let k = c.args.rides in
@@ -78,8 +78,8 @@ loop-depart-preserved c =
       so_far = λ short. below_more (λ (j : ℕ). AgreesAt table tree k (slice_index items j)) i (inv.so_far short) (here short);
     }
 
-pub returns : goal.returns
-returns c = λ short.
+pub returns-clause-first : goal.returns-clause-first
+returns-clause-first c = λ short.
     let table = c.args.network.now in
     let tree = c.args.patterns.now in
     let items = c.deref-depart-items.result.now in
@@ -88,3 +88,7 @@ returns c = λ short.
     (subst (λ (s : ℕ). AreEvents table s c.in_ok-events.events.items) c.source-source.ensures
     (subst (λ (x : Table). AreEvents x c.source-source.result c.in_ok-events.events.items) c.timetable-table.ensures.value c.in_ok-events.ensures)) in
     no_difference table tree c.args.rides items are (λ i within. c.loop-depart.invariant.so_far short i (omega (arith, within, all)))
+
+pub returns-in-Some-clause-within : goal.returns-in-Some-clause-within
+returns-in-Some-clause-within c =
+    subst (λ (found : Option ℕ). IfSome found (λ to. to < stops_of c.args.network.now)) c.in-Some.is c.in_ok-found.ensures.within
