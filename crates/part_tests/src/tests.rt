@@ -3,7 +3,9 @@
 mod days;
 mod disks;
 mod feeds;
+mod limits;
 mod texts;
 mod trees;
 mod values;
+mod walks;
 mod ways;

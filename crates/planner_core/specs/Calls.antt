@@ -47,7 +47,8 @@ OpensSection old new =
     → IsOpened old.form (trees ++ tree ∷ []) (new.place + new.extent) new.disk
 
 abbrev pub Rests : ArchiveView → ArchiveView → Type 0
-Rests old new = (trees : List Content) → IsOpened old.form trees (old.place + old.extent) old.disk → IsRest old.form trees new.place new.disk
+Rests old new =
+    (trees : List Content) → IsOpened old.form trees (old.place + old.extent) old.disk → IsRest old.form trees new.place new.disk
 
 -- what each outcome held, each outcome holds: a source, and trees with which the list begins
 abbrev pub Lasts : ArchiveView → ArchiveView → Type 0

@@ -1,8 +1,10 @@
 //! Texts of trees.
 
 use linked_list_allocator::LocalHeap;
+use pattern_tree::PatternTree;
 use std::alloc::Global;
 use std::test::Fail;
+use timetable::StopId;
 use tree_codec::{CodecFault, decode, encode};
 
 // Of source 0: (0, 1) ends at 1, and goes on by (1, 3), which ends at 3; (0, 2) ends at 2 and 4; (0, 3) ends at 3.
@@ -10,6 +12,9 @@ const SOURCE_0: [u8; 56] = [
     0, 0, 0, 0, 0, 3, 0, 0, 0, 1, 0, 1, 0, 1, 0, 0, 0, 1, 0, 1, 0, 3, 0, 1, 0, 3, 0, 0, 0, 0, 0, 0,
     0, 2, 0, 2, 0, 2, 0, 4, 0, 0, 0, 0, 0, 0, 0, 3, 0, 1, 0, 3, 0, 0, 0, 0,
 ];
+
+// Of source 0: (0, 1) ends at 1.
+const ONE_NODE: [u8; 18] = [0, 0, 0, 0, 0, 1, 0, 0, 0, 1, 0, 1, 0, 1, 0, 0, 0, 0];
 
 // Eight nodes, one below the other, and a child announced below the eighth.
 const NINE_LEVELS: [u8; 86] = [
@@ -26,24 +31,41 @@ fn text_of(alloc: Global, bytes: &[u8]) -> Result<Vec<u8>, CodecFault> {
     Ok(text)
 }
 
-// A front of the text, of so many bytes.
-fn front(len: usize) -> &'static [u8] {
-    &SOURCE_0[..len.min(56)]
+// Whether the text is that of the tree that is read from it, and each front of it ends too early.
+fn is_text(alloc: Global, text: &[u8]) -> Result<bool, CodecFault> {
+    let again = text_of(alloc, text)?;
+    for len in 0..text.len() {
+        if !is_refused(alloc, &text[..len], CodecFault::Truncated) {
+            return Ok(false);
+        }
+    }
+    Ok(again.as_slice() == text)
 }
 
 #[test]
-fn a_text_and_its_fronts(rt: HostRuntime) {
-    assert!(rt;
-        text_of(rt.alloc(), &SOURCE_0).is_ok_and(|text| text.as_slice() == SOURCE_0.as_slice())
-    );
-    for len in 0..56 {
-        assert!(rt; is_refused(rt.alloc(), front(len), CodecFault::Truncated));
-    }
+fn texts_and_their_fronts(rt: HostRuntime) -> Result<(), Fail> {
+    assert!(rt; is_text(rt.alloc(), &SOURCE_0)?);
+    assert!(rt; is_text(rt.alloc(), &ONE_NODE)?);
+    Ok(())
+}
+
+#[test]
+fn one_node(rt: HostRuntime) -> Result<(), Fail> {
+    let mut tree = PatternTree::new_in(rt.alloc(), StopId::new(0));
+    assert!(rt; tree.insert(&[(StopId::new(0), StopId::new(1))], StopId::new(1))?);
+    let mut text = Vec::new(rt.alloc());
+    encode(&tree, &mut text)?;
+    assert!(rt; text.as_slice() == ONE_NODE.as_slice());
+    Ok(())
 }
 
 // The first of the faults that are met.
-const FAULTS: [(&[u8], CodecFault); 6] = [
+const FAULTS: [(&[u8], CodecFault); 7] = [
     (&[0, 5, 0, 0, 0, 0], CodecFault::UnknownStop),
+    (
+        &[0, 0, 0, 0, 0, 1, 0, 0, 0, 5, 0, 1, 0, 1, 0, 0, 0, 0],
+        CodecFault::UnknownStop,
+    ),
     (
         &[0, 0, 0, 0, 0, 1, 0, 0, 0, 1, 0, 2, 0, 1, 0, 1],
         CodecFault::NotRising,

@@ -93,3 +93,37 @@ fn finished_trees(rt: HostRuntime) -> Result<(), Fail> {
     assert!(rt; makes(rt.alloc(), &table, &mut arena)?);
     Ok(())
 }
+
+// Whether two pairs go into a tree once each, and it has no others of their paths and ends.
+fn takes_pairs(tree: &mut PatternTree) -> Result<bool, TreeFault> {
+    let (a, b, d) = (StopId::new(0), StopId::new(1), StopId::new(3));
+    let whole = [(a, b), (b, d)];
+    let first = [(a, b)];
+    let are_new = tree.insert(&whole, d)? && tree.insert(&first, b)?;
+    let are_old = !tree.insert(&whole, d)? && !tree.insert(&first, b)?;
+    let has_both = tree.contains(&whole, d) && tree.contains(&first, b);
+    let has_others = tree.contains(&whole, b) || tree.contains(&first, d);
+    Ok(are_new && are_old && has_both && !has_others)
+}
+
+const TWO_PAIRS: &str = "0-1 to 1\n0-1 1-3 to 3\n";
+
+// Whether a tree has these pairs, and a copy of it in other memory.
+fn is_copied<A: Allocator + Clone>(
+    global: Global,
+    alloc: A,
+    tree: &PatternTree,
+) -> Result<bool, TreeFault> {
+    let copy = tree.copy_to(alloc)?;
+    Ok(has_pairs(global, tree, TWO_PAIRS) && has_pairs(global, &copy, TWO_PAIRS))
+}
+
+#[test]
+fn pairs_put_one_by_one(rt: HostRuntime) -> Result<(), Fail> {
+    let mut tree = PatternTree::new_in(rt.alloc(), StopId::new(0));
+    assert!(rt; takes_pairs(&mut tree)?);
+    let arena = Arena::new(rt.alloc())?;
+    assert!(rt; is_copied(rt.alloc(), arena.bump(), &tree)?);
+    assert!(rt; is_copied(rt.alloc(), rt.alloc(), &tree)?);
+    Ok(())
+}
