@@ -26,6 +26,11 @@ const EIGHT: u32 = 28_800;
 
 /// What is asked of: the sample feed on a Tuesday, for journeys of at most three rides.
 pub fn basis(rt: &HostRuntime) -> Result<Basis, Fail> {
+    basis_over(rt, Feed::SAMPLE)
+}
+
+/// The same over another feed.
+pub fn basis_over(rt: &HostRuntime, feed: Feed<'_>) -> Result<Basis, Fail> {
     let settings = Settings {
         feed: "feed",
         date: "20240102",
@@ -35,13 +40,16 @@ pub fn basis(rt: &HostRuntime) -> Result<Basis, Fail> {
         default_walk: 120,
     };
     let files = Files {
-        stops: Some(Feed::SAMPLE.stops.as_bytes()),
-        trips: Some(Feed::SAMPLE.trips.as_bytes()),
-        calendar: Some(Feed::SAMPLE.calendar.as_bytes()),
-        calendar_dates: Some(Feed::SAMPLE.calendar_dates.as_bytes()),
-        stop_times: Some(Feed::SAMPLE.stop_times.as_bytes()),
-        transfers: Some(Feed::SAMPLE.transfers.as_bytes()),
-        frequencies: None,
+        stops: Some(feed.stops.as_bytes()),
+        trips: Some(feed.trips.as_bytes()),
+        calendar: Some(feed.calendar.as_bytes()),
+        calendar_dates: Some(feed.calendar_dates.as_bytes()),
+        stop_times: Some(feed.stop_times.as_bytes()),
+        transfers: Some(feed.transfers.as_bytes()),
+        frequencies: match feed.frequencies {
+            Some(rows) => Some(rows.as_bytes()),
+            None => None,
+        },
     };
     let keys = RandomState::new(rt)?;
     match basis_of(
@@ -136,6 +144,8 @@ pub enum Seen {
     Lacking,
     /// The best is there at 08:40:00 by one ride.
     Found,
+    /// The board is closed.
+    Refused,
     Other,
 }
 
@@ -150,7 +160,8 @@ pub fn ask(planner: &Planner, reader: Reader) -> (Reader, Seen)
             [point] if point.rides() == 1 && point.arrival() == 31_200 => (reader, Seen::Found),
             _ => (reader, Seen::Other),
         },
-        (reader, Err(AskFault::Question(Refusal::NotStored("B")))) => { (reader, Seen::Lacking) }
+        (reader, Err(AskFault::Question(Refusal::NotStored("B")))) => (reader, Seen::Lacking),
+        (reader, Err(AskFault::BoardRefused)) => (reader, Seen::Refused),
         (reader, Err(_)) => (reader, Seen::Other),
     }
 }
