@@ -161,8 +161,8 @@ fn seats(alloc: Global, writer: &mut Writer, readers: usize) -> Result<Vec<Reade
 }
 
 /// Opens a board for the trees of that timetable and of journeys of at most `rides` rides, with those that are stored already, as the board
-/// shows them, and with so many readers. All that publishing and looking need is made here. It fails if memory runs out, or if a reader
-/// finds no place; `rt` is for closing the board then.
+/// shows them, and with that number of readers. All that publishing and looking need is made here. It fails if memory runs out, or if a
+/// reader finds no place; `rt` is for closing the board then.
 pub fn open_shared<R: Wait>(
     alloc: Global,
     rt: &R,

@@ -29,7 +29,7 @@ use Rattle.commands.specs.declared.errand.Search.TheVariants as searches
 use Rattle.commands.specs.declared.found.Found.{Found}
 use Rattle.commands.specs.declared.storing.Use.TheVariants as uses
 
--- a build and an audit are told as lines, each other command in the style of its words
+-- a build and an audit are printed as lines, each other command in the style of its words
 abbrev pub told_style : Command → Style → Style
 told_style (commands.Answer task question) style = style
 told_style (commands.Build store workers progress) style = styles.Lines

@@ -5,12 +5,12 @@ use Rattle.gtfs_rows.specs.declared.values.StopTime.{StopTime}
 use Rattle.feed_timetable.specs.declared.instances.Counts.{Counts}
 use Rattle.feed_timetable.specs.Instances.{calls_from, calls_left}
 
--- there are not too many instances, and each has at most so many calls
+-- there are at most 1,000,000 instances, and on average at most 65,535 calls each
 pub record AreFewCounts (counts : Counts) : Type 0 where
   pub few : counts.instances ≤ 1_000_000
   pub few_calls : counts.calls ≤ 65_535 * counts.instances
 
--- so many instances with so many calls, which are not too many
+-- the counts are those of `instances` instances with `calls` calls, and few
 pub record AreCounts (counts : Counts) (instances calls : ℕ) : Type 0 where
   pub instances_are : counts.instances ≡ instances
   pub calls_are : counts.calls ≡ calls
@@ -20,7 +20,7 @@ pub record AreCounts (counts : Counts) (instances calls : ℕ) : Type 0 where
 abbrev pub Counted : Option Counts → ℕ → ℕ → Type 0
 Counted counts instances calls = MatchOption counts (1_000_000 < instances) (λ c. AreCounts c instances calls)
 
--- the instances and the calls of a trip with so many calls left: none if these are fewer than two
+-- a trip with `calls` calls left is one instance, and none if fewer than two are left
 abbrev pub weight : ℕ → ℕ
 weight calls = if nat_le 2 calls then 1 else 0
 
