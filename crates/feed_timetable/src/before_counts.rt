@@ -38,7 +38,7 @@ fn count_left(times: &[CallTimes], time: u32, from: u32, before: u32) -> usize
     count
 }
 
-// The counts with an instance of so many calls more, if these are two or more; none if there are too many instances then.
+// The counts with an instance of `calls` calls more, if these are two or more; none if there are too many instances then.
 fn with_calls(counts: Counts, calls: usize) -> Option<Counts>
     requires counts { AreFewCounts counts }
     requires calls { calls ≤ 65_535 }

@@ -37,11 +37,11 @@ impl Planner {
     /// at all that the reader saw before and was told of, or at more. The reader comes back, and knows what it saw. It takes no
     /// memory, and waits for nobody.
     ///
-    /// Where the trees of the first place's stops are complete, these are the best of all journeys of at most so many rides; each
-    /// tree that was published is, and so is each tree with which the board was opened where the disk was trusted.
+    /// If the trees of the first place's stops are complete, these are the best of all journeys of at most the planner's number of rides.
+    /// Each tree that was published is complete, and so is each with which the board was opened, if the disk was trusted.
     ///
-    /// It is refused where the board gives no look; else as questions are: where an id names nothing, the first before the second; where
-    /// the moment isn't covered; and where a tree isn't shown, with the id of the first stop that lacks one.
+    /// It is refused if the board gives no look; else as questions are: if an id names nothing, the first before the second; if the
+    /// moment isn't covered; and if a tree isn't shown, with the id of the first stop that lacks one.
     pub fn ask<'a>(
         &'a self,
         reader: Reader,

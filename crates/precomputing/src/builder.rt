@@ -35,7 +35,7 @@ impl Model for Builder {
 }
 
 impl Builder {
-    /// For trees of the network's timetable and at most so many rides, over the lines that it has. It fails only where memory runs out.
+    /// For trees of the network's timetable and at most `rides` rides, over the lines that it has. It fails only if memory runs out.
     pub(crate) fn new(alloc: Global, network: &Network, rides: Rides) -> Result<Builder, AllocError>
         ensures { IfOk result (λ bench. bench ≡ form_of network.now rides) }
     {

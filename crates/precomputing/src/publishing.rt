@@ -9,7 +9,7 @@ use section_store::Receipt;
 use std::alloc::Global;
 use std::sync::Wait;
 
-/// Who shows stored trees on a board, if there is an audience, and reports how many of so many stops are stored. A tree for which memory is
+/// Who shows stored trees on a board, if there is an audience, and reports how many of `stops` stops are stored. A tree for which memory is
 /// refused isn't shown before the store is opened again.
 pub(crate) struct Publisher<'a, R: Wait, P: Progress> {
     pub(crate) rt: &'a R,
