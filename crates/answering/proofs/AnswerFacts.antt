@@ -4,11 +4,11 @@ use Rattle.std.specs.List.{AllZip}
 use Rattle.std.proofs.lemmas.List.Elements.{All-cons, All-nil, All-tail, at_from_Contains}
 use Rattle.timetable.specs.declared.parts.Leg.{Leg}
 use Rattle.timetable.specs.declared.parts.Numbers.{Numbers}
-use Rattle.timetable.specs.Front.{AreFront}
+use Rattle.timetable.specs.Front.{AreFront, AreBest}
 use Rattle.timetable.specs.Journeys.{Journey, Serves, Reaches}
 use Rattle.timetable.specs.Table.{Table}
 use Rattle.pattern_tree.specs.Content.{Content}
-use Rattle.pattern_query.specs.Answer.{PointData, numbers, AreBest}
+use Rattle.pattern_query.specs.Answer.{PointData, numbers}
 use Rattle.pattern_query.specs.Questions.{IsAskedPoint, ReachesBetween}
 use Rattle.scanned_journeys.specs.Journeys.{IsJourney}
 use Rattle.answering.specs.Answers.{Journeys, IsReached, IsRideBetween, TellsReached}

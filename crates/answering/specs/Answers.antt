@@ -6,7 +6,7 @@ use Rattle.timetable.specs.declared.parts.Leg.{Leg}
 use Rattle.timetable.specs.declared.parts.Numbers.{Numbers}
 use Rattle.timetable.specs.Journeys.{Journey, Serves, arrives, pattern}
 use Rattle.timetable.specs.Table.{Table}
-use Rattle.pattern_query.specs.Answer.{AreBest}
+use Rattle.timetable.specs.Front.{AreBest}
 use Rattle.pattern_tree.specs.Content.{Content}
 use Rattle.pattern_query.specs.Questions.{AreComplete, AskedReaches, Held, IsStored, ReachesBetween}
 use Rattle.answer_lines.specs.declared.answer.Answer.{Answer}

@@ -6,7 +6,8 @@ use Rattle.timetable.specs.declared.parts.Numbers.{Numbers}
 use Rattle.timetable.specs.Table.{Table}
 use Rattle.timetable.specs.Journeys.{Reaches, Unbeaten}
 use Rattle.pattern_tree.specs.Content.{Content}
-use Rattle.pattern_query.specs.Answer.{PointData, numbers, AreBest}
+use Rattle.timetable.specs.Front.{AreBest}
+use Rattle.pattern_query.specs.Answer.{PointData, numbers}
 use Rattle.pattern_query.specs.BestSoFar.{at, ThereBy, AreChosen}
 use Rattle.pattern_query.proofs.SlotSteps.{none_some}
 use Rattle.pattern_query.proofs.Best.{best_chosen, best_of_all}

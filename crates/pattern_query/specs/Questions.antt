@@ -7,7 +7,8 @@ use Rattle.timetable.specs.Journeys.{Reaches}
 use Rattle.feed_ids.specs.NameLists.{NameLists}
 use Rattle.pattern_tree.specs.Content.{Content, longest}
 use Rattle.pattern_tree.specs.Completeness.{Complete}
-use Rattle.pattern_query.specs.Answer.{PointData, numbers, TreeReaches, IsPoint, AreBest}
+use Rattle.timetable.specs.Front.{AreBest}
+use Rattle.pattern_query.specs.Answer.{PointData, numbers, TreeReaches, IsPoint}
 use Rattle.pattern_query.specs.declared.refusal.Refusal.{Refusal}
 use Rattle.pattern_query.specs.declared.refusal.Refusal.TheVariants as refusals
 use Rattle.feed_ids.specs.Names.{stops_at}

@@ -3,7 +3,8 @@ use Rattle.std.specs.Prelude.{◌≡◌, ℕ, List, Some, map}
 use mathlib.Core.List.{IsPrefix}
 use Rattle.timetable.specs.Table.{stops_of}
 use Rattle.pattern_tree.specs.Content.{Content}
-use Rattle.pattern_query.specs.Answer.{PointData, AreBest, numbers}
+use Rattle.timetable.specs.Front.{AreBest}
+use Rattle.pattern_query.specs.Answer.{PointData, numbers}
 use Rattle.feed_ids.specs.Names.{stops_at}
 use Rattle.pattern_query.specs.Questions.{Held, IsAnswer, IsRefusal, ReachesBetween}
 use Rattle.board.specs.Ties.{BoardPart}

@@ -9,7 +9,8 @@ use Rattle.timetable.specs.declared.parts.Numbers.{Numbers}
 use Rattle.timetable.specs.Journeys.{Journey, pattern}
 use Rattle.timetable.specs.Table.{Table}
 use Rattle.pattern_tree.specs.Content.{Content}
-use Rattle.pattern_query.specs.Answer.{AreBest, TreeReaches}
+use Rattle.timetable.specs.Front.{AreBest}
+use Rattle.pattern_query.specs.Answer.{TreeReaches}
 use Rattle.pattern_query.specs.Questions.{AskedReaches, IsStored}
 use Rattle.section_store.specs.Sections.{AreApart, Form, Stands, sources}
 use Rattle.store_excerpt.specs.Board.{AreOf, shown}
