@@ -165,8 +165,8 @@ fn source_and_nodes<A: Allocator + Clone>(
     room: &mut Room,
     form: StopForm,
 ) -> Result<(StopId, Vec<Node<A>, A>), CodecFault>
-    requires nodes { room.old.nodes ≡ 1_000_000 }
-    requires ends { room.old.ends ≡ 16_000_000 }
+    requires nodes { room.old.nodes ≡ MOST_NODES }
+    requires ends { room.old.ends ≡ MOST_ENDS }
     ensures { Gives (λ read. (read.0, forest (branches read.1.items), remaining input.new.bytes.now room.new.nodes room.new.ends)) result
         (tree_at (byte_count form.width) form.stops input.old.bytes.now) }
 {
