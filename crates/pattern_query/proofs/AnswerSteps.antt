@@ -45,7 +45,7 @@ module _ (table : Table) (held : Held) (froms tos : List ℕ) (d : ℕ) (points 
   within n of =
       let tree = of.0 in let t = of.1 in
       let c = complete tree.source tree of.2.0 of.2.1 in
-      (tree.source, t, of.2.0, of.2.2, few_rides table tree t d k c.0 c.1 n of.3)
+      (tree.source, t, of.2.0, of.2.2, few_rides table tree t d k c.complete c.short n of.3)
 
   tree_of : (s : ℕ) → Contains froms s → (tree : Content) × (held s ≡ Some tree) × (tree.source ≡ s)
   tree_of s c =
@@ -64,7 +64,7 @@ module _ (table : Table) (held : Held) (froms tos : List ℕ) (d : ℕ) (points 
         tree,
         t,
         (from, holds, un.0.3),
-        has_best table tree t d k c.0 n
+        has_best table tree t d k c.complete n
             (subst (λ x. Reaches table 0 k x t d n) same un.0.4, λ m reaches. un.1 m (tree.source, t, from, un.0.3, reaches)),
       )
 

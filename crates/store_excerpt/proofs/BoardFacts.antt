@@ -7,15 +7,15 @@ use Rattle.std.proofs.lemmas.Bool.{cases_eq, false≢true}
 use Rattle.std.proofs.lemmas.Bool.Decides.{nat_tests}
 use Rattle.std.proofs.lemmas.List.{get_or-set_same, get_or-set_other}
 use Rattle.std.proofs.lemmas.List.Sorted.{Contains-permutation}
-use Rattle.std.proofs.lemmas.List.Elements.{All-cons, All-nil, Contains-append_cases, Contains-append_left, Contains-append_right, Contains-push, at_from_Contains}
+use Rattle.std.proofs.lemmas.List.Elements.{Contains-append_cases, Contains-append_left, Contains-append_right, Contains-push, at_from_Contains}
 use Rattle.timetable.specs.Journeys.{Reaches, Unbeaten}
-use Rattle.pattern_tree.specs.Completeness.{IsPathOf, IsTreeOf}
-use Rattle.pattern_tree.specs.Content.{Content, longest}
-use Rattle.pattern_tree.proofs.OrderFacts.{longest_still, tree_still}
+use Rattle.pattern_tree.specs.Completeness.{IsPathOf}
+use Rattle.pattern_tree.specs.Content.{Content}
+use Rattle.pattern_tree.proofs.OrderFacts.{longest_still, own_still}
 use Rattle.section_store.specs.Lasting.{IsExact}
-use Rattle.section_store.specs.Sections.{Form, IsNew, Stands, AreTexts}
+use Rattle.section_store.specs.Sections.{Form, IsNew}
 use Rattle.section_store.specs.Sources.{is_among}
-use Rattle.store_excerpt.specs.Board.{AreOf, IsOneOf, shown, IsSlotOf, IsBoardOf, IsRight, AreRight, IsWhole, IsWholeAmong, AreWholeAmong}
+use Rattle.store_excerpt.specs.Board.{AreOf, IsOneOf, shown, IsSlotOf, IsBoardOf, AreExact, IsWholeAmong, AreWholeAmong}
 
 pub in_one : (m s : ℕ) → Contains (m ∷ []) s → s ≡ m
 in_one m s (k, below, is) = let zero' : k ≡ 0 = omega (arith, below) in sym (subst (λ (i : ℕ). get_or (m ∷ []) i s ≡ s) zero' is)
@@ -161,11 +161,11 @@ same_more trees board tree patterns are source is =
 pub same_none : (board : List (Option Content)) → ((s : ℕ) → shown board s ≡ None) → AreOf [] board
 same_none board = each_none (IsOneOf []) board
 
-pub right_more : (form : Form) (board : List (Option Content)) (i : ℕ) (tree : Content) → AreRight form board → IsRight form tree → AreRight form (slice_set board i (Some tree))
-right_more form = each_more (IsRight form)
+pub right_more : (form : Form) (board : List (Option Content)) (i : ℕ) (tree : Content) → AreExact form board → IsExact form tree → AreExact form (slice_set board i (Some tree))
+right_more form = each_more (IsExact form)
 
-pub right_none : (form : Form) (board : List (Option Content)) → ((s : ℕ) → shown board s ≡ None) → AreRight form board
-right_none form = each_none (IsRight form)
+pub right_none : (form : Form) (board : List (Option Content)) → ((s : ℕ) → shown board s ≡ None) → AreExact form board
+right_none form = each_none (IsExact form)
 
 pub whole_more : (form : Form) (froms : List ℕ) (board : List (Option Content)) (i : ℕ) (tree : Content)
     → AreWholeAmong form froms board → IsWholeAmong form froms tree → AreWholeAmong form froms (slice_set board i (Some tree))
@@ -175,9 +175,8 @@ pub whole_none : (form : Form) (froms : List ℕ) (board : List (Option Content)
 whole_none form froms = each_none (IsWholeAmong form froms)
 
 -- the patterns of a tree, in another order
-pub right_still : (form : Form) (tree patterns : Content) → patterns.source ≡ tree.source → IsPermutation tree.pairs patterns.pairs → IsRight form tree → IsRight form patterns
-right_still form tree patterns source same is =
-    subst (λ (n : ℕ). IsTreeOf form.table form.rides n patterns) (sym source) (tree_still form.table form.rides tree.source tree patterns source same is)
+pub right_still : (form : Form) (tree patterns : Content) → patterns.source ≡ tree.source → IsPermutation tree.pairs patterns.pairs → IsExact form tree → IsExact form patterns
+right_still form tree patterns source same is = own_still form.table form.rides tree patterns source same is
 
 pub whole_still : (form : Form) (froms : List ℕ) (tree patterns : Content) → patterns.source ≡ tree.source → IsPermutation tree.pairs patterns.pairs
     → IsWholeAmong form froms tree → IsWholeAmong form froms patterns
@@ -189,27 +188,3 @@ whole_still form froms tree patterns source same is = λ among.
           (c.0, subst (λ (s : ℕ). IsPathOf form.table s t d n c.0) (sym source) c.1, Contains-permutation tree.pairs patterns.pairs (c.0, t) same c.2);
       short = longest_still tree.pairs patterns.pairs form.rides same was.short;
     }
-
--- trees that a file has are no deeper than their form says
-texts_short : (form : Form) (texts : List (List ℕ)) (trees : List Content) → AreTexts form texts trees → All (λ (tree : Content). longest tree.pairs ≤ form.rides) trees
-texts_short form [] [] are = All-nil (λ (tree : Content). longest tree.pairs ≤ form.rides)
-texts_short form [] (tree ∷ trees) are = absurd are
-texts_short form (text ∷ texts) [] are = absurd are
-texts_short form (text ∷ texts) (tree ∷ trees) are =
-    All-cons (λ (t : Content). longest t.pairs ≤ form.rides) tree trees are.0.shallow (texts_short form texts trees are.1)
-
-stands_short : (form : Form) (bytes : List ℕ) (trees : List Content) → Stands form bytes trees → All (λ (tree : Content). longest tree.pairs ≤ form.rides) trees
-stands_short form bytes trees (inl fresh) =
-    subst (All (λ (tree : Content). longest tree.pairs ≤ form.rides)) (sym fresh.1) (All-nil (λ (tree : Content). longest tree.pairs ≤ form.rides))
-stands_short form bytes trees (inr are) = texts_short form are.texts trees are.of
-
-pub right_all : (form : Form) (bytes : List ℕ) (trees : List Content) → Stands form bytes trees → All (IsExact form) trees → All (IsRight form) trees
-right_all form bytes trees stands exact = λ k d below. record {
-  source = refl;
-  complete = (exact k d below).complete;
-  earned = (exact k d below).earned;
-  short = stands_short form bytes trees stands k d below;
-}
-
-pub whole_all : (form : Form) (bytes : List ℕ) (trees : List Content) → Stands form bytes trees → All (IsExact form) trees → All (IsWhole form) trees
-whole_all form bytes trees stands exact = λ k d below. record { complete = (exact k d below).complete; short = stands_short form bytes trees stands k d below }

@@ -2,9 +2,10 @@
 use Rattle.std.specs.Prelude.{◌≡◌, ◌<◌, ◌≤◌, ◌↔◌, ℕ, Option, Some, None, List, slice_index_or, is_some}
 use Rattle.std.specs.List.{Contains}
 use Rattle.std.specs.List.Sorted.{IsPermutation}
-use Rattle.pattern_tree.specs.Content.{Content, longest}
-use Rattle.pattern_tree.specs.Completeness.{Complete, IsTreeOf}
+use Rattle.pattern_tree.specs.Content.{Content}
+use Rattle.pattern_tree.specs.Completeness.{IsWhole}
 use Rattle.pattern_query.specs.Questions.{IsStored}
+use Rattle.section_store.specs.Lasting.{IsExact}
 use Rattle.section_store.specs.Sections.{Form, IsNew}
 use Rattle.section_store.specs.Sources.{is_among}
 
@@ -41,22 +42,13 @@ pub record IsOneOf (trees : List Content) (tree : Content) : Type 0 where
 abbrev pub AreOf : List Content → List (Option Content) → Type 0
 AreOf trees board = (s : ℕ) (tree : Content) → shown board s ≡ Some tree → IsOneOf trees tree
 
--- the tree has the patterns of all best journeys from its source, and no others
-abbrev pub IsRight : Form → Content → Type 0
-IsRight form tree = IsTreeOf form.table form.rides tree.source tree
+-- each tree there is exact
+abbrev pub AreExact : Form → List (Option Content) → Type 0
+AreExact form board = (s : ℕ) (tree : Content) → shown board s ≡ Some tree → IsExact form tree
 
--- so does each tree there
-abbrev pub AreRight : Form → List (Option Content) → Type 0
-AreRight form board = (s : ℕ) (tree : Content) → shown board s ≡ Some tree → IsRight form tree
-
--- the tree has the patterns of all best journeys from its source, maybe others too, and no path has more rides than the form says
-pub record IsWhole (form : Form) (tree : Content) : Type 0 where
-  pub complete : Complete form.table form.rides tree.source tree.pairs
-  pub short : longest tree.pairs ≤ form.rides
-
--- so it is where it is the tree of one of these stops
+-- the tree is whole where it is that of one of these stops
 abbrev pub IsWholeAmong : Form → List ℕ → Content → Type 0
-IsWholeAmong form froms tree = Contains froms tree.source → IsWhole form tree
+IsWholeAmong form froms tree = Contains froms tree.source → IsWhole form.table form.rides tree
 
 -- so is each tree there
 abbrev pub AreWholeAmong : Form → List ℕ → List (Option Content) → Type 0
