@@ -17,6 +17,10 @@ use Rattle.feed_ids.specs.Names.{stops_at}
 abbrev pub Held : Type 0
 Held = ℕ → Option Content
 
+-- so it is by a slot for each stop
+abbrev pub tree_at : List (Option Content) → Held
+tree_at slots s = slice_index_or slots s None
+
 -- the tree of the source is there
 abbrev pub IsStored : Held → ℕ → Type 0
 IsStored held s = IsSomeAnd (held s) (λ tree. tree.source ≡ s)

@@ -6,9 +6,9 @@ use Rattle.pattern_tree.specs.Content.{Content}
 use Rattle.timetable.specs.Front.{AreBest}
 use Rattle.pattern_query.specs.Answer.{PointData, numbers}
 use Rattle.feed_ids.specs.Names.{stops_at}
-use Rattle.pattern_query.specs.Questions.{Held, IsAnswer, IsRefusal, ReachesBetween}
+use Rattle.pattern_query.specs.Questions.{Held, IsAnswer, IsRefusal, ReachesBetween, tree_at}
 use Rattle.board.specs.Ties.{BoardPart}
-use Rattle.board.specs.Trees.{board_after, tree_at}
+use Rattle.board.specs.Trees.{board_after}
 use Rattle.planner.specs.PlannerView.{PlannerView}
 use Rattle.planner.specs.declared.fault.AskFault.{AskFault}
 use Rattle.planner.specs.declared.fault.AskFault.TheVariants as faults
