@@ -35,7 +35,7 @@ module _ (table : Table) (held : Held) (froms tos : List ℕ) (d : ℕ) (start s
 
   pub best_are : AreBest (AskedReaches table held froms tos d) (map numbers points)
   best_are = best_chosen (AskedReaches table held froms tos d) slots points
-      (λ r p e. let is = is_point r p e in ((is.1.0, p.to, is.1.1, (p.legs, is.1.2.journey, is.1.2.counted)), is.0))
+      (λ r p e. let is = is_point r p e in ((is.1.0, p.to, is.1.1, (p.legs, (is.1.2.is.journey, is.1.2.has), is.1.2.is.counted)), is.0))
       (λ n of. subst (λ r. ThereBy slots (suc r) n.arrival) of.3.2 (added.least of.0 of.1 of.3.0 n.arrival of.2 of.3.1)) chosen
 
 -- where the trees are complete
