@@ -65,8 +65,8 @@ impl Planner {
     /// readers: both have exactly the trees of the list that the bytes stand for. The names are those of the timetable's feed. The
     /// disk comes back with each fault, as the recovery left it; `rt` is for closing the board if a reader finds no place.
     ///
-    /// A fresh file is begun; to any other nothing is written. Of a trusted disk each tree is complete and earned. No tree is kept but as
-    /// the board shows it: it becomes so before the next is read.
+    /// A fresh file is begun; to any other nothing is written. Of a trusted disk each tree is exact. No tree is kept but as the board
+    /// shows it: it becomes so before the next is read.
     pub fn open<D: Disk, R: Wait>(
         alloc: Global,
         rt: &R,

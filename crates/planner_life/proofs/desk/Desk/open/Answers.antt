@@ -1,4 +1,4 @@
-use Rattle.std.proofs.Common.{ℕ, List, inr, sym, subst}
+use Rattle.std.proofs.Common.{ℕ, List, sym, subst}
 use Rattle.std.specs.Arc.{arc_value}
 use Rattle.timetable.specs.Table.{stops_of}
 use Rattle.section_store.specs.Sections.{Form, form_of, sources}
@@ -30,9 +30,6 @@ invariant_of-result g c =
 
 pub returns-in-Ok-prepare-clause-moments : goal.returns-in-Ok-prepare-clause-moments
 returns-in-Ok-prepare-clause-moments g c = λ honest. c.in-Ok.ensures.opening honest
-
-pub returns-in-Ok-prepare-clause-written : goal.returns-in-Ok-prepare-clause-written
-returns-in-Ok-prepare-clause-written g c = λ honest fresh. inr (c.in-Ok.ensures.written honest fresh)
 
 pub returns-in-Ok-prepare-clause-right : goal.returns-in-Ok-prepare-clause-right
 returns-in-Ok-prepare-clause-right g c = λ honest trusted.
