@@ -4,13 +4,12 @@ use Rattle.std.specs.List.{AllZip}
 use Rattle.std.proofs.lemmas.List.Elements.{All-cons, All-nil, All-tail, at_from_Contains}
 use Rattle.timetable.specs.declared.parts.Leg.{Leg}
 use Rattle.timetable.specs.declared.parts.Numbers.{Numbers}
-use Rattle.timetable.specs.Front.{AreFront}
+use Rattle.timetable.specs.Front.{AreFront, AreBest}
 use Rattle.timetable.specs.Journeys.{Journey, Serves, Reaches}
 use Rattle.timetable.specs.Table.{Table}
 use Rattle.pattern_tree.specs.Content.{Content}
-use Rattle.pattern_query.specs.Answer.{PointData, numbers, AreBest}
+use Rattle.pattern_query.specs.Answer.{PointData, numbers, IsJourney}
 use Rattle.pattern_query.specs.Questions.{IsAskedPoint, ReachesBetween}
-use Rattle.scanned_journeys.specs.Journeys.{IsJourney}
 use Rattle.answering.specs.Answers.{Journeys, IsReached, IsRideBetween, TellsReached}
 use Rattle.answering.specs.Found.{IsHeldBetween, IsJourneyBetween}
 use Rattle.told_journeys.specs.Points.{TellsNumbers, Tells}
@@ -71,10 +70,10 @@ one_of_all P xs x all c = let i = at_from_Contains xs x c in subst P (i.2 x) (al
 pub journey_between : (table : Table) (held : ℕ → Option Content) (froms tos : List ℕ) (d : ℕ) (p : PointData)
     → IsAskedPoint table held froms tos d p → IsJourneyBetween table froms tos d p
 journey_between table held froms tos d p h = record {
-  starts = subst (λ s. Contains froms s) (sym h.2.starts) h.1.0;
+  starts = subst (λ s. Contains froms s) (sym h.2.is.starts) h.1.0;
   ends = h.1.2;
-  journey = subst (λ s. Journey table s d p.legs p.to p.arrival) (sym h.2.starts) h.2.journey.0;
-  rides = h.2.counted;
+  journey = subst (λ s. Journey table s d p.legs p.to p.arrival) (sym h.2.is.starts) h.2.is.journey;
+  rides = h.2.is.counted;
 }
 
 -- it is a journey of the trees
@@ -83,8 +82,8 @@ pub held_between : (table : Table) (held : ℕ → Option Content) (froms tos : 
 held_between table held froms tos d p h = record {
   is = journey_between table held froms tos d p h;
   tree = h.0;
-  holds = subst (λ s. held s ≡ Some h.0) (sym h.2.starts) h.1.1;
-  has = h.2.journey.1;
+  holds = subst (λ s. held s ≡ Some h.0) (sym h.2.is.starts) h.1.1;
+  has = h.2.has;
 }
 
 -- so is a journey between two single stops

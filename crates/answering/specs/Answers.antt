@@ -1,13 +1,14 @@
 -- What the program answers to a question, by the timetable and the covered days.
 -- RAPTOR (Delling, Pajor, Werneck, ALENEX 2012), section 2: the Pareto set of arrival time and number of trips.
-use Rattle.std.specs.Prelude.{◌≡◌, ◌⊎◌, ℕ, ◌≤◌, Bool, true, false, List, [], length, Option, Some}
+use Rattle.std.specs.Prelude.{◌≡◌, ℕ, ◌≤◌, Bool, true, false, List, [], length, Option, Some}
 use Rattle.std.specs.List.{All, AllZip, Contains}
 use Rattle.timetable.specs.declared.parts.Leg.{Leg}
 use Rattle.timetable.specs.declared.parts.Numbers.{Numbers}
-use Rattle.timetable.specs.Journeys.{Journey, Serves, arrives, pattern}
+use Rattle.timetable.specs.Journeys.{Journey, Serves, arrives}
 use Rattle.timetable.specs.Table.{Table}
-use Rattle.pattern_query.specs.Answer.{AreBest}
+use Rattle.timetable.specs.Front.{AreBest}
 use Rattle.pattern_tree.specs.Content.{Content}
+use Rattle.pattern_query.specs.Answer.{HasPattern}
 use Rattle.pattern_query.specs.Questions.{AreComplete, AskedReaches, Held, IsStored, ReachesBetween}
 use Rattle.answer_lines.specs.declared.answer.Answer.{Answer}
 use Rattle.answer_lines.specs.declared.answer.Answer.TheVariants as answers
@@ -79,7 +80,7 @@ pub record IsHeldJourney (table : Table) (held : Held) (froms tos : List ℕ) (d
   pub is : IsJourneyOf table froms tos d n from to legs
   pub tree : Content
   pub holds : held from ≡ Some tree
-  pub has : (legs ≡ []) ⊎ Contains tree.pairs (pattern table legs, to)
+  pub has : HasPattern table tree to legs
 
 -- The answer from the trees that are held: those of the first stops are among them, and each point is a journey of these trees with its
 -- numbers. The points are the best of all journeys of these trees; if the trees are complete, the best over all journeys of at most k

@@ -3,12 +3,12 @@ use Rattle.std.proofs.Common.{◌≡◌, ◌↔◌, ◌⊎◌, ℕ, suc, ◌<◌
 use Rattle.std.proofs.lemmas.Bool.{lt-ltb, ltb-true}
 use Rattle.std.proofs.lemmas.List.Kept.{AllPairs-filter}
 use Rattle.timetable.specs.declared.parts.Numbers.{Numbers}
-use Rattle.timetable.specs.Front.{AreFront}
+use Rattle.timetable.specs.Front.{AreFront, AreBest}
 use Rattle.timetable.specs.Table.{Table}
 use Rattle.pattern_tree.specs.Content.{Content}
 use Rattle.pattern_tree.specs.Paths.{IsIn}
 use Rattle.pattern_tree.proofs.PairFacts.{contains_in, in_contains}
-use Rattle.pattern_query.specs.Answer.{AreBest, TreeReaches}
+use Rattle.pattern_query.specs.Answer.{TreeReaches}
 use Rattle.auditing.specs.Audits.{Agrees}
 use Rattle.auditing.specs.Comparing.{ridden}
 

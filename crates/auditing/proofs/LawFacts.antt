@@ -3,12 +3,12 @@ use Rattle.std.proofs.Common.{◌≡◌, ℕ, ◌+◌, ◌<◌, ◌≤◌, List,
 use Rattle.std.proofs.lemmas.Bool.{cases_lt}
 use Rattle.timetable.specs.declared.parts.Leg.{Leg}
 use Rattle.timetable.specs.declared.parts.Numbers.{Numbers}
-use Rattle.timetable.specs.Front.{AreFront}
+use Rattle.timetable.specs.Front.{AreFront, AreBest}
 use Rattle.timetable.specs.Journeys.{Journey, Reaches, Unbeaten, foot}
 use Rattle.timetable.specs.Table.{Table, stops_of}
 use Rattle.timetable.proofs.Taken.{journey_earlier, the_some}
 use Rattle.pattern_tree.specs.Content.{Content}
-use Rattle.pattern_query.specs.Answer.{AreBest, TreeReaches}
+use Rattle.pattern_query.specs.Answer.{TreeReaches}
 use Rattle.rounds.specs.Events.{IsEvent}
 use Rattle.rounds.proofs.EventLaws.{own_event}
 use Rattle.auditing.specs.Audits.{IsFirstDifference}

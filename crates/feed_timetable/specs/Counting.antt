@@ -2,12 +2,13 @@
 use Rattle.std.specs.Prelude.{◌≡◌, ℕ, ◌*◌, ◌<◌, ◌≤◌, nat_le, List, length, Option, if◌then◌else◌}
 use Rattle.std.specs.Option.{MatchOption}
 use Rattle.gtfs_rows.specs.declared.values.StopTime.{StopTime}
+use Rattle.timetable.specs.declared.parts.TheConstants.{MOST_INSTANCES}
 use Rattle.feed_timetable.specs.declared.instances.Counts.{Counts}
 use Rattle.feed_timetable.specs.Instances.{calls_from, calls_left}
 
 -- there are at most 1,000,000 instances, and on average at most 65,535 calls each
 pub record AreFewCounts (counts : Counts) : Type 0 where
-  pub few : counts.instances ≤ 1_000_000
+  pub few : counts.instances ≤ MOST_INSTANCES
   pub few_calls : counts.calls ≤ 65_535 * counts.instances
 
 -- the counts are those of `instances` instances with `calls` calls, and few
@@ -18,7 +19,7 @@ pub record AreCounts (counts : Counts) (instances calls : ℕ) : Type 0 where
 
 -- these were counted; none if there are too many instances
 abbrev pub Counted : Option Counts → ℕ → ℕ → Type 0
-Counted counts instances calls = MatchOption counts (1_000_000 < instances) (λ c. AreCounts c instances calls)
+Counted counts instances calls = MatchOption counts (MOST_INSTANCES < instances) (λ c. AreCounts c instances calls)
 
 -- a trip with `calls` calls left is one instance, and none if fewer than two are left
 abbrev pub weight : ℕ → ℕ

@@ -12,7 +12,6 @@ ghost use Rattle.gtfs_rows.specs.declared.fault.FaultKind.TheVariants.{TooMany};
 use crate::before::list_before;
 use crate::before_counts::count_before;
 use crate::departures::repeats_of;
-pub use crate::instances::MOST_INSTANCES;
 use crate::instances::{count_instances, list_instances};
 use crate::transfers::TransferIndex;
 use crate::walks::{Ways, count_walks, list_walks};

@@ -13,12 +13,13 @@ ghost use Rattle.gtfs_tables.specs.Tables.{calls_of};
 ghost use Rattle.feed_timetable.specs.Running.{AreRunning, listed_first};
 
 use crate::departures::departure_count;
-use crate::instances::{Counts, MOST_INSTANCES};
+use crate::instances::Counts;
 use crate::running::is_due;
 use feed_ids::Groups;
 use gtfs_tables::{CallTimes, Frequency, Tables, fill_times};
 use service_days::{Cover, Days};
 use std::alloc::{AllocError, Global};
+use timetable::MOST_INSTANCES;
 
 // How many calls are left on that day of a trip that at this time of the day is so far in its own times. The day starts `before` seconds
 // before moment 0.

@@ -16,10 +16,7 @@ use feed_ids::Groups;
 use gtfs_tables::{CallTimes, Frequency, Tables, fill_times};
 use service_days::{Cover, Days};
 use std::alloc::{AllocError, Global};
-use timetable::{Call, Instance, StopId};
-
-/// How many instances a timetable has at most.
-pub const MOST_INSTANCES: usize = 1_000_000;
+use timetable::{Call, Instance, MOST_INSTANCES, StopId};
 
 /// How many instances there are, and how many calls they have.
 #[derive(Clone, Copy)]
@@ -41,9 +38,9 @@ pub fn count_instances(
     requires before { AreCounts before (length (listed_first tables.now cover.now running.now (length tables.now.trips)))
         (call_count (listed_first tables.now cover.now running.now (length tables.now.trips))) }
     ensures instances { IfSome result (λ counts. counts.instances ≡ length (listed_all tables.now cover.now running.now)) }
-    ensures few { IfSome result (λ counts. counts.instances ≤ 1_000_000) }
+    ensures few { IfSome result (λ counts. counts.instances ≤ MOST_INSTANCES) }
     ensures calls { IfSome result (λ counts. counts.calls ≡ call_count (listed_all tables.now cover.now running.now)) }
-    ensures many { IfNone result (1_000_000 < length (listed_all tables.now cover.now running.now)) }
+    ensures many { IfNone result (MOST_INSTANCES < length (listed_all tables.now cover.now running.now)) }
 {
     let mut counts = before;
     for day in 0..cover.days() {

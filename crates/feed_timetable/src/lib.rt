@@ -12,6 +12,6 @@ mod running;
 mod transfers;
 mod walks;
 
-pub use assembly::{MOST_CALLS, MOST_INSTANCES, MOST_WALKS, assemble};
+pub use assembly::{MOST_CALLS, MOST_WALKS, assemble};
 pub use departures::repeats_of;
 pub use names::names_of;

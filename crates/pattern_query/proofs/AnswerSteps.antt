@@ -6,7 +6,8 @@ use Rattle.timetable.specs.declared.parts.Numbers.{Numbers}
 use Rattle.timetable.specs.Table.{Table}
 use Rattle.timetable.specs.Journeys.{Reaches, Unbeaten}
 use Rattle.pattern_tree.specs.Content.{Content}
-use Rattle.pattern_query.specs.Answer.{PointData, numbers, AreBest}
+use Rattle.timetable.specs.Front.{AreBest}
+use Rattle.pattern_query.specs.Answer.{PointData, numbers}
 use Rattle.pattern_query.specs.BestSoFar.{at, ThereBy, AreChosen}
 use Rattle.pattern_query.proofs.SlotSteps.{none_some}
 use Rattle.pattern_query.proofs.Best.{best_chosen, best_of_all}
@@ -34,7 +35,7 @@ module _ (table : Table) (held : Held) (froms tos : List ℕ) (d : ℕ) (start s
 
   pub best_are : AreBest (AskedReaches table held froms tos d) (map numbers points)
   best_are = best_chosen (AskedReaches table held froms tos d) slots points
-      (λ r p e. let is = is_point r p e in ((is.1.0, p.to, is.1.1, (p.legs, is.1.2.journey, is.1.2.counted)), is.0))
+      (λ r p e. let is = is_point r p e in ((is.1.0, p.to, is.1.1, (p.legs, (is.1.2.is.journey, is.1.2.has), is.1.2.is.counted)), is.0))
       (λ n of. subst (λ r. ThereBy slots (suc r) n.arrival) of.3.2 (added.least of.0 of.1 of.3.0 n.arrival of.2 of.3.1)) chosen
 
 -- where the trees are complete
@@ -44,7 +45,7 @@ module _ (table : Table) (held : Held) (froms tos : List ℕ) (d : ℕ) (points 
   within n of =
       let tree = of.0 in let t = of.1 in
       let c = complete tree.source tree of.2.0 of.2.1 in
-      (tree.source, t, of.2.0, of.2.2, few_rides table tree t d k c.0 c.1 n of.3)
+      (tree.source, t, of.2.0, of.2.2, few_rides table tree t d k c.complete c.short n of.3)
 
   tree_of : (s : ℕ) → Contains froms s → (tree : Content) × (held s ≡ Some tree) × (tree.source ≡ s)
   tree_of s c =
@@ -63,7 +64,7 @@ module _ (table : Table) (held : Held) (froms tos : List ℕ) (d : ℕ) (points 
         tree,
         t,
         (from, holds, un.0.3),
-        has_best table tree t d k c.0 n
+        has_best table tree t d k c.complete n
             (subst (λ x. Reaches table 0 k x t d n) same un.0.4, λ m reaches. un.1 m (tree.source, t, from, un.0.3, reaches)),
       )
 

@@ -43,7 +43,7 @@ module _ (table : Table) (d : ℕ) where
   asked_one tree t old new added = record {
     attained = λ r p e. elim (added.attained r p e) [
       | inl was ↦ inl was
-      | inr is ↦ inr (is.0, tree, (refl, is.1.ends), subst (λ v. IsPoint table tree v d p) (sym is.1.ends) is.1)
+      | inr is ↦ inr (is.0, tree, (refl, is.1.is.ends), subst (λ v. IsPoint table tree v d p) (sym is.1.is.ends) is.1)
     ];
     kept = added.kept;
     least = λ u v legs z asked j.

@@ -5,9 +5,10 @@ use Rattle.timetable.specs.declared.parts.Numbers.{Numbers}
 use Rattle.timetable.specs.Table.{Table}
 use Rattle.timetable.specs.Journeys.{Reaches}
 use Rattle.feed_ids.specs.NameLists.{NameLists}
-use Rattle.pattern_tree.specs.Content.{Content, longest}
-use Rattle.pattern_tree.specs.Completeness.{Complete}
-use Rattle.pattern_query.specs.Answer.{PointData, numbers, TreeReaches, IsPoint, AreBest}
+use Rattle.pattern_tree.specs.Content.{Content}
+use Rattle.pattern_tree.specs.Completeness.{IsWhole}
+use Rattle.timetable.specs.Front.{AreBest}
+use Rattle.pattern_query.specs.Answer.{PointData, numbers, TreeReaches, IsPoint}
 use Rattle.pattern_query.specs.declared.refusal.Refusal.{Refusal}
 use Rattle.pattern_query.specs.declared.refusal.Refusal.TheVariants as refusals
 use Rattle.feed_ids.specs.Names.{stops_at}
@@ -15,6 +16,10 @@ use Rattle.feed_ids.specs.Names.{stops_at}
 -- the tree of a source, where it is there
 abbrev pub Held : Type 0
 Held = ℕ → Option Content
+
+-- so it is by a slot for each stop
+abbrev pub tree_at : List (Option Content) → Held
+tree_at slots s = slice_index_or slots s None
 
 -- the tree of the source is there
 abbrev pub IsStored : Held → ℕ → Type 0
@@ -36,10 +41,9 @@ IsAskedPoint table held froms tos d p = (tree : Content) × IsAsked held froms t
 abbrev pub ReachesBetween : Table → ℕ → List ℕ → List ℕ → ℕ → Numbers → Type 0
 ReachesBetween table k froms tos d n = (s : ℕ) × (t : ℕ) × Contains froms s × Contains tos t × Reaches table 0 k s t d n
 
--- the trees of these stops are complete for journeys of at most k rides, and no path of theirs has more
+-- the trees of these stops are whole for journeys of at most k rides
 abbrev pub AreComplete : Table → Held → ℕ → List ℕ → Type 0
-AreComplete table held k froms =
-    (s : ℕ) (tree : Content) → Contains froms s → held s ≡ Some tree → Complete table k tree.source tree.pairs × (longest tree.pairs ≤ k)
+AreComplete table held k froms = (s : ℕ) (tree : Content) → Contains froms s → held s ≡ Some tree → IsWhole table k tree
 
 -- Both ids name places, the moment is covered and the trees of the first place's stops are there. The points are journeys of these
 -- trees to the other place's stops, and of all of these the best; where the trees are complete, the best of all journeys.

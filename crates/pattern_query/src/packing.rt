@@ -6,7 +6,7 @@ ghost use Rattle.pattern_tree.specs.Branch.{branches};
 ghost use Rattle.pattern_query.specs.Patterns.{IsPacked, Packs, beginning_at, ending, path_to};
 
 use arrayvec::ArrayVec;
-use pattern_tree::Node;
+use pattern_tree::{MOST_NODES, Node};
 use std::alloc::{AllocError, Allocator};
 use timetable::StopId;
 
@@ -87,7 +87,7 @@ pub(crate) fn pack_level<A: Allocator, B: Allocator>(
     requires packed { IsPacked beginnings.old.items patterns.old.items }
     requires before { before ≤ length beginnings.old.items }
     requires deep { length (path_to 8 beginnings.old.items before) + levels (forest (branches level.now)) ≤ 8 }
-    requires few { length beginnings.old.items + node_count (forest (branches level.now)) ≤ 1_000_000 }
+    requires few { length beginnings.old.items + node_count (forest (branches level.now)) ≤ MOST_NODES }
     ensures { OnOk result (Packs beginnings.old.items patterns.old.items before (forest (branches level.now))
         beginnings.new.items patterns.new.items) }
 {

@@ -3,6 +3,7 @@ use Rattle.std.proofs.Common.{◌≡◌, ℕ, ◌+◌, ◌<◌, ◌≤◌, ◌�
 use Rattle.std.proofs.Common.{Result, Ok, Err}
 use Rattle.std.specs.Prelude.{IsErrAnd}
 use Rattle.std.specs.List.{Contains}
+use Rattle.pattern_tree.specs.declared.tree.TheConstants.{MOST_ENDS, MOST_NODES}
 use Rattle.pattern_tree.specs.declared.fault.TreeFault.{TreeFault}
 use Rattle.pattern_tree.specs.declared.fault.TreeFault.TheVariants.{Memory, TooLarge}
 use Rattle.pattern_tree.specs.Content.{IsTree, IsTooLarge, beginnings}
@@ -34,7 +35,7 @@ found_pairs path e f ps b seen h = (
   λ i. h.1 (in_has path e f (contains_in (path, e) (pairs f) (subst (λ (xs : List Pair). Contains xs (path, e)) (sym seen) i))),
 )
 
-pub added_tree : (nodes ends fresh : ℕ) (path q : List Step) (s : Step) (e : ℕ) (f g : Forest) → IsTree nodes ends f → path ≡ s ∷ q → g ≡ with_pair s q e f → length path ≤ 8 → (Has path e f → ⊥) → fresh ≡ missing_count s q f → nodes + fresh ≤ 1000000 → ends + 1 ≤ 16000000 → IsTree (nodes + fresh) (ends + 1) g
+pub added_tree : (nodes ends fresh : ℕ) (path q : List Step) (s : Step) (e : ℕ) (f g : Forest) → IsTree nodes ends f → path ≡ s ∷ q → g ≡ with_pair s q e f → length path ≤ 8 → (Has path e f → ⊥) → fresh ≡ missing_count s q f → nodes + fresh ≤ MOST_NODES → ends + 1 ≤ MOST_ENDS → IsTree (nodes + fresh) (ends + 1) g
 added_tree nodes ends fresh path q s e f g tree is made short new count few_nodes few_ends =
     subst (IsTree (nodes + fresh) (ends + 1)) (sym made) record {
       ordered = ordered_added s q e f tree.ordered;
@@ -58,7 +59,7 @@ counted_ends : (nodes ends : ℕ) (f : Forest) (ps : List Pair) → IsTree nodes
 counted_ends nodes ends f ps tree seen = rw (← seen) (omega (arith, length_pairs f, tree.ends_counted))
 
 -- a count would pass its limit
-pub too_large : (nodes ends fresh : ℕ) (path q : List Step) (s : Step) (e : ℕ) (f : Forest) (ps : List Pair) → IsTree nodes ends f → path ≡ s ∷ q → pairs f ≡ ps → fresh ≡ missing_count s q f → (Contains ps (path, e) → ⊥) → (1000000 < nodes + fresh) ⊎ (16000000 ≤ ends) → IsTooLarge ps (path, e)
+pub too_large : (nodes ends fresh : ℕ) (path q : List Step) (s : Step) (e : ℕ) (f : Forest) (ps : List Pair) → IsTree nodes ends f → path ≡ s ∷ q → pairs f ≡ ps → fresh ≡ missing_count s q f → (Contains ps (path, e) → ⊥) → (MOST_NODES < nodes + fresh) ⊎ (MOST_ENDS ≤ ends) → IsTooLarge ps (path, e)
 too_large nodes ends fresh path q s e f ps tree is seen count new over =
     let n = counted_nodes nodes ends path q s e f ps tree is seen in
     let m = counted_ends nodes ends f ps tree seen in (
@@ -67,7 +68,7 @@ too_large nodes ends fresh path q s e f ps tree is seen count new over =
     )
 
 -- no count would
-pub not_too_large : (nodes ends fresh : ℕ) (path q : List Step) (s : Step) (e : ℕ) (f : Forest) (ps : List Pair) → IsTree nodes ends f → path ≡ s ∷ q → pairs f ≡ ps → fresh ≡ missing_count s q f → nodes + fresh ≤ 1000000 → ends < 16000000 → IsTooLarge ps (path, e) → ⊥
+pub not_too_large : (nodes ends fresh : ℕ) (path q : List Step) (s : Step) (e : ℕ) (f : Forest) (ps : List Pair) → IsTree nodes ends f → path ≡ s ∷ q → pairs f ≡ ps → fresh ≡ missing_count s q f → nodes + fresh ≤ MOST_NODES → ends < MOST_ENDS → IsTooLarge ps (path, e) → ⊥
 not_too_large nodes ends fresh path q s e f ps tree is seen count few_nodes few_ends large =
     let n = counted_nodes nodes ends path q s e f ps tree is seen in
     let m = counted_ends nodes ends f ps tree seen in

@@ -7,7 +7,7 @@ use Rattle.timetable.specs.Journeys.{Reaches, Unbeaten}
 use Rattle.pattern_tree.specs.Forest.{Pair}
 use Rattle.pattern_tree.specs.Paths.{IsIn}
 use Rattle.pattern_tree.specs.Content.{Content, longest}
-use Rattle.pattern_tree.specs.Completeness.{IsPathOf, IsTreeOf}
+use Rattle.pattern_tree.specs.Completeness.{IsPathOf, IsTreeOf, IsWhole}
 use Rattle.pattern_tree.proofs.PairFacts.{in_contains, contains_in}
 
 -- no path of the pairs is longer than the longest
@@ -41,3 +41,11 @@ tree_still table k s old new source same is = record {
       (e.0, e.1, subst (λ s. Unbeaten (Reaches table 1 k s t e.0) e.1) (sym source) e.2, subst (λ s. IsPathOf table s t e.0 e.1 path) (sym source) e.3);
   short = longest_still old.pairs new.pairs k same is.short;
 }
+
+pub own_still : (table : Table) (k : ℕ) (old new : Content) → new.source ≡ old.source → IsPermutation old.pairs new.pairs → IsTreeOf table k old.source old
+    → IsTreeOf table k new.source new
+own_still table k old new source same is = subst (λ (s : ℕ). IsTreeOf table k s new) (sym source) (tree_still table k old.source old new source same is)
+
+-- a tree that has no others is whole
+pub whole_of : (table : Table) (k s : ℕ) (tree : Content) → IsTreeOf table k s tree → IsWhole table k tree
+whole_of table k s tree is = record { complete = is.complete; short = is.short }

@@ -32,4 +32,4 @@ pairs_below n (p ∷ ps) each =
     (here.0, here.1, pairs_below n ps (λ path t in'. each path t (suc in'.0, (let h = in'.1 in let lt : suc in'.0 < length (p ∷ ps) = omega (arith, h) in lt), in'.2)))
 
 pub within : (f : FinishedTree) → IsTable f.table → IsFinished f → IsWithin (stops_of f.table) f.tree
-within f is done = (done.source, pairs_below (stops_of f.table) f.tree.pairs (earned_below f.table f.rides f.tree.source f.tree.pairs is done.earned))
+within f is done = (done.known, pairs_below (stops_of f.table) f.tree.pairs (earned_below f.table f.rides f.tree.source f.tree.pairs is done.is.earned))

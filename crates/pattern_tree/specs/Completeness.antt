@@ -27,6 +27,11 @@ Earned table k s content =
     (path : List Step) (t : ℕ) → Contains content (path, t)
     → (d : ℕ) × (n : Numbers) × Unbeaten (Reaches table 1 k s t d) n × IsPathOf table s t d n path
 
+-- the tree has a path of each of the best journeys of one to k rides from its source, maybe others too, and no path has more rides
+pub record IsWhole (table : Table) (k : ℕ) (tree : Content) : Type 0 where
+  pub complete : Complete table k tree.source tree.pairs
+  pub short : longest tree.pairs ≤ k
+
 -- the tree is that of the source s: it has a path of each of the best journeys of one to k rides, and no others
 pub record IsTreeOf (table : Table) (k s : ℕ) (tree : Content) : Type 0 where
   pub source : tree.source ≡ s

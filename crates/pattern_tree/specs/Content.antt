@@ -2,6 +2,7 @@
 use Rattle.std.specs.Prelude.{◌≡◌, ℕ, suc, ◌+◌, ◌-◌, ◌<◌, ◌≤◌, max, ◌⊎◌, ◌&&◌, ◌==◌, cond, List, [], ◌∷◌, length}
 use Rattle.std.specs.List.{Contains}
 use Rattle.pattern_tree.specs.Forest.{Step, Pair, Forest, node_count, end_count, levels, IsOrdered}
+use Rattle.pattern_tree.specs.declared.tree.TheConstants.{MOST_ENDS, MOST_NODES}
 
 -- a source, and the pairs of its tree in the order of a walk
 pub record Content : Type 0 where
@@ -31,7 +32,7 @@ longest (p ∷ ps) = max (length p.0) (longest ps)
 
 -- there are too many beginnings of paths, or too many pairs, for one tree
 abbrev pub AreTooMany : List Pair → Type 0
-AreTooMany ps = (1_000_000 < beginnings ps) ⊎ (16_000_000 < length ps)
+AreTooMany ps = (MOST_NODES < beginnings ps) ⊎ (MOST_ENDS < length ps)
 
 -- the pair is new, and with it there are too many
 abbrev pub IsTooLarge : List Pair → Pair → Type 0
@@ -43,5 +44,5 @@ pub record IsTree (nodes ends : ℕ) (f : Forest) : Type 0 where
   pub not_deep : levels f ≤ 8
   pub nodes_counted : nodes ≡ node_count f
   pub ends_counted : ends ≡ end_count f
-  pub few_nodes : nodes ≤ 1_000_000
-  pub few_ends : ends ≤ 16_000_000
+  pub few_nodes : nodes ≤ MOST_NODES
+  pub few_ends : ends ≤ MOST_ENDS

@@ -79,8 +79,8 @@ impl<A: Allocator> PatternTree<A> {
         ensures content { pairs (forest (branches result.now)) ≡ self.now.pairs }
         ensures ordered { IsOrdered (forest (branches result.now)) }
         ensures not_deep { levels (forest (branches result.now)) ≤ 8 }
-        ensures few_nodes { node_count (forest (branches result.now)) ≤ 1_000_000 }
-        ensures few_ends { end_count (forest (branches result.now)) ≤ 16_000_000 }
+        ensures few_nodes { node_count (forest (branches result.now)) ≤ MOST_NODES }
+        ensures few_ends { end_count (forest (branches result.now)) ≤ MOST_ENDS }
     {
         self.first.as_slice()
     }

@@ -1,11 +1,11 @@
 -- What a board shows that was opened with the trees of a list.
-use Rattle.std.proofs.Common.{◌≡◌, ◌<◌, ◌≤◌, ℕ, List, [], ◌∷◌, ◌++◌, All, append_assoc, append-nil, refl, sym, ◌∙◌, ap, subst, inl, inr}
+use Rattle.std.proofs.Common.{◌≡◌, ◌<◌, ℕ, List, [], ◌∷◌, ◌++◌, All, append_assoc, append-nil, refl, sym, ◌∙◌, ap, subst}
 use Rattle.std.specs.List.{AllZip, Contains}
 use Rattle.std.proofs.lemmas.List.Elements.{AllZip-push, All-nil, All-cons, All-head, All-tail, All-contains_itself}
-use Rattle.pattern_tree.specs.Content.{Content, longest}
+use Rattle.pattern_tree.specs.Content.{Content}
 use Rattle.section_store.specs.Lasting.{IsExact}
-use Rattle.section_store.specs.Sections.{Form, Stands, AreTexts, sources}
-use Rattle.board.specs.Trees.{IsRight, IsSameTree}
+use Rattle.section_store.specs.Sections.{Form, sources}
+use Rattle.board.specs.Trees.{IsSameTree}
 use Rattle.board.proofs.RightFacts.{same_right}
 use Rattle.recovery.specs.Keeping.{GivenAll}
 use Rattle.planner.specs.Desk.{ShowsStored}
@@ -53,36 +53,11 @@ sources_known stops (tree ∷ trees) all =
     All-cons (λ s. s < stops) tree.source (sources trees) (All-head (λ (t : Content). t.source < stops) tree trees all)
     (sources_known stops trees (All-tail (λ (t : Content). t.source < stops) tree trees all))
 
--- trees that a file has are no deeper than their form says
-texts_short : (form : Form) (texts : List (List ℕ)) (trees : List Content) → AreTexts form texts trees → All (λ (tree : Content). longest tree.pairs ≤ form.rides) trees
-texts_short form [] [] are = All-nil (λ (tree : Content). longest tree.pairs ≤ form.rides)
-texts_short form [] (tree ∷ trees) are = absurd are
-texts_short form (text ∷ texts) [] are = absurd are
-texts_short form (text ∷ texts) (tree ∷ trees) are =
-    All-cons (λ (t : Content). longest t.pairs ≤ form.rides) tree trees are.0.shallow (texts_short form texts trees are.1)
-
-stands_short : (form : Form) (bytes : List ℕ) (trees : List Content) → Stands form bytes trees → All (λ (tree : Content). longest tree.pairs ≤ form.rides) trees
-stands_short form bytes trees (inl fresh) =
-    subst (All (λ (tree : Content). longest tree.pairs ≤ form.rides)) (sym fresh.1) (All-nil (λ (tree : Content). longest tree.pairs ≤ form.rides))
-stands_short form bytes trees (inr are) = texts_short form are.texts trees are.of
-
-right_all : (form : Form) (bytes : List ℕ) (trees : List Content) → Stands form bytes trees → All (IsExact form) trees → All (IsRight form) trees
-right_all form bytes trees stands exact = λ k d below. record {
-  source = refl;
-  complete = (exact k d below).complete;
-  earned = (exact k d below).earned;
-  short = stands_short form bytes trees stands k d below;
-}
-
-right_zip : (form : Form) (trees others : List Content) → AllZip IsSameTree trees others → All (IsRight form) trees → All (IsRight form) others
-right_zip form [] [] same right = right
-right_zip form [] (other ∷ others) same right = absurd same
-right_zip form (tree ∷ trees) [] same right = absurd same
-right_zip form (tree ∷ trees) (other ∷ others) same right =
-    All-cons (IsRight form) other others (same_right form tree other same.0 (All-head (IsRight form) tree trees right))
-    (right_zip form trees others same.1 (All-tail (IsRight form) tree trees right))
-
--- the trees of a trusted file are right, and so are those that are shown
-pub shown_right : (form : Form) (bytes : List ℕ) (trees others : List Content) → Stands form bytes trees → All (IsExact form) trees → AllZip IsSameTree trees others
-    → All (IsRight form) others
-shown_right form bytes trees others stands exact same = right_zip form trees others same (right_all form bytes trees stands exact)
+-- of exact trees those that are shown are exact
+pub shown_right : (form : Form) (trees others : List Content) → AllZip IsSameTree trees others → All (IsExact form) trees → All (IsExact form) others
+shown_right form [] [] same right = right
+shown_right form [] (other ∷ others) same right = absurd same
+shown_right form (tree ∷ trees) [] same right = absurd same
+shown_right form (tree ∷ trees) (other ∷ others) same right =
+    All-cons (IsExact form) other others (same_right form tree other same.0 (All-head (IsExact form) tree trees right))
+    (shown_right form trees others same.1 (All-tail (IsExact form) tree trees right))

@@ -3,11 +3,12 @@ use Rattle.std.specs.Prelude.{◌≡◌, ℕ, List, Some, map}
 use mathlib.Core.List.{IsPrefix}
 use Rattle.timetable.specs.Table.{stops_of}
 use Rattle.pattern_tree.specs.Content.{Content}
-use Rattle.pattern_query.specs.Answer.{PointData, AreBest, numbers}
+use Rattle.timetable.specs.Front.{AreBest}
+use Rattle.pattern_query.specs.Answer.{PointData, numbers}
 use Rattle.feed_ids.specs.Names.{stops_at}
-use Rattle.pattern_query.specs.Questions.{Held, IsAnswer, IsRefusal, ReachesBetween}
+use Rattle.pattern_query.specs.Questions.{Held, IsAnswer, IsRefusal, ReachesBetween, tree_at}
 use Rattle.board.specs.Ties.{BoardPart}
-use Rattle.board.specs.Trees.{board_after, tree_at}
+use Rattle.board.specs.Trees.{board_after}
 use Rattle.planner.specs.PlannerView.{PlannerView}
 use Rattle.planner.specs.declared.fault.AskFault.{AskFault}
 use Rattle.planner.specs.declared.fault.AskFault.TheVariants as faults

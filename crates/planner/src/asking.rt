@@ -2,7 +2,7 @@
 
 ghost use Rattle.std.specs.Prelude.{◌≡◌, IfOk, MatchResult};
 ghost use Rattle.std.specs.List.{All};
-ghost use Rattle.board.specs.Trees.{IsRight};
+ghost use Rattle.section_store.specs.Lasting.{IsExact};
 ghost use Rattle.pattern_query.specs.Questions.{IsAnswer, IsRefusal};
 ghost use Rattle.planner.specs.Asking.{AreBestBetween, IsAnswered, IsUnanswered, held_by};
 
@@ -25,7 +25,7 @@ impl Planner {
         ensures answer { MatchResult result
             (IsAnswer self.now.form.table self.now.names (held_by self.now look.now.view) from.now to.now depart)
             (IsRefusal self.now.form.table self.now.names (held_by self.now look.now.view) from.now to.now depart) }
-        ensures exact { All (IsRight self.now.form) look.now.view.origin.opened.list
+        ensures exact { All (IsExact self.now.form) look.now.view.origin.opened.list
             → IfOk result (AreBestBetween self.now from.now to.now depart) }
     {
         // It says that the list goes on from the opened trees with such as are complete.
@@ -53,7 +53,7 @@ impl Planner {
         ensures answer { MatchResult result.1
             (IsAnswered self.now reader result.0 from.now to.now depart)
             (IsUnanswered self.now reader result.0 from.now to.now depart) }
-        ensures exact { All (IsRight self.now.form) reader.origin.opened.list
+        ensures exact { All (IsExact self.now.form) reader.origin.opened.list
             → IfOk result.1 (AreBestBetween self.now from.now to.now depart) }
     {
         let view = match reader.look() {

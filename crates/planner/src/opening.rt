@@ -7,9 +7,8 @@ ghost use Rattle.disk_model.specs.Disk.{Grew};
 ghost use Rattle.recovery.specs.Giving.{IsGiven};
 ghost use Rattle.recovery.specs.Opening.{IsOpening, StandsForSources};
 ghost use Rattle.recovery.specs.Recovery.{IsLeftAlone};
-ghost use Rattle.section_store.specs.Lasting.{IsTrusted};
+ghost use Rattle.section_store.specs.Lasting.{IsTrusted, IsExact};
 ghost use Rattle.section_store.specs.Sections.{form_of};
-ghost use Rattle.board.specs.Trees.{IsRight};
 ghost use Rattle.planner.specs.Desk.{IsSound};
 ghost use Rattle.planner.specs.Opening.{HoldsList, IsNotTheBytes, IsOpened, IsUnopened};
 
@@ -66,8 +65,8 @@ impl Planner {
     /// readers: both have exactly the trees of the list that the bytes stand for. The names are those of the timetable's feed. The
     /// disk comes back with each fault, as the recovery left it; `rt` is for closing the board if a reader finds no place.
     ///
-    /// A fresh file is begun; to any other nothing is written. Of a trusted disk each tree is complete and earned. No tree is kept but as
-    /// the board shows it: it becomes so before the next is read.
+    /// A fresh file is begun; to any other nothing is written. Of a trusted disk each tree is exact. No tree is kept but as the board
+    /// shows it: it becomes so before the next is read.
     pub fn open<D: Disk, R: Wait>(
         alloc: Global,
         rt: &R,
@@ -89,7 +88,7 @@ impl Planner {
             All (λ reader. reader ≡ record { origin = o.desk.board.origin; told = o.desk.board.told }) o.readers.items) }
         ensures sound { D.honest disk → IfOk result (λ o. IsSound D.honest D.state o.desk) }
         ensures right { D.honest disk → IsTrusted (form_of network rides) (D.state disk)
-            → IfOk result (λ o. All (IsRight o.desk.form) o.desk.board.origin.opened.list) }
+            → IfOk result (λ o. All (IsExact o.desk.form) o.desk.board.origin.opened.list) }
         ensures refused { D.honest disk → IfErr result (λ e. IsUnopened (form_of network rides) (D.state disk).read e.0) }
         ensures device { MatchResult result (λ o. D.failures o.desk.disk ≡ D.failures disk)
             (λ e. e.0 ≡ OpenFault.Recover RecoverFault.Device → Grew (D.failures disk) (D.failures e.1)) }

@@ -8,7 +8,8 @@ use Rattle.disk_model.specs.Disk.{State}
 use Rattle.disk_model.specs.Moments.{Leaves}
 use Rattle.disk_model.proofs.Moments.{only_settled}
 use Rattle.pattern_tree.specs.Content.{Content}
-use Rattle.section_store.specs.Going.{IsFront, StandsForFront}
+use mathlib.Core.List.{IsPrefix}
+use Rattle.section_store.specs.Going.{StandsForFront}
 use Rattle.section_store.specs.Lasting.{IsExact, IsTrustedFile}
 use Rattle.section_store.specs.Laws.{StandsForOne}
 use Rattle.section_store.specs.Sections.{Form, Stands, IsSections, IsBeforeOrAfter, sources}
@@ -23,7 +24,7 @@ record IsSafeFile (form : Form) (storing acknowledged bytes : List ℕ) : Type 0
   trees : List Content
   stands : Stands form bytes trees
   exact : All (IsExact form) trees
-  front : IsFront (sources trees) storing
+  front : IsPrefix (sources trees) storing
   holds : All (Contains (sources trees)) acknowledged
 
 -- a disk each of whose outcomes is such a file is safe
@@ -55,7 +56,7 @@ module _ (form : Form) (storing acknowledged : List ℕ) where
   -- these trees, or these and one more, are a front of the storing order
   safe_before : (trees : List Content) (rest bytes : List ℕ) → IsSections form bytes trees → All (IsExact form) trees → storing ≡ sources trees ++ rest
       → All (Contains (sources trees)) acknowledged → IsSafeFile form storing acknowledged bytes
-  safe_before trees rest bytes stands exact are held = record { trees = trees; stands = inr stands; exact = exact; front = (rest, are); holds = held }
+  safe_before trees rest bytes stands exact are held = record { trees = trees; stands = inr stands; exact = exact; front = (rest, sym are); holds = held }
 
   safe_after : (trees : List Content) (tree : Content) (bytes : List ℕ) → IsSections form bytes (trees ++ tree ∷ []) → All (IsExact form) trees → IsExact form tree
       → storing ≡ sources trees ++ tree.source ∷ [] → All (Contains (sources trees)) acknowledged → IsSafeFile form storing acknowledged bytes
@@ -63,7 +64,7 @@ module _ (form : Form) (storing acknowledged : List ℕ) where
     trees = trees ++ tree ∷ [];
     stands = inr stands;
     exact = All-push (IsExact form) trees tree exact one;
-    front = ([], are ∙ sym (source_more trees tree) ∙ sym (append-nil (sources (trees ++ tree ∷ []))));
+    front = ([], append-nil (sources (trees ++ tree ∷ [])) ∙ source_more trees tree ∙ sym are);
     holds = All-weaker (Contains (sources trees)) (Contains (sources (trees ++ tree ∷ [])))
         (λ s has. subst (λ (l : List ℕ). Contains l s) (sym (source_more trees tree)) (Contains-append_left (sources trees) (tree.source ∷ []) s has)) acknowledged held;
   }
@@ -110,11 +111,11 @@ crash_safe form storing acknowledged bytes old new safe left is = record {
 
 -- what the bytes stand for is a front of the storing order that holds each acknowledged source
 pub recovered : StandsForOne → (form : Form) (storing acknowledged : List ℕ) (disk : State) (trees : List Content) → IsSafeDisk form storing acknowledged disk
-    → IsOutcome disk.now disk.read → Stands form disk.read trees → IsFront (sources trees) storing × All (Contains (sources trees)) acknowledged
+    → IsOutcome disk.now disk.read → Stands form disk.read trees → IsPrefix (sources trees) storing × All (Contains (sources trees)) acknowledged
 recovered one form storing acknowledged disk trees safe left stands =
     let is = safe.front disk.read left in
     let same : is.trees ≡ trees = one form disk.read is.trees trees is.stands stands in (
-      subst (λ (l : List Content). IsFront (sources l) storing) same is.front,
+      subst (λ (l : List Content). IsPrefix (sources l) storing) same is.front,
       λ k d below.
           let has = safe.held k d below disk.read left in
           subst (λ (l : List Content). Contains (sources l) (slice_index_or acknowledged k d)) (one form disk.read has.trees trees has.stands stands) has.has,

@@ -346,7 +346,7 @@ restart_goes one reads basis d reply m kept s c =
     let outcome : IsOutcome d.disk.now d.disk.read = subst (λ (i : Image). IsOutcome i d.disk.read) (sym s.only) (reads d.disk.read).0 in
     let is = s.left d.disk.read outcome in
     let same : kept ++ is.more ≡ c.trees = one basis.form d.disk.read (kept ++ is.more) c.trees is.stands c.stands in
-    (c.trees, rw c.reply_is (c.stands, (is.more, sym same)), begins_shown basis c.trees m c.begins)
+    (c.trees, rw c.reply_is (c.stands, (is.more, same)), begins_shown basis c.trees m c.begins)
 
 trusted_in : (form : Form) (phase : Phase) → IsSafePhase form phase → IsTrusted form (disk_in phase)
 trusted_in form (runs u) safe = safe.trusted

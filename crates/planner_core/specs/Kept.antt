@@ -1,6 +1,7 @@
 -- Which trees a file keeps and a board shows: those that a recovery gave, and those that were acknowledged since.
 use Rattle.std.specs.Prelude.{◌≡◌, ℕ, ◌+◌, Option, Some, None, List, [], ◌∷◌, ◌++◌}
 use Rattle.std.specs.List.{All, Contains}
+use mathlib.Core.List.{IsPrefix}
 use Rattle.disk_model.specs.Disk.{State}
 use Rattle.disk_model.specs.Moments.{Leaves}
 use Rattle.pattern_tree.specs.Content.{Content}
@@ -76,7 +77,7 @@ Acknowledges u reply kept after = after ≡ kept
 
 -- a recovery gives the trees that the bytes stand for; the kept ones are the first of them
 abbrev pub Recalls : Form → List ℕ → Reply → List Content → List Content → Type 0
-Recalls form bytes (replies.Restarted list) kept after = Stands form bytes after × ((more : List Content) × (after ≡ kept ++ more))
+Recalls form bytes (replies.Restarted list) kept after = Stands form bytes after × IsPrefix kept after
 Recalls form bytes reply kept after = after ≡ kept
 
 -- which trees are kept after a step

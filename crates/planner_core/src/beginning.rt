@@ -9,9 +9,9 @@ ghost use Rattle.pattern_tree.specs.Content.{Content};
 ghost use Rattle.section_store.specs.Lasting.{IsExact, IsTrusted};
 ghost use Rattle.section_store.specs.Sections.{Stands, sources};
 ghost use Rattle.section_store.specs.Store.{Holds};
+ghost use Rattle.recovery.specs.Opening.{IsOpening};
 ghost use Rattle.recovery.specs.Recovery.{IsOutside};
 ghost use Rattle.planner_core.specs.Cores.{running_of};
-ghost use Rattle.planner_core.specs.Opened.{IsGivenBack};
 ghost use Rattle.planner_core.specs.Running.{IsSoundRunning};
 ghost use Rattle.planner_core.specs.Steps.{Begins, IsNewLedger, Shows};
 
@@ -99,7 +99,7 @@ pub(crate) fn open(
     ensures sound { IfOk result (λ running. IsSoundRunning tools.now (running_of running)) }
     ensures fault { IfErr result (λ e. IsOutside e.0) }
     ensures device { IfErr result (λ e. e.0 ≡ RecoverFault.Device → Grew (failures_of disk) (failures_of e.1)) }
-    ensures given_back { IfErr result (λ e. IsGivenBack tools.now.form (state_of disk) (state_of e.1)) }
+    ensures given_back { IfErr result (λ e. IsOpening tools.now.form (state_of disk) (state_of e.1)) }
     ensures trusted { IfErr result (λ e. IsTrusted tools.now.form (state_of e.1)) }
 {
     trust_lasts();

@@ -4,7 +4,7 @@ ghost use Rattle.std.specs.Prelude.{◌≡◌, ◌↔◌, ◌<◌, ◌≤◌, Is
 ghost use Rattle.std.specs.Arc.{arc_value};
 ghost use Rattle.std.specs.List.{All};
 ghost use Rattle.timetable.specs.Table.{stops_of};
-ghost use Rattle.pattern_tree.specs.Completeness.{IsTreeOf};
+ghost use Rattle.section_store.specs.Lasting.{IsExact};
 ghost use Rattle.section_store.specs.Sections.{form_of};
 ghost use Rattle.planner_core.specs.Steps.{IsAnswer, IsNewLedger};
 
@@ -96,7 +96,7 @@ impl Tools {
     /// The best journeys from a tree's source to a stop, at a covered moment. It takes no memory.
     pub(crate) fn ask(&self, patterns: &Patterns, to: StopId, depart: u32) -> Answer
         requires covered { depart ≤ self.now.form.table.horizon }
-        requires right { IsTreeOf self.now.form.table self.now.form.rides patterns.now.source patterns.now }
+        requires right { IsExact self.now.form patterns.now }
         ensures { IsAnswer self.now.form patterns.now to depart result }
     {
         let _timetable = self.network.timetable();

@@ -8,7 +8,7 @@ use Rattle.pattern_tree.specs.Content.{Content}
 use Rattle.tree_codec.specs.Text.{OneText, TreeText}
 use Rattle.section_store.specs.Sections.{Form, AreTexts, header, sections, sized}
 use Rattle.section_store.specs.Store.{Holds}
-use Rattle.store_excerpt.specs.Board.{IsRight}
+use Rattle.section_store.specs.Lasting.{IsExact}
 use Rattle.planner_life.specs.Gates.{AreBehind, GateAt, IsBehind}
 
 -- more sections behind some
@@ -59,7 +59,7 @@ last_text one form (x ∷ texts) (y ∷ others) (t ∷ trees) tree are too =
 
 -- behind a put the closed gate stands behind the tree's section
 pub gate_behind : OneText → (form : Form) (trees : List Content) (tree : Content) (list others : List ℕ) (place end : ℕ) (old new : State)
-    → IsRight form tree → Holds form trees place list old → Holds form (trees ++ tree ∷ []) end others new → IsBehind form tree.source place end
+    → IsExact form tree → Holds form trees place list old → Holds form (trees ++ tree ∷ []) end others new → IsBehind form tree.source place end
 gate_behind one form trees tree list others place end old new right was is =
     let before = was.rest.begins in
     let after = is.rest.begins in

@@ -4,10 +4,10 @@ use Rattle.std.specs.List.{All, Contains}
 use Rattle.disk_model.specs.Disk.{State}
 use Rattle.timetable.specs.Table.{stops_of}
 use Rattle.pattern_tree.specs.Content.{Content}
-use Rattle.pattern_query.specs.Questions.{IsStored}
+use Rattle.pattern_query.specs.Questions.{IsStored, tree_at}
 use Rattle.section_store.specs.Going.{IsKept}
 use Rattle.section_store.specs.Sections.{Form, IsNew}
-use Rattle.store_excerpt.specs.Board.{IsBoardOf, shown}
+use Rattle.store_excerpt.specs.Board.{IsBoardOf}
 use Rattle.store_excerpt.specs.StoreView.{StoreView}
 
 -- the board of the trees of these sources, all of them stops of the timetable that the tools are for
@@ -19,8 +19,8 @@ pub record IsDesk (tools form : Form) (list : List ℕ) (board : List (Option Co
 
 -- of each stop of the timetable, the board has its tree exactly where the list has the stop
 pub record ShowsList (stops : ℕ) (list : List ℕ) (board : List (Option Content)) : Type 0 where
-  pub held : (s : ℕ) → s < stops → IsStored (shown board) s ↔ Contains list s
-  pub missing : (s : ℕ) → s < stops → (shown board s ≡ None) ↔ IsNew s list
+  pub held : (s : ℕ) → s < stops → IsStored (tree_at board) s ↔ Contains list s
+  pub missing : (s : ℕ) → s < stops → (tree_at board s ≡ None) ↔ IsNew s list
 
 -- the disk is honest, and its file holds trees of the stored sources
 pub record IsSound {D : Type 0} (honest : D → Type 0) (state : D → State) (desk : StoreView D) : Type 0 where

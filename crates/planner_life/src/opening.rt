@@ -3,12 +3,12 @@
 ghost use Rattle.std.specs.Prelude.{◌≡◌, ◌↔◌, ◌⊎◌, ◌<◌, ℕ, IfOk, IfErr, List, MatchResult, length};
 ghost use Rattle.std.specs.Arc.{arc_value};
 ghost use Rattle.std.specs.List.{All};
-ghost use Rattle.disk_model.specs.Disk.{after_sync, Grew};
+ghost use Rattle.disk_model.specs.Disk.{Grew};
 ghost use Rattle.timetable.specs.Table.{stops_of};
-ghost use Rattle.section_store.specs.Lasting.{IsTrusted};
-ghost use Rattle.section_store.specs.Sections.{Form, IsFresh, form_of, sources};
+ghost use Rattle.section_store.specs.Lasting.{IsTrusted, IsExact};
+ghost use Rattle.section_store.specs.Sections.{Form, form_of, sources};
 ghost use Rattle.recovery.specs.Recovery.{CauseOf, IsOutside, StandsForNoList};
-ghost use Rattle.store_excerpt.specs.Board.{IsBoardOf, AreOf, AreRight, AreWholeAmong, IsRight, IsWholeAmong};
+ghost use Rattle.store_excerpt.specs.Board.{IsBoardOf, AreOf, AreExact, AreWholeAmong, IsWholeAmong};
 ghost use Rattle.recovery.specs.Opening.{StandsForSources, IsOpening};
 ghost use Rattle.store_excerpt.specs.Excerpt.{ShowsWhole, disk_after};
 ghost use Rattle.planner_life.specs.Desk.{IsSound};
@@ -37,7 +37,7 @@ fn prepare(
     ensures long { IfOk result (λ made. length made.1 ≡ stops_of (arc_value table.now)) }
     ensures shows { IfOk result (λ made. IsBoardOf (stops_of (arc_value table.now)) (sources trees.items) made.1) }
     ensures same { IfOk result (λ made. AreOf trees.items made.1) }
-    ensures right { (form : Form) → All (IsRight form) trees.items → IfOk result (λ made. AreRight form made.1) }
+    ensures right { (form : Form) → All (IsExact form) trees.items → IfOk result (λ made. AreExact form made.1) }
     ensures whole { (form : Form) (froms : List ℕ) → All (IsWholeAmong form froms) trees.items
         → IfOk result (λ made. AreWholeAmong form froms made.1) }
 {
@@ -52,7 +52,7 @@ impl<D: Disk> Desk<D> {
     /// for. The disk comes back with each fault; want of memory, also after the recovery, is the fault `Memory`.
     ///
     /// A fresh file is begun; to any other nothing is written. A tree that is whole in the file is whole at the desk; of a trusted disk
-    /// each tree is right.
+    /// each tree is exact.
     pub fn open(
         alloc: Global,
         disk: D,
@@ -73,10 +73,8 @@ impl<D: Disk> Desk<D> {
             (λ e. e.0 ≡ RecoverFault.Device → Grew (D.failures disk) (D.failures e.1)) }
         ensures moments { D.honest disk
             → IsOpening (form_of (arc_value table.now) rides) (D.state disk) (D.state (disk_after result)) }
-        ensures written { D.honest disk → ¬ IsFresh (D.state disk).read
-            → (D.state (disk_after result) ≡ D.state disk) ⊎ (D.state (disk_after result) ≡ after_sync (D.state disk)) }
         ensures right { D.honest disk → IsTrusted (form_of (arc_value table.now) rides) (D.state disk)
-            → IfOk result (λ desk. AreRight desk.form desk.board) }
+            → IfOk result (λ desk. AreExact desk.form desk.board) }
         ensures whole { D.honest disk → IfOk result (λ desk. ShowsWhole desk.form (D.state disk) desk.stored desk.board) }
         ensures trusted { D.honest disk → IsTrusted (form_of (arc_value table.now) rides) (D.state disk)
             → IsTrusted (form_of (arc_value table.now) rides) (D.state (disk_after result)) }

@@ -10,7 +10,7 @@ use Rattle.section_store.specs.Store.{Holds}
 use Rattle.recovery.specs.Keeping.{GivenAll}
 
 -- The keeper was given the trees of a list one by one, and their sources are stored. Of an honest disk the bytes of the file stood for that
--- list, and the store goes on with it. Of a trusted disk each tree of it is complete and earned.
+-- list, and the store goes on with it. Of a trusted disk each tree of it is exact.
 pub record IsGiven {K : Type 0} (form : Form) (Honest : Type 0) (before : State) (Takes : K → Content → K → Type 0) (old new : K)
     (place : ℕ) (stored : List ℕ) (after : State) : Type 0 where
   pub trees : List Content

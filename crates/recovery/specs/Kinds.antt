@@ -1,8 +1,7 @@
 -- What a file is to a store that is to be opened in it.
 use Rattle.std.specs.Prelude.{◌≡◌, ◌≢◌, ◌⊎◌, ℕ, List, take, drop, get_or}
 use Rattle.section_store.specs.Beginnings.{CanBegin}
-use Rattle.section_store.specs.Sections.{Form, IsFresh, open_gate}
-use Rattle.recovery.specs.Recovery.{store_name}
+use Rattle.section_store.specs.Sections.{Form, IsFresh, open_gate, store_name}
 use Rattle.recovery.specs.declared.kind.FileKind.{FileKind}
 use Rattle.recovery.specs.declared.kind.FileKind.TheVariants as kinds
 

@@ -5,11 +5,11 @@ use Rattle.std.specs.Int.{to_be_bytes, w32}
 use Rattle.disk_model.specs.Disk.{Grew}
 use Rattle.timetable.specs.Table.{stops_of}
 use Rattle.pattern_tree.specs.Content.{Content}
-use Rattle.section_store.specs.Sections.{Form, IsSection, IsSections, IsNew, sized, sources, open_gate}
+use Rattle.section_store.specs.Sections.{Form, IsSection, IsSections, IsNew, sized, sources, open_gate, store_name}
 use Rattle.section_store.specs.Sources.{is_among}
 use Rattle.section_store.specs.Store.{Begins}
 use Rattle.recovery.specs.Excerpts.{trees_of}
-use Rattle.recovery.specs.Recovery.{IsTail, IsOutside, CauseOf, StandsForNoList, store_name}
+use Rattle.recovery.specs.Recovery.{IsTail, IsOutside, CauseOf, StandsForNoList}
 use Rattle.recovery.specs.declared.fault.RecoverFault.{RecoverFault}
 use Rattle.recovery.specs.declared.fault.RecoverFault.TheVariants.{NotAStore, OtherTimetable, OtherRides, Damaged, Device, Memory}
 use Rattle.recovery.specs.Keeping.{GivenAll}

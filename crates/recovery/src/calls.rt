@@ -46,9 +46,7 @@ pub fn recover_to<D: Disk, K: Keeper>(
     ensures opening { D.honest disk → MatchResult result
         (λ store. IsOpening (form_of (arc_value table.now) rides) (D.state disk) (D.state store.disk))
         (λ e. IsOpening (form_of (arc_value table.now) rides) (D.state disk) (D.state e.1)) }
-    ensures written { D.honest disk → ¬ IsFresh (D.state disk).read → MatchResult result
-        (λ store. D.state store.disk ≡ after_sync (D.state disk))
-        (λ e. (D.state e.1 ≡ D.state disk) ⊎ (D.state e.1 ≡ after_sync (D.state disk))) }
+    ensures written { D.honest disk → ¬ IsFresh (D.state disk).read → IfOk result (λ store. D.state store.disk ≡ after_sync (D.state disk)) }
     ensures alone { D.honest disk → IfErr result (λ e. IsOutside e.0 ⊎ IsLeftAlone (D.state disk) (D.state e.1)) }
     ensures honest { MatchResult result (λ store. D.honest disk ↔ D.honest store.disk) (λ e. D.honest disk ↔ D.honest e.1) }
     ensures ready { IfOk result (λ store. (store.next ≡ Step.WriteBody) × (store.form ≡ form_of (arc_value table.now) rides)) }
@@ -80,9 +78,7 @@ pub fn recover<D: Disk>(
         (λ e. IsOpening (form_of (arc_value table.now) rides) (D.state disk) (D.state e.1)) }
     ensures exact { D.honest disk → IsTrusted (form_of (arc_value table.now) rides) (D.state disk)
         → IfOk result (λ r. All (IsExact (form_of (arc_value table.now) rides)) r.trees.items) }
-    ensures written { D.honest disk → ¬ IsFresh (D.state disk).read → MatchResult result
-        (λ r. D.state r.store.disk ≡ after_sync (D.state disk))
-        (λ e. (D.state e.1 ≡ D.state disk) ⊎ (D.state e.1 ≡ after_sync (D.state disk))) }
+    ensures written { D.honest disk → ¬ IsFresh (D.state disk).read → IfOk result (λ r. D.state r.store.disk ≡ after_sync (D.state disk)) }
     ensures alone { D.honest disk → IfErr result (λ e. IsOutside e.0 ⊎ IsLeftAlone (D.state disk) (D.state e.1)) }
     ensures honest { MatchResult result (λ r. D.honest disk ↔ D.honest r.store.disk) (λ e. D.honest disk ↔ D.honest e.1) }
     ensures ready { IfOk result (λ r. (r.store.next ≡ Step.WriteBody) × (r.store.form ≡ form_of (arc_value table.now) rides)) }
@@ -123,9 +119,7 @@ pub fn recover_trees_of<D: Disk>(
     ensures opening { D.honest disk → MatchResult result
         (λ r. IsOpening (form_of (arc_value table.now) rides) (D.state disk) (D.state r.store.disk))
         (λ e. IsOpening (form_of (arc_value table.now) rides) (D.state disk) (D.state e.1)) }
-    ensures written { D.honest disk → ¬ IsFresh (D.state disk).read → MatchResult result
-        (λ r. D.state r.store.disk ≡ after_sync (D.state disk))
-        (λ e. (D.state e.1 ≡ D.state disk) ⊎ (D.state e.1 ≡ after_sync (D.state disk))) }
+    ensures written { D.honest disk → ¬ IsFresh (D.state disk).read → IfOk result (λ r. D.state r.store.disk ≡ after_sync (D.state disk)) }
     ensures alone { D.honest disk → IfErr result (λ e. IsOutside e.0 ⊎ IsLeftAlone (D.state disk) (D.state e.1)) }
     ensures honest { MatchResult result (λ r. D.honest disk ↔ D.honest r.store.disk) (λ e. D.honest disk ↔ D.honest e.1) }
     ensures ready { IfOk result (λ r. (r.store.next ≡ Step.WriteBody) × (r.store.form ≡ form_of (arc_value table.now) rides)) }

@@ -9,9 +9,9 @@ ghost use Rattle.recovery.specs.Reading.{OnlyOutside};
 
 use crate::fault::RecoverFault;
 use crate::header::{SHORTEST, is_name};
-use crate::reading::{OPEN, read_bytes};
+use crate::reading::read_bytes;
 use disk_model::Disk;
-use section_store::rest_of_header;
+use section_store::{OPEN, rest_of_header};
 use std::alloc::Global;
 use timetable::{Rides, Timetable};
 

@@ -96,9 +96,7 @@ pub(crate) fn open<D: Disk, K: Keeper>(
     ensures opening { D.honest disk → MatchResult result
         (λ r. IsOpening (form_of (arc_value table.now) rides) (D.state disk) (D.state r.disk))
         (λ e. IsOpening (form_of (arc_value table.now) rides) (D.state disk) (D.state e.1)) }
-    ensures written { D.honest disk → ¬ IsFresh (D.state disk).read → MatchResult result
-        (λ r. D.state r.disk ≡ after_sync (D.state disk))
-        (λ e. (D.state e.1 ≡ D.state disk) ⊎ (D.state e.1 ≡ after_sync (D.state disk))) }
+    ensures written { D.honest disk → ¬ IsFresh (D.state disk).read → IfOk result (λ r. D.state r.disk ≡ after_sync (D.state disk)) }
     ensures alone { D.honest disk → IfErr result (λ e. IsOutside e.0 ⊎ IsLeftAlone (D.state disk) (D.state e.1)) }
     ensures honest { MatchResult result (λ r. D.honest disk ↔ D.honest r.disk) (λ e. D.honest disk ↔ D.honest e.1) }
     ensures ready { IfOk result (λ r. (r.next ≡ Step.WriteBody) × (r.form ≡ form_of (arc_value table.now) rides)) }

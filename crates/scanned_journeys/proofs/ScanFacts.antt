@@ -5,13 +5,13 @@ use Rattle.std.proofs.lemmas.Option.{none-some}
 use Rattle.timetable.specs.declared.parts.Leg.{Leg}
 use Rattle.timetable.specs.declared.parts.Numbers.{Numbers}
 use Rattle.timetable.specs.Table.{Table, stops_of}
-use Rattle.timetable.specs.Front.{AreFront, IsSooner}
+use Rattle.timetable.specs.Front.{AreFront, IsSooner, AreBest}
 use Rattle.timetable.specs.Journeys.{Journey, Reaches, Unbeaten, IsLeast, pattern}
 use Rattle.rounds.specs.Mark.{Mark, mark_in, arrival_in}
 use Rattle.rounds.specs.Answers.{AreRounds, ArrivesWithin}
 use Rattle.pattern_tree.specs.Forest.{Step}
 use Rattle.pattern_tree.specs.Content.{Content}
-use Rattle.pattern_query.specs.Answer.{AreBest, TreeReaches}
+use Rattle.pattern_query.specs.Answer.{TreeReaches}
 use Rattle.pattern_query.proofs.Best.{best_of_all}
 use Rattle.pattern_query.proofs.WaySteps.{pattern_length}
 use Rattle.scanned_journeys.specs.Patterns.{AreCounted, HasPatterns, PaysOff}
@@ -120,6 +120,4 @@ module _ (table : Table) (s t d k : ℕ) (rounds : List (List (Option Mark))) (a
           ridden (x ∷ legs) (arrival_in rounds n.rides t) (omega arith) j e refl (are.least n.rides t some un.0.4 known)
 
     pub front_of : (points : List Numbers) → AreBest (TreeReaches table tree t d) points → AreFront table k s t d points
-    front_of points best =
-        let all = best_of_all (TreeReaches table tree t d) (Reaches table 0 k s t d) points best within has_best in
-        record { rising = all.rising; each = all.each; all = all.all }
+    front_of points best = best_of_all (TreeReaches table tree t d) (Reaches table 0 k s t d) points best within has_best

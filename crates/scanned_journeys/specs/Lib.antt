@@ -1,2 +1,1 @@
-pub mod Journeys
 pub mod Patterns

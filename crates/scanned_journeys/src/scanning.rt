@@ -2,10 +2,9 @@
 
 ghost use Rattle.std.specs.Prelude.{◌≤◌, ◌<◌, IfOk, map};
 ghost use Rattle.std.specs.List.{All};
-ghost use Rattle.pattern_query.specs.Answer.{numbers};
+ghost use Rattle.pattern_query.specs.Answer.{numbers, IsJourney};
 ghost use Rattle.timetable.specs.Front.{AreFront};
 ghost use Rattle.timetable.specs.Table.{stops_of};
-ghost use Rattle.scanned_journeys.specs.Journeys.{IsJourney};
 
 use crate::patterns::patterns_to;
 use direct_connections::Network;

@@ -7,7 +7,8 @@ use Rattle.disk_model.specs.Disk.{State}
 use Rattle.disk_model.specs.Moments.{moments, Leaves, LeavesOnly}
 use Rattle.disk_model.proofs.Moments.{still, goes_on, weaker, leaves_last, only_settled}
 use Rattle.pattern_tree.specs.Content.{Content}
-use Rattle.section_store.specs.Going.{IsFront, StandsForMore, StandsForFront, HoldsAll, IsKept, GoesOn}
+use mathlib.Core.List.{IsPrefix}
+use Rattle.section_store.specs.Going.{StandsForMore, StandsForFront, HoldsAll, IsKept, GoesOn}
 use Rattle.section_store.specs.Lasting.{HasSource, BeginsWith, LosesNothing, IsTrustedFile, StaysTrusted}
 use Rattle.section_store.specs.Sections.{Form, Stands, IsBeforeOrAfter, sources}
 use Rattle.section_store.specs.Laws.{StandsForOne}
@@ -71,14 +72,14 @@ module _ (form : Form) where
     put_front bytes (inl before) = record {
       trees = trees;
       stands = inr before;
-      holds = ([], sym are ∙ sym (append-nil list));
-      front = (tree.source ∷ [], ap (λ (l : List ℕ). l ++ tree.source ∷ []) are);
+      holds = ([], append-nil list ∙ are);
+      front = (tree.source ∷ [], sym (ap (λ (l : List ℕ). l ++ tree.source ∷ []) are));
     }
     put_front bytes (inr after) = record {
       trees = trees ++ tree ∷ [];
       stands = inr after;
-      holds = (tree.source ∷ [], more);
-      front = ([], sym more ∙ sym (append-nil (sources (trees ++ tree ∷ []))));
+      holds = (tree.source ∷ [], sym more);
+      front = ([], append-nil (sources (trees ++ tree ∷ [])) ∙ more);
     }
 
     pub put_goes : (old new : State) → LeavesOnly old new (IsBeforeOrAfter form trees tree) → LosesNothing form old new → StaysTrusted form old new
@@ -95,14 +96,14 @@ module _ (form : Form) where
     trees = is.trees;
     stands = is.stands;
     holds = is.holds;
-    front = (is.front.0 ++ more, ap (λ (l : List ℕ). l ++ more) is.front.1 ∙ append_assoc (sources is.trees) is.front.0 more);
+    front = (is.front.0 ++ more, sym (append_assoc (sources is.trees) is.front.0 more) ∙ ap (λ (l : List ℕ). l ++ more) is.front.1);
   }
 
-  shorter : (list front storing bytes : List ℕ) → IsFront front list → StandsForFront form list storing bytes → StandsForFront form front storing bytes
+  shorter : (list front storing bytes : List ℕ) → IsPrefix front list → StandsForFront form list storing bytes → StandsForFront form front storing bytes
   shorter list front storing bytes begins is = record {
     trees = is.trees;
     stands = is.stands;
-    holds = (begins.0 ++ is.holds.0, is.holds.1 ∙ ap (λ (l : List ℕ). l ++ is.holds.0) begins.1 ∙ append_assoc front begins.0 is.holds.0);
+    holds = (begins.0 ++ is.holds.0, sym (append_assoc front begins.0 is.holds.0) ∙ ap (λ (l : List ℕ). l ++ is.holds.0) begins.1 ∙ is.holds.1);
     front = is.front;
   }
 
@@ -111,7 +112,7 @@ module _ (form : Form) where
       goes_on old mid new (IsTrustedFile form) (first trusted) (second (lasts form old mid trusted first))
 
   pub goes_more : (list storing more : List ℕ) (old mid new : State)
-      → IsFront list storing → GoesOn form list storing old mid → GoesOn form storing (storing ++ more) mid new → GoesOn form list (storing ++ more) old new
+      → IsPrefix list storing → GoesOn form list storing old mid → GoesOn form storing (storing ++ more) mid new → GoesOn form list (storing ++ more) old new
   goes_more list storing more old mid new front first second =
       let order : List ℕ = storing ++ more in
       record {
@@ -138,13 +139,13 @@ module _ (form : Form) where
   }
 
   pub held_more : (trees : List Content) (place : ℕ) (list storing : List ℕ) (disk : State)
-      → Holds form trees place list disk → IsFront list storing → Leaves (StandsForMore form trees storing) disk.now
+      → Holds form trees place list disk → IsPrefix list storing → Leaves (StandsForMore form trees storing) disk.now
   held_more trees place list storing disk holds front = λ bytes left.
-      let own : IsFront (sources trees) storing = subst (λ (l : List ℕ). IsFront l storing) holds.stored_are front in
+      let own : IsPrefix (sources trees) storing = subst (λ (l : List ℕ). IsPrefix l storing) holds.stored_are front in
       record {
         more = [];
         stands = subst (Stands form bytes) (sym (append-nil trees)) (rest_stands form trees place disk holds.rest bytes left);
-        front = subst (λ (l : List Content). IsFront (sources l) storing) (sym (append-nil trees)) own;
+        front = subst (λ (l : List Content). IsPrefix (sources l) storing) (sym (append-nil trees)) own;
       }
 
   -- what each outcome begins with, each outcome begins with from then on
@@ -163,7 +164,7 @@ module _ (form : Form) where
       record {
         more = begins.more;
         stands = begins.stands;
-        front = subst (λ (l : List Content). IsFront (sources l) storing) same is.front;
+        front = subst (λ (l : List Content). IsPrefix (sources l) storing) same is.front;
       }
 
   pub by_trees : StandsForOne → (trees : List Content) (place : ℕ) (list storing : List ℕ) (old new : State)

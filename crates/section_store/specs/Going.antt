@@ -1,6 +1,7 @@
 -- How a store goes on: its trees are stored one after the other, in a storing order.
-use Rattle.std.specs.Prelude.{◌≡◌, ℕ, List, ◌++◌}
+use Rattle.std.specs.Prelude.{ℕ, List, ◌++◌}
 use Rattle.std.specs.List.{All}
+use mathlib.Core.List.{IsPrefix}
 use Rattle.disk_model.specs.Disk.{State}
 use Rattle.disk_model.specs.Moments.{Leaves, LeavesOnly}
 use Rattle.pattern_tree.specs.Content.{Content}
@@ -8,22 +9,18 @@ use Rattle.section_store.specs.Lasting.{HasSource, LosesNothing, StaysTrusted}
 use Rattle.section_store.specs.Sections.{Form, Stands, sources}
 use Rattle.section_store.specs.Store.{Holds}
 
--- the list begins with the front
-abbrev pub IsFront : List ℕ → List ℕ → Type 0
-IsFront front list = (rest : List ℕ) × (list ≡ front ++ rest)
-
 -- the bytes stand for these trees, in this order, and for others after them; the sources of all are a front of the storing order
 pub record StandsForMore (form : Form) (trees : List Content) (storing bytes : List ℕ) : Type 0 where
   pub more : List Content
   pub stands : Stands form bytes (trees ++ more)
-  pub front : IsFront (sources (trees ++ more)) storing
+  pub front : IsPrefix (sources (trees ++ more)) storing
 
 -- of the sources only: the bytes stand for a front of the storing order that holds the list
 pub record StandsForFront (form : Form) (list storing bytes : List ℕ) : Type 0 where
   pub trees : List Content
   pub stands : Stands form bytes trees
-  pub holds : IsFront list (sources trees)
-  pub front : IsFront (sources trees) storing
+  pub holds : IsPrefix list (sources trees)
+  pub front : IsPrefix (sources trees) storing
 
 -- each outcome holds each of these sources
 abbrev pub HoldsAll : Form → List ℕ → State → Type 0

@@ -3,7 +3,8 @@ use Rattle.std.specs.Prelude.{◌≡◌, ℕ, List, [], ◌∷◌, ◌++◌}
 use Rattle.disk_model.specs.Disk.{State}
 use Rattle.disk_model.specs.Moments.{Leaves, LeavesOnly}
 use Rattle.pattern_tree.specs.Content.{Content}
-use Rattle.section_store.specs.Going.{IsFront, StandsForMore, HoldsAll, IsKept, GoesOn}
+use mathlib.Core.List.{IsPrefix}
+use Rattle.section_store.specs.Going.{StandsForMore, HoldsAll, IsKept, GoesOn}
 use Rattle.section_store.specs.Lasting.{LosesNothing, StaysTrusted}
 use Rattle.section_store.specs.Sections.{Form, IsBeforeOrAfter, sources}
 use Rattle.section_store.specs.Store.{Holds}
@@ -12,7 +13,7 @@ use Rattle.section_store.specs.Store.{Holds}
 abbrev pub HeldStandsForMore : Type 0
 HeldStandsForMore =
     (form : Form) (trees : List Content) (place : ℕ) (list storing : List ℕ) (disk : State)
-    → Holds form trees place list disk → IsFront list storing → Leaves (StandsForMore form trees storing) disk.now
+    → Holds form trees place list disk → IsPrefix list storing → Leaves (StandsForMore form trees storing) disk.now
 
 -- what a store at rest has stored, each outcome holds
 abbrev pub KeptIsHeld : Type 0
@@ -37,7 +38,7 @@ PutGoesOn =
 abbrev pub GoesOnInTurn : Type 0
 GoesOnInTurn =
     (form : Form) (list storing more : List ℕ) (old mid new : State)
-    → IsFront list storing → GoesOn form list storing old mid → GoesOn form storing (storing ++ more) mid new
+    → IsPrefix list storing → GoesOn form list storing old mid → GoesOn form storing (storing ++ more) mid new
     → GoesOn form list (storing ++ more) old new
 
 -- while a store goes on, each outcome begins with the trees that the store held: none of them is replaced, not even by another tree of

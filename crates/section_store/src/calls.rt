@@ -13,6 +13,7 @@ ghost use Rattle.section_store.specs.Store.{IsRest, IsBody, IsDurable, IsOpened,
 
 use crate::body::fill_body;
 use crate::fault::PutFault;
+use crate::header::OPEN;
 use crate::laws::stands_for_one;
 use crate::receipt::Receipt;
 use crate::step::Step;
@@ -22,9 +23,6 @@ use pattern_tree::PatternTree;
 
 // The most bytes of a store's file.
 const LIMIT: u64 = 1_099_511_627_776;
-
-// An open gate.
-const OPEN: u8 = 0xA5;
 
 impl<D: Disk> SectionStore<D> {
     /// Writes the length and the text of a tree that may stand in the store after the closed gate, and a closed gate after them. Each

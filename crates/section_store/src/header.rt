@@ -20,8 +20,11 @@ use std::alloc::{AllocError, Global};
 use std::sync::Arc;
 use timetable::{Rides, Timetable};
 
-// An open gate.
-const OPEN: u8 = 0xA5;
+/// An open gate. Each other byte is a closed one.
+pub const OPEN: u8 = 0xA5;
+
+/// The name and the version of a store, after the gate of its header.
+pub const NAME: [u8; 8] = [84, 80, 83, 84, 79, 82, 69, 1];
 
 /// Cuts a fresh file to at most one byte.
 fn shorten<D: Disk>(disk: &mut D) -> Result<(), DiskFault>
@@ -108,7 +111,8 @@ fn begin_file<D: Disk>(disk: &mut D, rest: &[u8]) -> Result<(), DiskFault>
 pub fn rest_of_header(alloc: Global, table: &Timetable, rides: Rides) -> Result<Vec<u8>, AllocError>
     ensures { IfOk result (λ bytes. bytes.items ≡ header_tail (form_of table.now rides) ++ 0 ∷ []) }
 {
-    let mut bytes = vec![in alloc; 84, 80, 83, 84, 79, 82, 69, 1, rides.number()]?;
+    let mut bytes = Vec::from_array(alloc, NAME)?;
+    bytes.push(rides.number())?;
     bytes.extend_from_slice(&table.canonical_len().to_be_bytes())?;
     table.write_canonical(&mut bytes)?;
     bytes.push(0)?;

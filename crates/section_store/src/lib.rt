@@ -18,7 +18,7 @@ mod store;
 
 pub use fault::PutFault;
 pub use form::Form;
-pub use header::{begin, rest_of_header};
+pub use header::{NAME, OPEN, begin, rest_of_header};
 pub use receipt::Receipt;
 pub use step::Step;
 pub use stop_set::StopSet;

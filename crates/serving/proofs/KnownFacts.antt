@@ -30,7 +30,7 @@ module _ (basis : BasisData) (p : PlannerView) (held : Held) (from to : List ℕ
       All-weaker (IsAskedPoint basis.timetable held is.froms is.tos d) (IsKnownJourney basis d)
       (λ point h.
       journey_known basis sound.valid sound point.from d point.legs point.to point.arrival
-      (subst Known (sym h.2.starts) (one_of_all Known is.froms h.0.source froms_known h.1.0))
+      (subst Known (sym h.2.is.starts) (one_of_all Known is.froms h.0.source froms_known h.1.0))
       (one_of_all Known is.tos point.to tos_known h.1.2)
-      (subst (λ s. Journey basis.timetable s d point.legs point.to point.arrival) (sym h.2.starts) h.2.journey.0))
+      (subst (λ s. Journey basis.timetable s d point.legs point.to point.arrival) (sym h.2.is.starts) h.2.is.journey))
       points is.points_are

@@ -3,7 +3,7 @@ use Rattle.std.proofs.Common.{◌≡◌, ℕ, Bool, List, [], All, refl, sym, su
 use Rattle.feed_basis.specs.Basis.{BasisData}
 use Rattle.pattern_query.specs.Answer.{PointData}
 use Rattle.board.specs.Ties.{BoardPart}
-use Rattle.board.specs.Trees.{IsRight}
+use Rattle.section_store.specs.Lasting.{IsExact}
 use Rattle.planner.specs.Asking.{AreBestBetween, IsAnswered, IsLook, IsUnanswered}
 use Rattle.planner.specs.PlannerView.{PlannerView}
 use Rattle.planner.specs.declared.fault.AskFault.{AskFault}
@@ -18,7 +18,7 @@ module _ (p : PlannerView) (basis : BasisData) (wanted : Bool) (line : List ℕ)
   -- what is told of an answer
   pub told_reply : (question : Question) (depart : ℕ) (journeys : List PointData) → IsAsked basis.cover line question depart
       → IsAnswered p old new question.from.now question.to.now depart journeys
-      → (All (IsRight p.form) old.origin.opened.list → AreBestBetween p question.from.now question.to.now depart journeys)
+      → (All (IsExact p.form) old.origin.opened.list → AreBestBetween p question.from.now question.to.now depart journeys)
       → (reply : Reply) → IsTold basis depart wanted journeys reply → IsReply p basis wanted line old new reply
   told_reply question depart journeys is answered exact (replies.Answer answer) told = record {
     question = question;

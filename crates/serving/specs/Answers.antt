@@ -6,7 +6,7 @@ use Rattle.service_days.specs.Answers.{IsMoment}
 use Rattle.service_days.specs.Cover.{CoverDays}
 use Rattle.pattern_query.specs.Answer.{PointData}
 use Rattle.board.specs.Ties.{BoardPart}
-use Rattle.board.specs.Trees.{IsRight}
+use Rattle.section_store.specs.Lasting.{IsExact}
 use Rattle.planner.specs.Asking.{AreBestBetween, IsAnswered, IsLook, IsUnanswered}
 use Rattle.planner.specs.PlannerView.{PlannerView}
 use Rattle.planner.specs.declared.fault.AskFault.{AskFault}
@@ -51,7 +51,7 @@ pub record IsRightAnswer (p : PlannerView) (basis : BasisData) (wanted : Bool) (
   pub asked : IsAsked basis.cover line question depart
   pub journeys : List PointData
   pub answered : IsAnswered p old new question.from.now question.to.now depart journeys
-  pub exact : All (IsRight p.form) old.origin.opened.list → AreBestBetween p question.from.now question.to.now depart journeys
+  pub exact : All (IsExact p.form) old.origin.opened.list → AreBestBetween p question.from.now question.to.now depart journeys
   pub told : TellsJourneys basis depart wanted journeys answer
 
 -- the line is a question, which has no answer from one look of the reader, for this cause

@@ -8,7 +8,8 @@ use Rattle.pattern_tree.specs.Paths.{IsIn}
 use Rattle.pattern_tree.proofs.PairFacts.{contains_in}
 use Rattle.pattern_tree.proofs.OrderFacts.{longest_still}
 use Rattle.section_store.specs.Sections.{AreTexts, Form, IsNew, Stands}
-use Rattle.store_excerpt.specs.Board.{IsOneOf, ShowsAmong, shown}
+use Rattle.pattern_query.specs.Questions.{tree_at}
+use Rattle.store_excerpt.specs.Board.{IsOneOf, ShowsAmong}
 use Rattle.store_excerpt.specs.Excerpt.{ShowsWhole}
 use Rattle.recovery.specs.Opening.{IsOpening, StandsForSources}
 use Rattle.answer_lines.specs.declared.audit.Audit.{Audit}
@@ -73,14 +74,14 @@ module _ (basis : BasisData) (k : ℕ) (old new : State) (from : List ℕ) (list
   the_stop : (s : ℕ) → IsIdOf basis from s → is.stop ≡ Some s
   the_stop s named = one_of is.stop s (is.named ∙ named)
 
-  is_new : (s : ℕ) → IsIdOf basis from s → shown board s ≡ None → IsNew s list
+  is_new : (s : ℕ) → IsIdOf basis from s → tree_at board s ≡ None → IsNew s list
   is_new s named none =
       let e = the_stop s named in
       let below : s < stops_of basis.timetable = subst (λ (o : Option ℕ). IfSome o (λ x. x < stops_of basis.timetable)) e is.below in
       let has : Contains is.kept s = subst (λ (l : List ℕ). Contains l s) (sym (is.are_kept s e)) (0, omega arith, refl) in
       (is.shows.missing s below has).0 none
 
-  pub audited : (difference : Option Difference) (audit : Audit) → IsComparedIn basis (shown board) k from difference
+  pub audited : (difference : Option Difference) (audit : Audit) → IsComparedIn basis (tree_at board) k from difference
       → TellsAudit basis from difference audit → IsAudited basis k from old new (reports.Audited audit)
   audited difference audit h told =
       let stored = is.whole.same h.stop h.tree h.holds in
@@ -100,7 +101,7 @@ module _ (basis : BasisData) (k : ℕ) (old new : State) (from : List ℕ) (list
         opening = is.opening;
       }
 
-  pub uncompared_from : (fault : Fault) → IsUncomparedIn basis (shown board) from fault → IsUncomparedFrom basis k from old new fault
+  pub uncompared_from : (fault : Fault) → IsUncomparedIn basis (tree_at board) from fault → IsUncomparedFrom basis k from old new fault
   uncompared_from fault h = record {
     list = list;
     stands = is.stands;

@@ -9,10 +9,11 @@ use Rattle.timetable.specs.declared.parts.Numbers.{Numbers}
 use Rattle.timetable.specs.Journeys.{Journey, pattern}
 use Rattle.timetable.specs.Table.{Table}
 use Rattle.pattern_tree.specs.Content.{Content}
-use Rattle.pattern_query.specs.Answer.{AreBest, TreeReaches}
-use Rattle.pattern_query.specs.Questions.{AskedReaches, IsStored}
+use Rattle.timetable.specs.Front.{AreBest}
+use Rattle.pattern_query.specs.Answer.{TreeReaches}
+use Rattle.pattern_query.specs.Questions.{AskedReaches, IsStored, tree_at}
 use Rattle.section_store.specs.Sections.{AreApart, Form, Stands, sources}
-use Rattle.store_excerpt.specs.Board.{AreOf, shown}
+use Rattle.store_excerpt.specs.Board.{AreOf}
 use Rattle.store_excerpt.proofs.BoardFacts.{new_lacks}
 use Rattle.answer_lines.specs.declared.answer.Answer.{Answer}
 use Rattle.answer_lines.specs.declared.answer.Answer.TheVariants as answers
@@ -116,16 +117,16 @@ front_weaker basis Js Ks d legs front (answers.Arrive time) f h = absurd h
 front_weaker basis Js Ks d legs front (answers.Points points) f h = points_weaker basis Js Ks d legs front points.items f h
 
 module _ (table : Table) (trees : List Content) (board : List (Option Content)) (froms tos : List ℕ) (d : ℕ) (are : AreOf trees board)
-    (stored : All (IsStored (shown board)) froms) where
+    (stored : All (IsStored (tree_at board)) froms) where
   -- a journey of a tree that is shown is one of a tree of the file
-  pub in_trees : (n : Numbers) (from to : ℕ) (legs : List Leg) → IsHeldJourney table (shown board) froms tos d n from to legs
+  pub in_trees : (n : Numbers) (from to : ℕ) (legs : List Leg) → IsHeldJourney table (tree_at board) froms tos d n from to legs
       → IsStoredJourney table trees froms tos d n from to legs
   in_trees n from to legs h =
       let one = are from h.tree h.holds in record {
         is = h.is;
         tree = one.one;
         among = one.among;
-        of = sym one.source ∙ own_of from (shown board from) h.tree (All-contains (IsStored (shown board)) froms from stored h.is.starts) h.holds;
+        of = sym one.source ∙ own_of from (tree_at board from) h.tree (All-contains (IsStored (tree_at board)) froms from stored h.is.starts) h.holds;
         has = elim h.has [
           | inl on_foot ↦ inl on_foot
           | inr has ↦ inr (Contains-permutation h.tree.pairs one.one.pairs (pattern table legs, to)
@@ -133,7 +134,7 @@ module _ (table : Table) (trees : List Content) (board : List (Option Content)) 
         ];
       }
 
-  reaches_stored : (n : Numbers) → AskedReaches table (shown board) froms tos d n → StoredReaches table trees froms tos d n
+  reaches_stored : (n : Numbers) → AskedReaches table (tree_at board) froms tos d n → StoredReaches table trees froms tos d n
   reaches_stored n (tree, t, asked, reaches) =
       let one = are tree.source tree asked.1 in (
         one.one,
@@ -145,10 +146,10 @@ module _ (table : Table) (trees : List Content) (board : List (Option Content)) 
       )
 
   stored_reaches : (form : Form) (bytes : List ℕ) → Stands form bytes trees → (n : Numbers) → StoredReaches table trees froms tos d n
-      → AskedReaches table (shown board) froms tos d n
+      → AskedReaches table (tree_at board) froms tos d n
   stored_reaches form bytes stands n (tree, t, among, starts, ends, reaches) =
       let s = tree.source in
-      let held = held_tree s (shown board s) (All-contains (IsStored (shown board)) froms s stored starts) in
+      let held = held_tree s (tree_at board s) (All-contains (IsStored (tree_at board)) froms s stored starts) in
       let there : Content = held.0 in
       let one = are s there held.1 in
       let same : one.one ≡ tree = stands_one form bytes trees one.one tree stands one.among among (sym one.source ∙ held.2) in
@@ -157,7 +158,7 @@ module _ (table : Table) (trees : List Content) (board : List (Option Content)) 
         t,
         (
           subst (Contains froms) (sym held.2) starts,
-          subst (λ (m : ℕ). shown board m ≡ Some there) (sym held.2) held.1,
+          subst (λ (m : ℕ). tree_at board m ≡ Some there) (sym held.2) held.1,
           ends,
         ),
         reaches_same table tree there t d n (sym held.2) pairs reaches,
@@ -165,7 +166,7 @@ module _ (table : Table) (trees : List Content) (board : List (Option Content)) 
 
   -- so the best of the trees that are shown are the best of those of the file
   pub best_stored : (form : Form) (bytes : List ℕ) (front : List Numbers) → Stands form bytes trees
-      → AreBest (AskedReaches table (shown board) froms tos d) front → AreBest (StoredReaches table trees froms tos d) front
+      → AreBest (AskedReaches table (tree_at board) froms tos d) front → AreBest (StoredReaches table trees froms tos d) front
   best_stored form bytes front stands =
-      best_same (AskedReaches table (shown board) froms tos d) (StoredReaches table trees froms tos d) front reaches_stored
+      best_same (AskedReaches table (tree_at board) froms tos d) (StoredReaches table trees froms tos d) front reaches_stored
       (stored_reaches form bytes stands)

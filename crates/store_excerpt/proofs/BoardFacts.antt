@@ -1,5 +1,5 @@
 -- What stands on a board once one tree more is shown.
-use Rattle.std.proofs.Common.{◌≡◌, ◌≢◌, ◌≤◌, ◌↔◌, ◌||◌, Bool, true, false, is_some, nat_eq, Bor, ℕ, zero, suc, Option, Some, None, List, [], ◌∷◌, ◌++◌, length, slice_set, arith, refl, get_or, sym, ◌∙◌, ap, subst, inl, inr, ◌⊎◌, All, IsSomeAnd}
+use Rattle.std.proofs.Common.{◌≡◌, ◌≢◌, ◌↔◌, ◌||◌, Bool, true, false, is_some, nat_eq, Bor, ℕ, zero, suc, Option, Some, None, List, [], ◌∷◌, ◌++◌, length, slice_set, arith, refl, get_or, sym, ◌∙◌, ap, subst, inl, inr, ◌⊎◌, IsSomeAnd}
 use Rattle.std.specs.List.{Contains}
 use Rattle.std.specs.Option.{option_copied}
 use Rattle.std.specs.List.Sorted.{IsPermutation}
@@ -7,15 +7,16 @@ use Rattle.std.proofs.lemmas.Bool.{cases_eq, false≢true}
 use Rattle.std.proofs.lemmas.Bool.Decides.{nat_tests}
 use Rattle.std.proofs.lemmas.List.{get_or-set_same, get_or-set_other}
 use Rattle.std.proofs.lemmas.List.Sorted.{Contains-permutation}
-use Rattle.std.proofs.lemmas.List.Elements.{All-cons, All-nil, Contains-append_cases, Contains-append_left, Contains-append_right, Contains-push, at_from_Contains}
+use Rattle.std.proofs.lemmas.List.Elements.{Contains-append_cases, Contains-append_left, Contains-append_right, Contains-push, at_from_Contains}
 use Rattle.timetable.specs.Journeys.{Reaches, Unbeaten}
-use Rattle.pattern_tree.specs.Completeness.{IsPathOf, IsTreeOf}
-use Rattle.pattern_tree.specs.Content.{Content, longest}
-use Rattle.pattern_tree.proofs.OrderFacts.{longest_still, tree_still}
+use Rattle.pattern_tree.specs.Completeness.{IsPathOf}
+use Rattle.pattern_tree.specs.Content.{Content}
+use Rattle.pattern_tree.proofs.OrderFacts.{longest_still, own_still}
 use Rattle.section_store.specs.Lasting.{IsExact}
-use Rattle.section_store.specs.Sections.{Form, IsNew, Stands, AreTexts}
+use Rattle.section_store.specs.Sections.{Form, IsNew}
 use Rattle.section_store.specs.Sources.{is_among}
-use Rattle.store_excerpt.specs.Board.{AreOf, IsOneOf, shown, IsSlotOf, IsBoardOf, IsRight, AreRight, IsWhole, IsWholeAmong, AreWholeAmong}
+use Rattle.pattern_query.specs.Questions.{tree_at}
+use Rattle.store_excerpt.specs.Board.{AreOf, IsOneOf, IsSlotOf, IsBoardOf, AreExact, IsWholeAmong, AreWholeAmong}
 
 pub in_one : (m s : ℕ) → Contains (m ∷ []) s → s ≡ m
 in_one m s (k, below, is) = let zero' : k ≡ 0 = omega (arith, below) in sym (subst (λ (i : ℕ). get_or (m ∷ []) i s ≡ s) zero' is)
@@ -77,23 +78,23 @@ pub board_more : (stops : ℕ) (list : List ℕ) (board : List (Option Content))
     → IsBoardOf stops (list ++ tree.source ∷ []) (slice_set board tree.source (Some tree))
 board_more stops list board tree long is = λ s below. elim (cases_eq s tree.source) [
   | inl same ↦
-      let at : shown (slice_set board tree.source (Some tree)) tree.source ≡ Some tree = get_or-set_same board tree.source (Some tree) None (omega (arith, below, same, long)) in
+      let at : tree_at (slice_set board tree.source (Some tree)) tree.source ≡ Some tree = get_or-set_same board tree.source (Some tree) None (omega (arith, below, same, long)) in
       let there : IsSlotOf (list ++ tree.source ∷ []) tree.source (Some tree) = record {
         there = sym (among_last tree.source list);
         own = λ other is. ap (λ (t : Content). t.source) (sym (some_is tree other is));
       } in
-      let here : IsSlotOf (list ++ tree.source ∷ []) tree.source (shown (slice_set board tree.source (Some tree)) tree.source) =
+      let here : IsSlotOf (list ++ tree.source ∷ []) tree.source (tree_at (slice_set board tree.source (Some tree)) tree.source) =
       subst (IsSlotOf (list ++ tree.source ∷ []) tree.source) (sym at) there in
-      subst (λ (n : ℕ). IsSlotOf (list ++ tree.source ∷ []) n (shown (slice_set board tree.source (Some tree)) n)) (sym same) here
+      subst (λ (n : ℕ). IsSlotOf (list ++ tree.source ∷ []) n (tree_at (slice_set board tree.source (Some tree)) n)) (sym same) here
   | inr other ↦
-      let kept : IsSlotOf (list ++ tree.source ∷ []) s (shown board s) = record {
+      let kept : IsSlotOf (list ++ tree.source ∷ []) s (tree_at board s) = record {
         there = (is s below).there ∙ sym (among_other s tree.source list other);
         own = (is s below).own;
       } in
       subst (IsSlotOf (list ++ tree.source ∷ []) s) (sym (get_or-set_other board tree.source s (Some tree) None other)) kept
 ]
 
-pub board_none : (stops : ℕ) (board : List (Option Content)) → ((s : ℕ) → shown board s ≡ None) → IsBoardOf stops [] board
+pub board_none : (stops : ℕ) (board : List (Option Content)) → ((s : ℕ) → tree_at board s ≡ None) → IsBoardOf stops [] board
 board_none stops board bare = λ s below. record {
   there = ap (λ (slot : Option Content). is_some slot) (bare s);
   own = λ tree at. absurd (none_some tree (sym (bare s) ∙ at));
@@ -127,19 +128,19 @@ pub look_some : (list : List ℕ) (s : ℕ) (slot : Option Content) (found : Opt
 look_some list s slot found is at some =
     among_has s list (sym is.there ∙ ap (λ (p : Option Content). is_some p) (sym at) ∙ copied_some found ∙ some)
 
-set_at : (board : List (Option Content)) (i : ℕ) (slot : Option Content) → (shown (slice_set board i slot) i ≡ slot) ⊎ (shown (slice_set board i slot) i ≡ shown board i)
+set_at : (board : List (Option Content)) (i : ℕ) (slot : Option Content) → (tree_at (slice_set board i slot) i ≡ slot) ⊎ (tree_at (slice_set board i slot) i ≡ tree_at board i)
 set_at [] i slot = inr refl
 set_at (x ∷ board) zero slot = inl refl
 set_at (x ∷ board) (suc i) slot = set_at board i slot
 
 -- what holds of each tree there
 abbrev EachShown : (Content → Type 0) → List (Option Content) → Type 0
-EachShown P board = (s : ℕ) (tree : Content) → shown board s ≡ Some tree → P tree
+EachShown P board = (s : ℕ) (tree : Content) → tree_at board s ≡ Some tree → P tree
 
 each_more : (P : Content → Type 0) (board : List (Option Content)) (i : ℕ) (tree : Content) → EachShown P board → P tree → EachShown P (slice_set board i (Some tree))
 each_more P board i tree are is = λ s other at. elim (cases_eq s i) [
   | inl same ↦
-      let here : shown (slice_set board i (Some tree)) i ≡ Some other = subst (λ (n : ℕ). shown (slice_set board i (Some tree)) n ≡ Some other) same at in
+      let here : tree_at (slice_set board i (Some tree)) i ≡ Some other = subst (λ (n : ℕ). tree_at (slice_set board i (Some tree)) n ≡ Some other) same at in
       elim (set_at board i (Some tree)) [
         | inl set ↦ subst P (some_is tree other (sym set ∙ here)) is
         | inr kept ↦ are i other (sym kept ∙ here)
@@ -147,7 +148,7 @@ each_more P board i tree are is = λ s other at. elim (cases_eq s i) [
   | inr apart ↦ are s other (sym (get_or-set_other board i s (Some tree) None apart) ∙ at)
 ]
 
-each_none : (P : Content → Type 0) (board : List (Option Content)) → ((s : ℕ) → shown board s ≡ None) → EachShown P board
+each_none : (P : Content → Type 0) (board : List (Option Content)) → ((s : ℕ) → tree_at board s ≡ None) → EachShown P board
 each_none P board bare = λ s tree at. absurd (none_some tree (sym (bare s) ∙ at))
 
 pub same_more : (trees : List Content) (board : List (Option Content)) (tree patterns : Content) → AreOf trees board → patterns.source ≡ tree.source
@@ -158,26 +159,25 @@ same_more trees board tree patterns are source is =
     record { one = h.one; among = Contains-append_left trees (tree ∷ []) h.one h.among; source = h.source; pairs = h.pairs })
     (record { one = tree; among = Contains-push trees tree; source = source; pairs = is })
 
-pub same_none : (board : List (Option Content)) → ((s : ℕ) → shown board s ≡ None) → AreOf [] board
+pub same_none : (board : List (Option Content)) → ((s : ℕ) → tree_at board s ≡ None) → AreOf [] board
 same_none board = each_none (IsOneOf []) board
 
-pub right_more : (form : Form) (board : List (Option Content)) (i : ℕ) (tree : Content) → AreRight form board → IsRight form tree → AreRight form (slice_set board i (Some tree))
-right_more form = each_more (IsRight form)
+pub right_more : (form : Form) (board : List (Option Content)) (i : ℕ) (tree : Content) → AreExact form board → IsExact form tree → AreExact form (slice_set board i (Some tree))
+right_more form = each_more (IsExact form)
 
-pub right_none : (form : Form) (board : List (Option Content)) → ((s : ℕ) → shown board s ≡ None) → AreRight form board
-right_none form = each_none (IsRight form)
+pub right_none : (form : Form) (board : List (Option Content)) → ((s : ℕ) → tree_at board s ≡ None) → AreExact form board
+right_none form = each_none (IsExact form)
 
 pub whole_more : (form : Form) (froms : List ℕ) (board : List (Option Content)) (i : ℕ) (tree : Content)
     → AreWholeAmong form froms board → IsWholeAmong form froms tree → AreWholeAmong form froms (slice_set board i (Some tree))
 whole_more form froms = each_more (IsWholeAmong form froms)
 
-pub whole_none : (form : Form) (froms : List ℕ) (board : List (Option Content)) → ((s : ℕ) → shown board s ≡ None) → AreWholeAmong form froms board
+pub whole_none : (form : Form) (froms : List ℕ) (board : List (Option Content)) → ((s : ℕ) → tree_at board s ≡ None) → AreWholeAmong form froms board
 whole_none form froms = each_none (IsWholeAmong form froms)
 
 -- the patterns of a tree, in another order
-pub right_still : (form : Form) (tree patterns : Content) → patterns.source ≡ tree.source → IsPermutation tree.pairs patterns.pairs → IsRight form tree → IsRight form patterns
-right_still form tree patterns source same is =
-    subst (λ (n : ℕ). IsTreeOf form.table form.rides n patterns) (sym source) (tree_still form.table form.rides tree.source tree patterns source same is)
+pub right_still : (form : Form) (tree patterns : Content) → patterns.source ≡ tree.source → IsPermutation tree.pairs patterns.pairs → IsExact form tree → IsExact form patterns
+right_still form tree patterns source same is = own_still form.table form.rides tree patterns source same is
 
 pub whole_still : (form : Form) (froms : List ℕ) (tree patterns : Content) → patterns.source ≡ tree.source → IsPermutation tree.pairs patterns.pairs
     → IsWholeAmong form froms tree → IsWholeAmong form froms patterns
@@ -189,27 +189,3 @@ whole_still form froms tree patterns source same is = λ among.
           (c.0, subst (λ (s : ℕ). IsPathOf form.table s t d n c.0) (sym source) c.1, Contains-permutation tree.pairs patterns.pairs (c.0, t) same c.2);
       short = longest_still tree.pairs patterns.pairs form.rides same was.short;
     }
-
--- trees that a file has are no deeper than their form says
-texts_short : (form : Form) (texts : List (List ℕ)) (trees : List Content) → AreTexts form texts trees → All (λ (tree : Content). longest tree.pairs ≤ form.rides) trees
-texts_short form [] [] are = All-nil (λ (tree : Content). longest tree.pairs ≤ form.rides)
-texts_short form [] (tree ∷ trees) are = absurd are
-texts_short form (text ∷ texts) [] are = absurd are
-texts_short form (text ∷ texts) (tree ∷ trees) are =
-    All-cons (λ (t : Content). longest t.pairs ≤ form.rides) tree trees are.0.shallow (texts_short form texts trees are.1)
-
-stands_short : (form : Form) (bytes : List ℕ) (trees : List Content) → Stands form bytes trees → All (λ (tree : Content). longest tree.pairs ≤ form.rides) trees
-stands_short form bytes trees (inl fresh) =
-    subst (All (λ (tree : Content). longest tree.pairs ≤ form.rides)) (sym fresh.1) (All-nil (λ (tree : Content). longest tree.pairs ≤ form.rides))
-stands_short form bytes trees (inr are) = texts_short form are.texts trees are.of
-
-pub right_all : (form : Form) (bytes : List ℕ) (trees : List Content) → Stands form bytes trees → All (IsExact form) trees → All (IsRight form) trees
-right_all form bytes trees stands exact = λ k d below. record {
-  source = refl;
-  complete = (exact k d below).complete;
-  earned = (exact k d below).earned;
-  short = stands_short form bytes trees stands k d below;
-}
-
-pub whole_all : (form : Form) (bytes : List ℕ) (trees : List Content) → Stands form bytes trees → All (IsExact form) trees → All (IsWhole form) trees
-whole_all form bytes trees stands exact = λ k d below. record { complete = (exact k d below).complete; short = stands_short form bytes trees stands k d below }

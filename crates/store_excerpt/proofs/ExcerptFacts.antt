@@ -11,7 +11,8 @@ use Rattle.pattern_tree.specs.Content.{Content}
 use Rattle.section_store.specs.Sections.{Form, sources}
 use Rattle.section_store.specs.Sources.{is_among}
 use Rattle.recovery.specs.Excerpts.{trees_of}
-use Rattle.store_excerpt.specs.Board.{AreOf, AreOwn, IsBoardOf, IsSlotOf, IsWholeAmong, ShowsAmong, shown}
+use Rattle.pattern_query.specs.Questions.{tree_at}
+use Rattle.store_excerpt.specs.Board.{AreOf, AreOwn, IsBoardOf, IsSlotOf, IsWholeAmong, ShowsAmong}
 use Rattle.store_excerpt.proofs.BoardFacts.{among_is, none_some, slot_held, slot_missing}
 
 -- the sources of trees, looked at one by one
@@ -37,10 +38,10 @@ kept_among s froms trees has =
 pub shows_among : (stops : ℕ) (froms : List ℕ) (trees : List Content) (board : List (Option Content)) → IsBoardOf stops (sources (trees_of froms trees)) board
     → ShowsAmong stops froms (sources trees) board
 shows_among stops froms trees board is = record {
-  held = λ s below has. slot_held (sources trees) s (shown board s) (slot s below has);
-  missing = λ s below has. slot_missing (sources trees) s (shown board s) (slot s below has);
+  held = λ s below has. slot_held (sources trees) s (tree_at board s) (slot s below has);
+  missing = λ s below has. slot_missing (sources trees) s (tree_at board s) (slot s below has);
 } where
-  slot : (s : ℕ) → s < stops → Contains froms s → IsSlotOf (sources trees) s (shown board s)
+  slot : (s : ℕ) → s < stops → Contains froms s → IsSlotOf (sources trees) s (tree_at board s)
   slot s below has = record { there = (is s below).there ∙ kept_among s froms trees has; own = (is s below).own }
 
 -- those that are kept are whole where all are
@@ -62,7 +63,7 @@ board_own stops list board long is s tree at = elim (cases_lt s stops) [
   | inr past ↦ absurd (none_some tree (sym (get_or_past board s None (omega (arith, past, long))) ∙ at))
 ]
 
-pub found_own : (board : List (Option Content)) (s : ℕ) (found : Option (Bor Content)) → AreOwn board → option_copied found ≡ shown board s
+pub found_own : (board : List (Option Content)) (s : ℕ) (found : Option (Bor Content)) → AreOwn board → option_copied found ≡ tree_at board s
     → IfSome found (λ tree. tree.now.source ≡ s)
 found_own board s None own at = tt
 found_own board s (Some tree) own at = own s tree.now (sym at)

@@ -1,16 +1,13 @@
 -- The trees that an open store shows.
-use Rattle.std.specs.Prelude.{◌≡◌, ◌<◌, ◌≤◌, ◌↔◌, ℕ, Option, Some, None, List, slice_index_or, is_some}
+use Rattle.std.specs.Prelude.{◌≡◌, ◌<◌, ◌↔◌, ℕ, Option, Some, None, List, is_some}
 use Rattle.std.specs.List.{Contains}
 use Rattle.std.specs.List.Sorted.{IsPermutation}
-use Rattle.pattern_tree.specs.Content.{Content, longest}
-use Rattle.pattern_tree.specs.Completeness.{Complete, IsTreeOf}
-use Rattle.pattern_query.specs.Questions.{IsStored}
+use Rattle.pattern_tree.specs.Content.{Content}
+use Rattle.pattern_tree.specs.Completeness.{IsWhole}
+use Rattle.pattern_query.specs.Questions.{IsStored, tree_at}
+use Rattle.section_store.specs.Lasting.{IsExact}
 use Rattle.section_store.specs.Sections.{Form, IsNew}
 use Rattle.section_store.specs.Sources.{is_among}
-
--- the tree of the stop, where it is there
-abbrev pub shown : List (Option Content) → ℕ → Option Content
-shown board s = slice_index_or board s None
 
 -- what stands in a stop's slot is the stop's tree, where the list has the stop, else nothing
 pub record IsSlotOf (list : List ℕ) (s : ℕ) (slot : Option Content) : Type 0 where
@@ -19,16 +16,16 @@ pub record IsSlotOf (list : List ℕ) (s : ℕ) (slot : Option Content) : Type 0
 
 -- so it is in the slot of each stop of the timetable
 abbrev pub IsBoardOf : ℕ → List ℕ → List (Option Content) → Type 0
-IsBoardOf stops list board = (s : ℕ) → s < stops → IsSlotOf list s (shown board s)
+IsBoardOf stops list board = (s : ℕ) → s < stops → IsSlotOf list s (tree_at board s)
 
 -- a tree that is there stands in the slot of its own source
 abbrev pub AreOwn : List (Option Content) → Type 0
-AreOwn board = (s : ℕ) (tree : Content) → shown board s ≡ Some tree → tree.source ≡ s
+AreOwn board = (s : ℕ) (tree : Content) → tree_at board s ≡ Some tree → tree.source ≡ s
 
 -- of each of these stops, the board has its tree exactly where the list has the stop
 pub record ShowsAmong (stops : ℕ) (froms list : List ℕ) (board : List (Option Content)) : Type 0 where
-  pub held : (s : ℕ) → s < stops → Contains froms s → IsStored (shown board) s ↔ Contains list s
-  pub missing : (s : ℕ) → s < stops → Contains froms s → (shown board s ≡ None) ↔ IsNew s list
+  pub held : (s : ℕ) → s < stops → Contains froms s → IsStored (tree_at board) s ↔ Contains list s
+  pub missing : (s : ℕ) → s < stops → Contains froms s → (tree_at board s ≡ None) ↔ IsNew s list
 
 -- the tree is one of these, with its pairs in any order
 pub record IsOneOf (trees : List Content) (tree : Content) : Type 0 where
@@ -39,25 +36,16 @@ pub record IsOneOf (trees : List Content) (tree : Content) : Type 0 where
 
 -- so is each tree there
 abbrev pub AreOf : List Content → List (Option Content) → Type 0
-AreOf trees board = (s : ℕ) (tree : Content) → shown board s ≡ Some tree → IsOneOf trees tree
+AreOf trees board = (s : ℕ) (tree : Content) → tree_at board s ≡ Some tree → IsOneOf trees tree
 
--- the tree has the patterns of all best journeys from its source, and no others
-abbrev pub IsRight : Form → Content → Type 0
-IsRight form tree = IsTreeOf form.table form.rides tree.source tree
+-- each tree there is exact
+abbrev pub AreExact : Form → List (Option Content) → Type 0
+AreExact form board = (s : ℕ) (tree : Content) → tree_at board s ≡ Some tree → IsExact form tree
 
--- so does each tree there
-abbrev pub AreRight : Form → List (Option Content) → Type 0
-AreRight form board = (s : ℕ) (tree : Content) → shown board s ≡ Some tree → IsRight form tree
-
--- the tree has the patterns of all best journeys from its source, maybe others too, and no path has more rides than the form says
-pub record IsWhole (form : Form) (tree : Content) : Type 0 where
-  pub complete : Complete form.table form.rides tree.source tree.pairs
-  pub short : longest tree.pairs ≤ form.rides
-
--- so it is where it is the tree of one of these stops
+-- the tree is whole where it is that of one of these stops
 abbrev pub IsWholeAmong : Form → List ℕ → Content → Type 0
-IsWholeAmong form froms tree = Contains froms tree.source → IsWhole form tree
+IsWholeAmong form froms tree = Contains froms tree.source → IsWhole form.table form.rides tree
 
 -- so is each tree there
 abbrev pub AreWholeAmong : Form → List ℕ → List (Option Content) → Type 0
-AreWholeAmong form froms board = (s : ℕ) (tree : Content) → shown board s ≡ Some tree → IsWholeAmong form froms tree
+AreWholeAmong form froms board = (s : ℕ) (tree : Content) → tree_at board s ≡ Some tree → IsWholeAmong form froms tree

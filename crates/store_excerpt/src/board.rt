@@ -4,7 +4,8 @@ ghost use Rattle.std.specs.Prelude.{◌≡◌, ℕ, None, Some, IfOk, List, slic
 ghost use Rattle.std.specs.Option.{option_copied};
 ghost use Rattle.std.specs.List.{All};
 ghost use Rattle.section_store.specs.Sections.{Form, sources};
-ghost use Rattle.store_excerpt.specs.Board.{IsBoardOf, AreOf, AreRight, AreWholeAmong, IsRight, IsWholeAmong};
+ghost use Rattle.section_store.specs.Lasting.{IsExact};
+ghost use Rattle.store_excerpt.specs.Board.{IsBoardOf, AreOf, AreExact, AreWholeAmong, IsWholeAmong};
 
 use pattern_query::Patterns;
 use pattern_tree::PatternTree;
@@ -45,7 +46,7 @@ impl Board {
         ensures long { IfOk result (λ board. length board ≡ stops) }
         ensures shows { IfOk result (IsBoardOf stops (sources trees.items)) }
         ensures same { IfOk result (AreOf trees.items) }
-        ensures right { (form : Form) → All (IsRight form) trees.items → IfOk result (AreRight form) }
+        ensures right { (form : Form) → All (IsExact form) trees.items → IfOk result (AreExact form) }
         ensures whole { (form : Form) (froms : List ℕ) → All (IsWholeAmong form froms) trees.items
             → IfOk result (AreWholeAmong form froms) }
     {

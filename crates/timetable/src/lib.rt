@@ -13,6 +13,6 @@ mod sameness;
 mod table;
 
 pub use direct::plain_direct;
-pub use parts::{Call, LATEST_MOMENT, Leg, MOST_STOPS, Numbers, StopId, Walk};
+pub use parts::{Call, LATEST_MOMENT, Leg, MOST_INSTANCES, MOST_STOPS, Numbers, StopId, Walk};
 pub use rides::Rides;
 pub use table::{Instance, Timetable, Walks};

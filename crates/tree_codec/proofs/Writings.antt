@@ -3,6 +3,7 @@ use Rattle.std.proofs.Common.{◌≡◌, ℕ, zero, suc, ◌+◌, ◌-◌, ◌<�
 use Rattle.std.proofs.lemmas.List.{append-nil, take_more, take_at, length-map}
 use Rattle.std.specs.Result.{OnOk, OnErr}
 use Rattle.byteorder.specs.Endian.{big_bytes}
+use Rattle.timetable.specs.Writing.{Grown}
 use Rattle.pattern_tree.specs.Forest.{Branch, Forest, forest, node_count, pairs}
 use Rattle.pattern_tree.specs.Branch.{branch, branches}
 use Rattle.pattern_tree.specs.Content.{Content}
@@ -13,7 +14,7 @@ use Rattle.tree_codec.specs.declared.width.Width.{Width}
 use Rattle.tree_codec.specs.declared.width.Width.TheVariants.{Two, Four}
 use Rattle.tree_codec.specs.Text.{numbers_text, siblings, nodes_text, tree_text, AreBelow, StopsBelow, IsLawful, AppendsText}
 use Rattle.tree_codec.specs.Widths.{byte_count}
-use Rattle.tree_codec.specs.Writing.{Grown, head_text, HeadBelow}
+use Rattle.tree_codec.specs.Writing.{head_text, HeadBelow}
 
 -- ---- numbers
 

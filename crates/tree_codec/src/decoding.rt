@@ -1,13 +1,13 @@
 //! Reading a tree. The bytes are from strangers: no more is reserved by a count than a few nodes, or ends for which there are
 //! bytes, and nodes are read no deeper than 8 levels.
 
-ghost use Rattle.std.specs.Prelude.{None, ℕ, ◌≡◌, ◌≢◌, ◌<◌, ◌≤◌, ◌++◌, ◌-◌, min, List, length, take, MatchResult};
+ghost use Rattle.std.specs.Prelude.{None, ℕ, ◌≡◌, ◌≢◌, ◌<◌, ◌≤◌, ◌++◌, ◌-◌, min, List, length, take, IfErr, MatchResult};
 ghost use Rattle.pattern_tree.specs.Forest.{forest};
 ghost use Rattle.pattern_tree.specs.Branch.{branch, branches};
 ghost use Rattle.pattern_tree.specs.Content.{Content};
 ghost use Rattle.tree_codec.specs.Text.{TreeText, BeginsNoText};
 ghost use Rattle.tree_codec.specs.Widths.{byte_count};
-ghost use Rattle.tree_codec.specs.Reading.{Gives, remaining, end_follows, step_follows, lacks_items, ends_at, node_at, children_at, level_at, tree_at};
+ghost use Rattle.tree_codec.specs.Reading.{Fails, Gives, remaining, end_follows, step_follows, lacks_items, ends_at, node_at, children_at, level_at, tree_at};
 
 use crate::fault::CodecFault;
 use crate::input::Input;
@@ -165,8 +165,8 @@ fn source_and_nodes<A: Allocator + Clone>(
     room: &mut Room,
     form: StopForm,
 ) -> Result<(StopId, Vec<Node<A>, A>), CodecFault>
-    requires nodes { room.old.nodes ≡ 1_000_000 }
-    requires ends { room.old.ends ≡ 16_000_000 }
+    requires nodes { room.old.nodes ≡ MOST_NODES }
+    requires ends { room.old.ends ≡ MOST_ENDS }
     ensures { Gives (λ read. (read.0, forest (branches read.1.items), remaining input.new.bytes.now room.new.nodes room.new.ends)) result
         (tree_at (byte_count form.width) form.stops input.old.bytes.now) }
 {
@@ -182,9 +182,10 @@ fn tree<A: Allocator + Clone>(
     bytes: &[u8],
     form: StopForm,
 ) -> Result<(PatternTree<A>, usize), CodecFault>
-    ensures { MatchResult result
+    ensures read { MatchResult result
         (λ read. (read.1 ≤ length bytes.now) × TreeText (byte_count form.width) form.stops (take read.1 bytes.now) read.0)
         (λ fault. fault ≢ CodecFault.Memory → BeginsNoText (byte_count form.width) form.stops bytes.now) }
+    ensures fault { IfErr result (λ fault. Fails fault (tree_at (byte_count form.width) form.stops bytes.now)) }
 {
     let mut input = Input { bytes };
     let mut room = Room {
@@ -200,15 +201,16 @@ fn tree<A: Allocator + Clone>(
 
 /// The tree whose text the bytes begin with, and how many bytes the text takes. Each stop's number is below `n_stops`;
 /// no tree has a stop from 65,534 on. What follows the text isn't looked at. A fault other than want of memory comes only
-/// where the bytes begin with no text.
+/// where the bytes begin with no text, and is the first that is met from left to right.
 pub fn decode<A: Allocator + Clone>(
     alloc: A,
     bytes: &[u8],
     n_stops: usize,
 ) -> Result<(PatternTree<A>, usize), CodecFault>
-    ensures { MatchResult result
+    ensures read { MatchResult result
         (λ read. (read.1 ≤ length bytes.now) × TreeText 2 (min n_stops 65534) (take read.1 bytes.now) read.0)
         (λ fault. fault ≢ CodecFault.Memory → BeginsNoText 2 (min n_stops 65534) bytes.now) }
+    ensures fault { IfErr result (λ fault. Fails fault (tree_at 2 (min n_stops 65534) bytes.now)) }
 {
     let stops = n_stops.min(MOST_STOPS as usize) as u16;
     let form = StopForm {

@@ -2,11 +2,12 @@
 
 ghost use Rattle.std.specs.Prelude.{◌≡◌, ◌<◌, ◌++◌, OnOk, OnErr};
 ghost use Rattle.byteorder.specs.Endian.{big_bytes};
+ghost use Rattle.timetable.specs.Writing.{Grown};
 ghost use Rattle.pattern_tree.specs.Forest.{forest};
 ghost use Rattle.pattern_tree.specs.Branch.{branch, branches};
 ghost use Rattle.tree_codec.specs.Text.{numbers_text, nodes_text, StopsBelow, AreBelow, AppendsText};
 ghost use Rattle.tree_codec.specs.Widths.{byte_count};
-ghost use Rattle.tree_codec.specs.Writing.{Grown, head_text, HeadBelow};
+ghost use Rattle.tree_codec.specs.Writing.{head_text, HeadBelow};
 
 use crate::width::Width;
 use pattern_tree::{Node, PatternTree};

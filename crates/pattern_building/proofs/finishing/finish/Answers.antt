@@ -1,4 +1,4 @@
-use Rattle.std.proofs.Common.{◌≡◌, ◌∙◌, ◌<◌, ℕ, List, Err, ap, sym, subst, subst₂}
+use Rattle.std.proofs.Common.{◌≡◌, ◌∙◌, ◌<◌, ℕ, List, Err, ap, refl, sym, subst, subst₂}
 use Rattle.std.specs.Arc.{arc_value}
 use Rattle.timetable.specs.Table.{Table, stops_of}
 use Rattle.rounds.specs.Scratch.{rides_of}
@@ -22,7 +22,10 @@ new-requires c =
     let built = c.in_ok-tree.ensures in
     let both = finished c.deref.result.now (arc_value c.in_ok-table.table) c.args.source tree.source c.args.k (rides_of c.args.scratch.now) tree.pairs
     c.deref.ensures built.source c.requires.rides built.complete built.earned in
-    record { source = subst₂ (λ (s : ℕ) (t : Table). s < stops_of t) (sym built.source) (sym (c.in_ok-table.ensures)) c.requires.source; complete = both.0; earned = both.1; short = short_of (arc_value c.in_ok-table.table) tree.source c.args.k tree.pairs both.1 }
+    record {
+      known = subst₂ (λ (s : ℕ) (t : Table). s < stops_of t) (sym built.source) (sym (c.in_ok-table.ensures)) c.requires.source;
+      is = record { source = refl; complete = both.0; earned = both.1; short = short_of (arc_value c.in_ok-table.table) tree.source c.args.k tree.pairs both.1 };
+    }
 
 pub returns-in_err-tree-clause-large : goal.returns-in_err-tree-clause-large
 returns-in_err-tree-clause-large c = λ is.

@@ -7,8 +7,8 @@ use Rattle.timetable.specs.Table.{stops_of}
 use Rattle.pattern_tree.specs.Content.{Content}
 use Rattle.section_store.specs.Lasting.{IsExact, IsTrusted}
 use Rattle.section_store.specs.Sections.{Form, Stands, form_of}
+use Rattle.recovery.specs.Opening.{IsOpening}
 use Rattle.planner_core.specs.Cores.{running_of}
-use Rattle.planner_core.specs.Opened.{IsGivenBack}
 use Rattle.planner_core.specs.Steps.{Begins}
 use Rattle.planner_core.proofs.Starting.{begin_sound}
 use Rattle.planner_core.proofs.beginning.open.Goals as goal
@@ -91,21 +91,21 @@ returns-in-Err-clause-given_back c =
     let form : Form = form_of (arc_value c.table.result.now) c.rides.result in
     let same : form ≡ c.args.tools.now.form = rw (c.table.ensures, c.rides.ensures) refl in
     let is = c.in-Err.ensures in
-    subst (λ (f : Form). IsGivenBack f (state_of c.args.disk) (state_of c.in-Err.refused.1)) same
-    (record { opening = is.opening tt; written = is.written tt })
+    subst (λ (f : Form). IsOpening f (state_of c.args.disk) (state_of c.in-Err.refused.1)) same
+    (is.opening tt)
 
 pub returns-in_default-clause-given_back : goal.returns-in_default-clause-given_back
 returns-in_default-clause-given_back c =
     let form : Form = form_of (arc_value c.table.result.now) c.rides.result in
     let same : form ≡ c.args.tools.now.form = rw (c.table.ensures, c.rides.ensures) refl in
     let is = c.in-Ok.ensures in
-    rw c.into_disk.ensures (subst (λ (f : Form). IsGivenBack f (state_of c.args.disk) (state_of c.in-Ok.recovered.store.disk)) same
-    (record { opening = is.opening tt; written = λ old. inr (is.written tt old) }))
+    rw c.into_disk.ensures (subst (λ (f : Form). IsOpening f (state_of c.args.disk) (state_of c.in-Ok.recovered.store.disk)) same
+    (is.opening tt))
 
 pub returns-clause-given_back : goal.returns-clause-given_back
 returns-clause-given_back c =
     let form : Form = form_of (arc_value c.table.result.now) c.rides.result in
     let same : form ≡ c.args.tools.now.form = rw (c.table.ensures, c.rides.ensures) refl in
     let is = c.in-Ok.ensures in
-    rw c.in-Err-begin.ensures.disk (subst (λ (f : Form). IsGivenBack f (state_of c.args.disk) (state_of c.in-Ok.recovered.store.disk)) same
-    (record { opening = is.opening tt; written = λ old. inr (is.written tt old) }))
+    rw c.in-Err-begin.ensures.disk (subst (λ (f : Form). IsOpening f (state_of c.args.disk) (state_of c.in-Ok.recovered.store.disk)) same
+    (is.opening tt))

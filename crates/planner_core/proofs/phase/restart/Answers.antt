@@ -5,7 +5,7 @@ use Rattle.disk_model.specs.Disk.{State}
 use Rattle.disk_model.specs.MemDisk.{state_of}
 use Rattle.timetable.specs.Table.{stops_of}
 use Rattle.pattern_tree.specs.Content.{Content}
-use Rattle.section_store.specs.Going.{IsFront}
+use mathlib.Core.List.{IsPrefix}
 use Rattle.section_store.specs.Lasting.{IsExact, LosesNothing}
 use Rattle.section_store.specs.Sections.{Form, Stands, form_of, sources}
 use Rattle.planner_core.specs.Cores.{running_of}
@@ -80,4 +80,4 @@ returns-in-Ok-begin-clause-gives c =
     let stands = subst (λ (f : Form). Stands f (state_of d.disk).read trees) same (c.in-Ok.ensures.stands tt) in
     let is = recovered c.stands_for_one.ensures c.args.tools.now.form d.storing.items d.acknowledged.items (state_of d.disk) trees c.requires d.disk.sound stands in
     let list : c.in_ok-sources.sources.items ≡ sources trees = c.in_ok-sources.ensures.items ∙ c.stored.ensures ∙ c.in-Ok.ensures.stored in
-    subst (λ l. IsFront l d.storing.items × All (Contains l) d.acknowledged.items) (sym list) is
+    subst (λ l. IsPrefix l d.storing.items × All (Contains l) d.acknowledged.items) (sym list) is

@@ -2,7 +2,8 @@ use Rattle.std.proofs.Common.{◌≡◌, ◌∙◌, ◌∷◌, [], ap, sym, subs
 use Rattle.std.specs.Arc.{arc_value}
 use Rattle.timetable.specs.Table.{Table, stops_of}
 use Rattle.section_store.specs.Sections.{Form, form_of}
-use Rattle.store_excerpt.specs.Board.{ShowsAmong, shown}
+use Rattle.pattern_query.specs.Questions.{tree_at}
+use Rattle.store_excerpt.specs.Board.{ShowsAmong}
 use Rattle.store_excerpt.specs.Excerpt.{ShowsWhole}
 use Rattle.recovery.specs.Opening.{IsOpening, StandsForSources}
 use Rattle.store_answers.specs.Stores.{OnlyFailing, form_over}
@@ -56,6 +57,6 @@ pub returns-clause-device : goal.returns-clause-device
 returns-clause-device g c =
     elim c.match-compared.branch [
       | in-Ok-compared w ↦ rw w.found-is tt
-      | in-Err-compared w ↦ rw w.found-is (uncompared_fails c.args.basis.now (shown c.in-Ok.excerpt.board) c.args.from.now w.in-Err-compared.fault
+      | in-Err-compared w ↦ rw w.found-is (uncompared_fails c.args.basis.now (tree_at c.in-Ok.excerpt.board) c.args.from.now w.in-Err-compared.fault
           (g.D.Disk.failures c.args.disk) (g.D.Disk.failures c.into_disk.result) w.in-Err-compared.ensures.fault)
     ]

@@ -1,7 +1,12 @@
 use Rattle.std.proofs.Common.{◌≡◌, min, arith}
 use Rattle.tree_codec.proofs.decoding.decode.Goals as goal
 
-pub returns : goal.returns
-returns g c =
+pub returns-clause-read : goal.returns-clause-read
+returns-clause-read g c =
     let stops : c.min-stops.result ≡ min c.args.n_stops 65534 = omega arith in
-    rw (← stops) c.tree.ensures
+    rw (← stops) c.tree.ensures.read
+
+pub returns-clause-fault : goal.returns-clause-fault
+returns-clause-fault g c =
+    let stops : c.min-stops.result ≡ min c.args.n_stops 65534 = omega arith in
+    rw (← stops) c.tree.ensures.fault

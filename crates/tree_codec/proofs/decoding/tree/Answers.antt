@@ -9,8 +9,13 @@ use Rattle.tree_codec.proofs.Fields.{each_wide, stops_fit}
 use Rattle.tree_codec.proofs.Trees.{tree_found, is_tree, is_read, refused}
 use Rattle.tree_codec.proofs.decoding.tree.Goals as goal
 
-pub returns-in_err-source : goal.returns-in_err-source
-returns-in_err-source g c =
+pub returns-in_err-source-clause-fault : goal.returns-in_err-source-clause-fault
+returns-in_err-source-clause-fault g c =
+    let p = err_from_is_err_and c.from_residual.result c.from_residual.ensures.1 in
+    rw (p.1, p.2) c.in_err-source.ensures
+
+pub returns-in_err-source-clause-read : goal.returns-in_err-source-clause-read
+returns-in_err-source-clause-read g c =
     let p = err_from_is_err_and c.from_residual.result c.from_residual.ensures.1 in
     rw (p.1, p.2) (refused (byte_count c.args.form.width) c.args.form.stops c.args.bytes.now c.in_err-source.field-0.0 c.in_err-source.ensures)
 
@@ -38,8 +43,8 @@ from_nodes-requires g c =
     let found = tree_found (byte_count c.args.form.width) c.args.form.stops (each_wide c.args.form.width) c.args.bytes.now (c.in_ok-source.source, forest (branches c.in_ok-source.first.items), after) (λ i. omega (arith, c.type_inv.bytes i)) c.in_ok-source.ensures in
     is_tree (byte_count c.args.form.width) c.args.form.stops c.args.bytes.now c.in_ok-source.source (forest (branches c.in_ok-source.first.items)) after found
 
-pub returns : goal.returns
-returns g c =
+pub returns-clause-read : goal.returns-clause-read
+returns-clause-read g c =
     let after = remaining c.source_and_nodes.new.input.bytes.now c.source_and_nodes.new.room.nodes c.source_and_nodes.new.room.ends in
     let found = tree_found (byte_count c.args.form.width) c.args.form.stops (each_wide c.args.form.width) c.args.bytes.now (c.in_ok-source.source, forest (branches c.in_ok-source.first.items), after) (λ i. omega (arith, c.type_inv.bytes i)) c.in_ok-source.ensures in
     let fit = stops_fit c.args.form.width c.args.form.stops c.args.form.few in

@@ -3,7 +3,7 @@ use Rattle.std.specs.Arc.{arc_value}
 use Rattle.timetable.specs.Table.{Table, stops_of}
 use Rattle.section_store.specs.Sections.{Form, Stands, form_of}
 use Rattle.recovery.specs.Opening.{IsOpening}
-use Rattle.board.specs.Trees.{IsRight}
+use Rattle.section_store.specs.Lasting.{IsExact}
 use Rattle.planner.specs.Desk.{DeskView}
 use Rattle.planner.specs.Opening.{HoldsList}
 use Rattle.planner.proofs.ListFacts.{shared_from, shows_stored, sources_known, shown_right}
@@ -37,16 +37,16 @@ returns-in-Ok-open_shared-clause-moments g c = λ honest.
 
 pub returns-in-Ok-open_shared-clause-right : goal.returns-in-Ok-open_shared-clause-right
 returns-in-Ok-open_shared-clause-right g c = λ honest trusted.
-    let s = g.D.Disk.state c.args.disk in
     let given = c.in-Ok.ensures.given in
     let writer = c.in-Ok-open_shared.writer in
     let form = form_of c.args.network c.args.rides in
-    let shown : All (IsRight form) writer.told.list =
-    shown_right form s.read given.trees writer.told.list (given.stands honest) (given.exact honest trusted)
-    (shared_from _ c.open_store.new.keeper given.trees writer.told.list c.new.ensures.items given.given c.in-Ok-open_shared.ensures.trees) in
-    let opened : All (IsRight form) writer.origin.opened.list = rw c.in-Ok-open_shared.ensures.opened.0 shown in
-    subst (λ (v : DeskView _). All (IsRight v.form) v.board.origin.opened.list) (sym c.new-in-Ok-open_shared-2.ensures)
-    (subst (λ (f : Form). All (IsRight f) writer.origin.opened.list) (sym c.in-Ok.ensures.ready.1) opened)
+    let shown : All (IsExact form) writer.told.list =
+    shown_right form given.trees writer.told.list
+    (shared_from _ c.open_store.new.keeper given.trees writer.told.list c.new.ensures.items given.given c.in-Ok-open_shared.ensures.trees)
+    (given.exact honest trusted) in
+    let opened : All (IsExact form) writer.origin.opened.list = rw c.in-Ok-open_shared.ensures.opened.0 shown in
+    subst (λ (v : DeskView _). All (IsExact v.form) v.board.origin.opened.list) (sym c.new-in-Ok-open_shared-2.ensures)
+    (subst (λ (f : Form). All (IsExact f) writer.origin.opened.list) (sym c.in-Ok.ensures.ready.1) opened)
 
 pub returns-in-Ok-open_shared-clause-list : goal.returns-in-Ok-open_shared-clause-list
 returns-in-Ok-open_shared-clause-list g c = λ honest.

@@ -62,7 +62,7 @@ invariant_of-self-in_err-as_told c =
     let form = same.2 ∙ ap (λ (a : ArchiveView). a.form) c.self.view_is in
     let table : c.args.tree.now.table ≡ told.form.table = c.requires.table ∙ sym (ap (λ (f : Form). f.table) form) in
     let rides : c.args.tree.now.rides ≡ told.form.rides = c.requires.rides ∙ sym (ap (λ (f : Form). f.rides) form) in
-    let of_tree : IsExact told.form c.args.tree.now.tree = record { complete = rw (← table, ← rides) finished.complete; earned = rw (← table, ← rides) finished.earned } in
+    let of_tree : IsExact told.form c.args.tree.now.tree = rw (← table, ← rides) finished.is in
     let exact : IsExact told.form tree = rw c.tree-content.ensures.value of_tree in
     still_archive is c.write_body.ensures.form c.write_body.ensures.stored
     (after_write_body told.form is.trees at.storing.items c.push_reserved.new.self.items tree new.source told.place new.place new.extent (state_of told.disk) (state_of new.disk) new.next
@@ -90,7 +90,7 @@ invariant_of-self-2 c =
     let form = same.2 ∙ ap (λ (a : ArchiveView). a.form) c.self.view_is in
     let table : c.args.tree.now.table ≡ told.form.table = c.requires.table ∙ sym (ap (λ (f : Form). f.table) form) in
     let rides : c.args.tree.now.rides ≡ told.form.rides = c.requires.rides ∙ sym (ap (λ (f : Form). f.rides) form) in
-    let of_tree : IsExact told.form c.args.tree.now.tree = record { complete = rw (← table, ← rides) finished.complete; earned = rw (← table, ← rides) finished.earned } in
+    let of_tree : IsExact told.form c.args.tree.now.tree = rw (← table, ← rides) finished.is in
     let exact : IsExact told.form tree = rw c.tree-content.ensures.value of_tree in
     still_archive is c.write_body.ensures.form c.write_body.ensures.stored
     (after_write_body told.form is.trees at.storing.items c.push_reserved.new.self.items tree new.source told.place new.place new.extent (state_of told.disk) (state_of new.disk) new.next

@@ -1,12 +1,11 @@
-use Rattle.std.proofs.Common.{ℕ, List, inr, sym, subst}
+use Rattle.std.proofs.Common.{ℕ, List, sym, subst}
 use Rattle.std.specs.Arc.{arc_value}
 use Rattle.timetable.specs.Table.{stops_of}
 use Rattle.section_store.specs.Sections.{Form, form_of, sources}
 use Rattle.planner_life.specs.Desk.{IsDesk}
-use Rattle.store_excerpt.specs.Board.{AreRight}
+use Rattle.store_excerpt.specs.Board.{AreExact}
 use Rattle.recovery.specs.Opening.{IsOpening}
 use Rattle.store_excerpt.specs.Excerpt.{ShowsWhole}
-use Rattle.store_excerpt.proofs.BoardFacts.{right_all, whole_all}
 use Rattle.planner_life.proofs.DeskFacts.{sources_known}
 use Rattle.planner_life.proofs.desk.Desk.open.Goals as goal
 
@@ -32,17 +31,12 @@ invariant_of-result g c =
 pub returns-in-Ok-prepare-clause-moments : goal.returns-in-Ok-prepare-clause-moments
 returns-in-Ok-prepare-clause-moments g c = λ honest. c.in-Ok.ensures.opening honest
 
-pub returns-in-Ok-prepare-clause-written : goal.returns-in-Ok-prepare-clause-written
-returns-in-Ok-prepare-clause-written g c = λ honest fresh. inr (c.in-Ok.ensures.written honest fresh)
-
 pub returns-in-Ok-prepare-clause-right : goal.returns-in-Ok-prepare-clause-right
 returns-in-Ok-prepare-clause-right g c = λ honest trusted.
     let form = form_of (arc_value c.args.table.now) c.args.rides in
-    let read = (g.D.Disk.state c.args.disk).read in
-    let trees = c.in-Ok.recovered.trees.items in
     let board = c.in-Ok-prepare.board in
-    subst (λ (f : Form). AreRight f board) (sym c.in-Ok.ensures.ready.1)
-    (c.in-Ok-prepare.ensures.right form (right_all form read trees (c.in-Ok.ensures.stands honest) (c.in-Ok.ensures.exact honest trusted)))
+    subst (λ (f : Form). AreExact f board) (sym c.in-Ok.ensures.ready.1)
+    (c.in-Ok-prepare.ensures.right form (c.in-Ok.ensures.exact honest trusted))
 
 pub returns-in-Ok-prepare-clause-whole : goal.returns-in-Ok-prepare-clause-whole
 returns-in-Ok-prepare-clause-whole g c = λ honest.
@@ -58,7 +52,7 @@ returns-in-Ok-prepare-clause-whole g c = λ honest.
       are = c.in-Ok.ensures.stored;
       same = c.in-Ok-prepare.ensures.same;
       whole = c.in-Ok-prepare.ensures.whole form;
-      trusted = λ trusted. whole_all form s.read trees stands (c.in-Ok.ensures.exact honest trusted);
+      trusted = c.in-Ok.ensures.exact honest;
     } in
     subst (λ (f : Form). ShowsWhole f s store.stored board) (sym c.in-Ok.ensures.ready.1) is
 

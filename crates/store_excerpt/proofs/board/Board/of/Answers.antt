@@ -4,7 +4,8 @@ use Rattle.std.proofs.lemmas.List.{length-set, map-append}
 use Rattle.std.proofs.lemmas.List.Elements.{All-pop}
 use Rattle.pattern_tree.specs.Content.{Content}
 use Rattle.section_store.specs.Sections.{sources}
-use Rattle.store_excerpt.specs.Board.{AreOf, IsBoardOf, IsRight, AreRight, IsWholeAmong, AreWholeAmong}
+use Rattle.section_store.specs.Lasting.{IsExact}
+use Rattle.store_excerpt.specs.Board.{AreOf, IsBoardOf, AreExact, IsWholeAmong, AreWholeAmong}
 use Rattle.store_excerpt.proofs.BoardFacts.{board_none, board_more, same_more, same_none, right_none, right_more, right_still, whole_none, whole_more, whole_still}
 use Rattle.store_excerpt.proofs.board.Board.of.Goals as goal
 
@@ -43,8 +44,8 @@ loop-tree-preserved c =
       same = subst (AreOf (at.yielded ++ tree ∷ [])) (sym set)
           (same_more at.yielded at.board tree patterns at.invariant.same source c.in_ok-of.ensures.pairs);
       right = λ form all.
-          let both = All-pop (IsRight form) (at.yielded ++ tree ∷ []) at.yielded (Some tree) refl all in
-          subst (AreRight form) (sym set)
+          let both = All-pop (IsExact form) (at.yielded ++ tree ∷ []) at.yielded (Some tree) refl all in
+          subst (AreExact form) (sym set)
           (right_more form at.board patterns.source patterns (at.invariant.right form both.0) (right_still form tree patterns source c.in_ok-of.ensures.pairs both.1));
       whole = λ form froms all.
           let both = All-pop (IsWholeAmong form froms) (at.yielded ++ tree ∷ []) at.yielded (Some tree) refl all in
@@ -67,7 +68,7 @@ returns-clause-right c = λ form exact.
     let none = c.in-None.ensures.steps in
     let empty : into_iter_items at.tree-iterator ≡ [] = nothing_left _ (sym at.invariant.count ∙ none.0) in
     let all = sym (append-nil at.yielded) ∙ rw empty at at.invariant.rest ∙ c.into_iter-tree-iterator.ensures.into_iter_gives.0 in
-    at.invariant.right form (subst (All (IsRight form)) (sym all) exact)
+    at.invariant.right form (subst (All (IsExact form)) (sym all) exact)
 
 pub returns-clause-whole : goal.returns-clause-whole
 returns-clause-whole c = λ form froms whole.

@@ -1,7 +1,8 @@
 use Rattle.std.proofs.Common.{◌≡◌, ◌++◌, ℕ, List, length, All}
 use Rattle.std.specs.Vec.Iter.{into_iter_items, into_iter_len}
 use Rattle.section_store.specs.Sections.{Form, sources}
-use Rattle.store_excerpt.specs.Board.{AreOf, IsBoardOf, AreRight, AreWholeAmong, IsRight, IsWholeAmong}
+use Rattle.section_store.specs.Lasting.{IsExact}
+use Rattle.store_excerpt.specs.Board.{AreOf, IsBoardOf, AreExact, AreWholeAmong, IsWholeAmong}
 use Rattle.store_excerpt.proofs.board.Board.of.Given as goal
 
 abbrev pub invariant-loop-tree : goal.invariant-loop-tree
@@ -11,6 +12,6 @@ invariant-loop-tree l = record {
   long : length l.board ≡ l.stops;
   shows : IsBoardOf l.stops (sources l.yielded) l.board;
   same : AreOf l.yielded l.board;
-  right : (form : Form) → All (IsRight form) l.yielded → AreRight form l.board;
+  right : (form : Form) → All (IsExact form) l.yielded → AreExact form l.board;
   whole : (form : Form) (froms : List ℕ) → All (IsWholeAmong form froms) l.yielded → AreWholeAmong form froms l.board;
 }

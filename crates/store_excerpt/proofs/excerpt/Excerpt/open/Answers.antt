@@ -6,7 +6,6 @@ use Rattle.section_store.specs.Sections.{Form, form_of, sources}
 use Rattle.store_excerpt.specs.Board.{AreOf, IsBoardOf, IsWholeAmong, ShowsAmong}
 use Rattle.recovery.specs.Opening.{IsOpening}
 use Rattle.store_excerpt.specs.Excerpt.{ShowsWhole}
-use Rattle.store_excerpt.proofs.BoardFacts.{whole_all}
 use Rattle.store_excerpt.proofs.ExcerptFacts.{board_own, kept_of, kept_whole, shows_among}
 use Rattle.store_excerpt.proofs.excerpt.Excerpt.open.Goals as goal
 
@@ -52,7 +51,7 @@ returns-in-Ok-of-clause-whole g c = λ honest.
           (subst (λ (l : List Content). AreOf l board) excerpt.kept_are c.in-Ok-of.ensures.same);
       whole = λ among all. c.in-Ok-of.ensures.whole form among
           (subst (All (IsWholeAmong form among)) (sym excerpt.kept_are) (kept_whole form among c.args.froms.now excerpt.trees all));
-      trusted = λ trusted. whole_all form s.read excerpt.trees excerpt.stands (excerpt.exact trusted);
+      trusted = excerpt.exact;
     } in
     subst (λ (f : Form). ShowsWhole f s store.stored board) (sym c.in-Ok.ensures.ready.1) is
 
