@@ -11,7 +11,7 @@ use crate::running::{Ended, run_plan, voice_of};
 use crate::system::System;
 use command_line::{Job, Style, Unread, read_words};
 use faults::Fault;
-use printing::{Streams, Told, Voice, finish, show, tell_fault};
+use printing::{Streams, Told, Voice, finish, say_no_memory, show, tell_fault};
 use std::alloc::Global;
 use std::io::{BufRead, Write};
 use tellers::Teller;
@@ -93,6 +93,8 @@ fn refuse_words<T: Teller, O: Write + Drop, E: Write + Drop>(
         (streams_of streams.old.out streams.old.err) (streams_of streams.new.out streams.new.err) result }
 {
     match why {
+        // What is to be shown of them took memory too.
+        Unread::Shown(7) => say_no_memory(&mut streams.err),
         Unread::Shown(status) => show(shown, status, streams),
         Unread::BadDate(style) => {
             let voice = voice_in(style);

@@ -2,6 +2,7 @@
 
 ghost use Rattle.std.specs.Prelude.{◌≡◌, ◌↔◌, ◌≢◌, ◌⊎◌, ◌≤◌, ◌<◌, ◌++◌, [], ◌∷◌, IsTrue, IfOk, IfErr, MatchBool, length, take, drop, get_or};
 ghost use Rattle.std.specs.Arc.{arc_value};
+ghost use Rattle.disk_model.specs.Calls.{FailsByCalls};
 ghost use Rattle.section_store.specs.Beginnings.{CanBegin, IsLeftOf, IsUnfinished};
 ghost use Rattle.section_store.specs.Sections.{IsFresh, form_of, open_gate};
 ghost use Rattle.recovery.specs.Kinds.{IsNamedBehindGate, IsOfKind};
@@ -10,7 +11,7 @@ ghost use Rattle.recovery.specs.Reading.{OnlyOutside};
 use crate::fault::RecoverFault;
 use crate::header::{SHORTEST, is_name};
 use crate::reading::read_bytes;
-use disk_model::Disk;
+use disk_model::{Disk, DiskFault};
 use section_store::{OPEN, rest_of_header};
 use std::alloc::Global;
 use timetable::{Rides, Timetable};
@@ -104,16 +105,19 @@ fn is_old(head: &[u8]) -> bool
 }
 
 /// Whether the file of a disk begins with an open gate and is no shorter than a store. Opening it as a store writes nothing then, so a disk
-/// that only reads will do.
-pub fn is_begun<D: Disk>(alloc: Global, disk: &mut D) -> Result<bool, RecoverFault>
+/// that only reads will do. It takes no memory.
+pub fn is_begun<D: Disk>(disk: &mut D) -> Result<bool, DiskFault>
     ensures honest { D.honest disk.old ↔ D.honest disk.new }
     ensures same { D.honest disk.old → D.state disk.new ≡ D.state disk.old }
     ensures begun { D.honest disk.old → IfOk result (λ begun. IsTrue begun ↔ ¬ IsFresh (D.state disk.old).read) }
-    ensures outside { OnlyOutside result (D.failures disk.old) (D.failures disk.new) }
+    ensures failed { FailsByCalls result (D.failures disk.old) (D.failures disk.new) }
 {
-    let mut head = Vec::new(alloc);
-    read_bytes(disk, 0, SHORTEST as u64, &mut head)?;
-    Ok(is_old(&head))
+    if disk.len()? < SHORTEST as u64 {
+        return Ok(false);
+    }
+    let mut gate = [0];
+    disk.read_at(0, &mut gate)?;
+    Ok(gate[0] == OPEN)
 }
 
 /// What the file of a disk is to a store of that timetable, and of journeys of at most `rides` rides. Nothing is written. A program that

@@ -70,7 +70,7 @@ impl<'r, T: Threads + Wait + Sync> System for HostSystem<'r, T> {
         if only_reads {
             match FileDisk::open_to_read(self.rt, path) {
                 Ok(mut disk) => {
-                    if let Ok(true) = is_begun(self.rt.alloc(), &mut disk) {
+                    if let Ok(true) = is_begun(&mut disk) {
                         return Ok(disk);
                     }
                 }

@@ -3,12 +3,14 @@
 use super::setting::{Seen, Setting, ask, basis, open, open_on};
 use disk_model::MemDisk;
 use feed_basis::Basis;
-use precomputing::{Free, Outcome, precompute};
+use precomputing::{Gate, Outcome, precompute};
 use std::alloc::Global;
 use std::process::Abort;
 use std::sync::Wait;
+use std::sync::atomic::{AtomicU64, Ordering};
 use std::test::Fail;
 use std::thread::Threads;
+use timetable::StopId;
 
 // What came of a build.
 #[derive(Clone, Copy, Debug, PartialEq, Eq)]
@@ -19,13 +21,54 @@ enum End {
     Failed(usize),
     // So many are stored, each stop's.
     Done(usize),
+    // Another end, or one before a build has ended.
     Other,
 }
 
-// Builds by four workers on an empty disk whose n-th call and all later ones fail.
-fn end_at<R: Threads + Wait + Sync>(rt: &R, alloc: Global, basis: &Basis, n: u64) -> End {
+// When the calls of the disk fail, counted from 1: one alone, or that and all later ones.
+#[derive(Clone, Copy, Debug)]
+enum Failing {
+    Once,
+    Since,
+}
+
+// Counts the builds that have begun and haven't ended.
+#[derive(Drop)]
+struct Unended {
+    builds: AtomicU64,
+}
+
+impl Gate for Unended {
+    fn before(&self, _worker: u8, _source: StopId) {
+        self.builds.fetch_add(1, Ordering::SeqCst);
+    }
+
+    fn after(&self, _worker: u8, _source: StopId) {
+        self.builds.fetch_sub(1, Ordering::SeqCst);
+    }
+}
+
+// An empty disk whose n-th call fails, and perhaps all later ones.
+fn failing_disk(alloc: Global, failing: Failing, n: u64) -> MemDisk {
     let mut disk = MemDisk::new(alloc);
-    disk.stop_at(n);
+    match failing {
+        Failing::Once => disk.fail_at(n),
+        Failing::Since => disk.stop_at(n),
+    }
+    disk
+}
+
+// Builds on such a disk.
+fn end_at<R: Threads + Wait + Sync>(
+    rt: &R,
+    alloc: Global,
+    basis: &Basis,
+    workers: usize,
+    disk: MemDisk,
+) -> End {
+    if workers == 0 || workers > 64 {
+        return End::Other;
+    }
     let Some(setting) = open_on(rt, alloc, basis, disk) else {
         return End::Unopened;
     };
@@ -34,10 +77,15 @@ fn end_at<R: Threads + Wait + Sync>(rt: &R, alloc: Global, basis: &Basis, n: u64
         desk,
         reader: _reader,
     } = setting;
-    let (desk, outcome) = precompute(alloc, rt, desk, &planner, 4, &Free);
+    let gate = Unended {
+        builds: AtomicU64::new(0),
+    };
+    let (desk, outcome) = precompute(alloc, rt, desk, &planner, workers, &gate);
+    let unended = gate.builds.load(Ordering::SeqCst);
     let stored = desk.stored().len();
     let _disk = desk.into_disk(rt);
     match outcome {
+        _ if unended > 0 => End::Other,
         Outcome::Done => End::Done(stored),
         Outcome::DeviceFailed => End::Failed(stored),
         Outcome::Partial(_) | Outcome::NoMemory => End::Other,
@@ -59,12 +107,15 @@ fn check_ends<R: Threads + Wait + Sync>(
     test: &impl Abort,
     alloc: Global,
     basis: &Basis,
+    workers: usize,
+    failing: Failing,
 ) -> usize {
     let mut calls = 0_usize;
     for n in 1..=40 {
-        let end = end_at(rt, alloc, basis, n);
+        let disk = failing_disk(alloc, failing, n);
+        let end = end_at(rt, alloc, basis, workers, disk);
         if calls > 0 || end != End::Unopened {
-            assert_eq!(test; end, end_after(calls), "call {n}");
+            assert_eq!(test; end, end_after(calls), "call {n}, {workers} workers");
             calls = calls.saturating_add(1);
         }
     }
@@ -74,7 +125,12 @@ fn check_ends<R: Threads + Wait + Sync>(
 #[test]
 fn a_device_that_fails(rt: HostRuntime) -> Result<(), Fail> {
     let basis = basis(&rt)?;
-    assert!(rt; check_ends(&rt, &rt, rt.alloc(), &basis) > 20);
+    for workers in [1, 2, 4] {
+        for failing in [Failing::Once, Failing::Since] {
+            let calls = check_ends(&rt, &rt, rt.alloc(), &basis, workers, failing);
+            assert!(rt; calls > 20, "{workers} workers, {failing:?}");
+        }
+    }
     Ok(())
 }
 
