@@ -4,6 +4,7 @@
 //! [`whole`], [`time`] and [`date`] read a field's text by its type (the reference's "Field types").
 #![tactic(auto)]
 
+mod commas;
 mod fault;
 pub mod laws;
 mod marks;

@@ -8,11 +8,13 @@ ghost use Rattle.gtfs_text.specs.Faults.{fault_at, IsPlain};
 ghost use Rattle.gtfs_text.specs.Packed.{unpacked};
 ghost use Rattle.gtfs_text.specs.Sheets.{records_of, bad_record, table_of, is_text, Explains};
 
+use crate::commas::{COMMA_LIMIT, UpToCommas};
 use crate::fault::SheetFault;
 use crate::marks::after_marks;
 use crate::packed::pack;
 use csv::{ByteRecord, Error, ErrorKind, ReaderBuilder, StringRecord};
 use std::alloc::Global;
+use std::cell::Cell;
 
 // What ended the reading of a record.
 fn fault_of(error: &Error, row: usize) -> SheetFault
@@ -33,14 +35,20 @@ pub(crate) fn packed_records(alloc: Global, bytes: &[u8]) -> Result<ByteRecord, 
     ensures text { OnOk result (bad_record (records_of bytes.now) ≡ None) }
     ensures fault { IfErr result (Explains (records_of bytes.now)) }
 {
+    let left = Cell::new(0);
+    let source = UpToCommas {
+        bytes: after_marks(bytes),
+        left: &left,
+    };
     let mut reader = ReaderBuilder::new()
         .has_headers(false)
         .flexible(true)
-        .from_reader(alloc, after_marks(bytes));
+        .from_reader(alloc, source);
     let mut records = ByteRecord::with_capacity(alloc, bytes.len(), 0)?;
     let mut record = StringRecord::new(alloc);
     let mut packed = Vec::new(alloc);
     'records: loop {
+        left.set(COMMA_LIMIT);
         match reader.read_record(&mut record) {
             Ok(true) => {
                 pack(&record, &mut packed)?;

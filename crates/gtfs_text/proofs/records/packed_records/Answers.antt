@@ -1,4 +1,4 @@
-use Rattle.std.proofs.Common.{◌≡◌, ◌∙◌, sym, refl, ap, inl, inr, map, Some, ◌∷◌, ◌++◌, [], List, ℕ, Bor, length, arith}
+use Rattle.std.proofs.Common.{◌≡◌, ◌∙◌, sym, refl, ap, inl, inr, map, Some, ◌∷◌, ◌++◌, [], List, ℕ, length, arith}
 use Rattle.std.proofs.lemmas.List.{map-append, length-append}
 use Rattle.std.proofs.lemmas.List.Folds.{list_all-append}
 use Rattle.csv.specs.Reading.{Reached, default_config, source_of, strip_bom, error_kind}
@@ -9,6 +9,7 @@ use Rattle.gtfs_text.specs.Packed.{unpacked}
 use Rattle.gtfs_text.specs.Sheets.{Table, without_marks, without_spaces, is_text, table_of, bad_record, records_of}
 use Rattle.gtfs_text.proofs.MarkFacts.{strip_after}
 use Rattle.gtfs_text.proofs.RecordFacts.{records_all, none_bad, is_text_from, fault_explained, reached_few, same_length}
+use Rattle.gtfs_text.specs.declared.commas.UpToCommas.{UpToCommas}
 use Rattle.gtfs_text.proofs.records.packed_records.Goals as goal
 
 pub records-init : goal.records-init
@@ -28,12 +29,12 @@ records-init c =
     })
 
 -- the read took one more record
-more : (c : goal.In_ok-push_field-in-Ok-true) → (y : List ℕ) × (source_of (λ (s : Bor (List ℕ)). Some s.now) c.read_record.new.self ≡ Some y)
+more : (c : goal.In_ok-push_field-in-Ok-true) → (y : List ℕ) × (source_of (λ (r : UpToCommas). Some r.bytes.now) c.read_record.new.self ≡ Some y)
     × Reached default_config st.StartRecord (without_marks c.args.bytes.now) (c.records.invariant.reached.1 ++ fields_of c.read_record.new.row ∷ []) c.read_record.new.self.state y
 more c =
     let inv = c.records.invariant in
     let s = rw c.in-Ok-true.field-0-test at (c.in-Ok-true.ensures.reads inv.trims inv.ready) in
-    rows-more (λ (s : Bor (List ℕ)). Some s.now) c.records.reader c.read_record.new.self (fields_of c.read_record.new.row) default_config st.StartRecord (without_marks c.args.bytes.now) inv.reached.0 inv.reached.1 inv.config inv.reached.2 inv.reached.3 s
+    rows-more (λ (r : UpToCommas). Some r.bytes.now) c.records.reader c.read_record.new.self (fields_of c.read_record.new.row) default_config st.StartRecord (without_marks c.args.bytes.now) inv.reached.0 inv.reached.1 inv.config inv.reached.2 inv.reached.3 s
 
 -- and it was packed
 kept : (c : goal.In_ok-push_field-in-Ok-true) → fields_of c.push_field.new.self ≡ fields_of c.records.records ++ c.pack.new.packed.items ∷ []
@@ -78,7 +79,7 @@ all c =
     let inv = c.records.invariant in
     let s = rw c.in-Ok-false.field-0-test at (c.in-Ok-false.ensures.reads inv.trims inv.ready) in
     records_all (without_marks c.args.bytes.now) inv.reached.1 c.records.reader.state inv.reached.0 inv.reached.3
-    (rows-end (λ (s : Bor (List ℕ)). Some s.now) c.records.reader c.read_record.new.self (fields_of c.read_record.new.row) default_config inv.reached.0 inv.config inv.reached.2 s)
+    (rows-end (λ (r : UpToCommas). Some r.bytes.now) c.records.reader c.read_record.new.self (fields_of c.read_record.new.row) default_config inv.reached.0 inv.config inv.reached.2 s)
 
 pub returns-in-Ok-false-clause-records : goal.returns-in-Ok-false-clause-records
 returns-in-Ok-false-clause-records c = c.records.invariant.reached.4 ∙ sym (ap table_of (all c))
@@ -90,6 +91,6 @@ pub returns-in-Err-clause-fault : goal.returns-in-Err-clause-fault
 returns-in-Err-clause-fault c =
     let inv = c.records.invariant in
     let s = c.in-Err.ensures.why inv.trims inv.ready in
-    let at_end = fault_explained (λ (s : Bor (List ℕ)). Some s.now) c.records.reader c.read_record.new.self (error_kind c.in-Err.error) (without_marks c.args.bytes.now) inv.reached.0 inv.reached.1 inv.config inv.reached.2 inv.reached.3 inv.reached.5 s in
+    let at_end = fault_explained (λ (r : UpToCommas). Some r.bytes.now) c.records.reader c.read_record.new.self (error_kind c.in-Err.error) (without_marks c.args.bytes.now) inv.reached.0 inv.reached.1 inv.config inv.reached.2 inv.reached.3 inv.reached.5 s in
     let row : c.len.result ≡ length inv.reached.1 = c.len.ensures ∙ same_length unpacked (fields_of c.records.records) inv.reached.1 inv.reached.4 in
     rw (c.fault_of.ensures, row) at_end

@@ -6,6 +6,7 @@ use Rattle.csv.specs.declared.parser.State.TheVariants as st
 use Rattle.csv.specs.declared.reader.Trim.TheVariants as trim
 use Rattle.gtfs_text.specs.Packed.{unpacked}
 use Rattle.gtfs_text.specs.Sheets.{without_marks, table_of, is_text}
+use Rattle.gtfs_text.specs.declared.commas.UpToCommas.{UpToCommas}
 use Rattle.gtfs_text.proofs.records.packed_records.Given as goal
 
 abbrev pub invariant-records : goal.invariant-records
@@ -16,7 +17,7 @@ invariant-records l = record {
   config : l.reader.config ≡ default_config;
   partial : partial_of l.records ≡ [];
   packed_text : list_all is_text (map unpacked (fields_of l.records)) ≡ true;
-  reached : (y : List ℕ) × (rows : List (List (List ℕ))) × (source_of (λ s. Some s.now) l.reader ≡ Some y)
+  reached : (y : List ℕ) × (rows : List (List (List ℕ))) × (source_of (λ (r : UpToCommas). Some r.bytes.now) l.reader ≡ Some y)
       × Reached default_config st.StartRecord (without_marks l.bytes) rows l.reader.state y
       × (map unpacked (fields_of l.records) ≡ table_of rows)
       × (list_all is_text rows ≡ true);

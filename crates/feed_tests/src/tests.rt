@@ -1,0 +1,5 @@
+//! A module for each subject.
+
+mod calendars;
+mod changes;
+mod counts;
