@@ -9,9 +9,9 @@ import uvicorn
 from uvicorn.protocols.http.h11_impl import H11Protocol
 
 from .app import application
-from .settings import SECONDS_OF_A_STILL_CONNECTION, SECONDS_OF_THE_END, Settings
-
-CONNECTIONS = 1_024
+from .processes import allow_open_files
+from .settings import (
+    CONNECTIONS, CONNECTIONS_AT_A_TIME, CONNECTIONS_TO_REFUSE, SECONDS_OF_A_STILL_CONNECTION, SECONDS_OF_THE_END, Settings)
 
 
 def listening(host: str, port: int) -> socket.socket:
@@ -21,7 +21,7 @@ def listening(host: str, port: int) -> socket.socket:
     try:
         listener.setsockopt(socket.SOL_SOCKET, socket.SO_REUSEADDR, 1)
         listener.bind((host, port))
-        listener.listen(CONNECTIONS)
+        listener.listen(CONNECTIONS_AT_A_TIME)
     except OSError:
         listener.close()
         raise
@@ -34,14 +34,16 @@ def address_of(listener: socket.socket) -> str:
 
 
 class Connection(H11Protocol):
-    """A connection that is ended if nothing moves on it for a time: no bytes come in, and the client takes none of a response. Uvicorn by
-    itself waits for a first request, and for a client who doesn't read, without end."""
+    """A connection that is ended if there are too many, or if nothing moves on it for a time: no bytes come in, and the client takes none of
+    a response. Uvicorn by itself holds any number of them, and waits for a first request, and for a client who doesn't read, without end."""
 
     _received = 0
 
     def connection_made(self, transport: asyncio.Transport) -> None:
         super().connection_made(transport)
         self._watch((-1, -1))
+        if len(self.connections) > CONNECTIONS + CONNECTIONS_TO_REFUSE:
+            transport.abort()
 
     def connection_lost(self, exc: Exception | None) -> None:
         self._watcher.cancel()
@@ -88,7 +90,7 @@ class Service:
         # A warning of Uvicorn has parts of a request that is no HTTP, and nothing of a request is part of a log.
         self._server = Server(uvicorn.Config(
             app, log_level="error", access_log=False, http=Connection, ws="none", lifespan="on", loop="asyncio", server_header=False,
-            timeout_keep_alive=SECONDS_OF_A_STILL_CONNECTION, limit_concurrency=CONNECTIONS,
+            timeout_keep_alive=SECONDS_OF_A_STILL_CONNECTION, limit_concurrency=CONNECTIONS, backlog=CONNECTIONS_AT_A_TIME,
         ))
 
     def _fail(self, status: int, cause: str) -> None:
@@ -102,6 +104,7 @@ class Service:
         """Answers to the end, and gives the status."""
         signal.signal(signal.SIGTERM, self._leave)
         signal.signal(signal.SIGINT, self._leave)
+        allow_open_files()
         try:
             self._server.run(sockets=[listener])
         except SystemExit as error:
