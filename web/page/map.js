@@ -72,6 +72,7 @@ export class JourneyMap {
         const named = document.createElement("span");
         named.textContent = attribution || "";
         L.tileLayer(tiles, { attribution: named.innerHTML, maxZoom: 19 }).addTo(this.map);
+        this.map.getContainer().classList.add("tiled");
     }
 
     clear() {
