@@ -153,6 +153,11 @@ def look_at_typing(look: Look, page: Page) -> None:
     page.press(Keys.ENTER)
 
 
+def is_within_map(page: Page) -> bool:
+    frame, shapes = page.find("#map").rect, [it.rect for it in page.all("#map path.end")]
+    return all(frame[at] <= it[at] <= frame[at] + frame[length] for it in shapes for at, length in (("x", "width"), ("y", "height")))
+
+
 def look_at_journeys(look: Look, page: Page) -> None:
     """The two journeys from the harbour to the castle, worked by hand; the second is sooner there."""
     look(page.wait(lambda: len(page.all("#journeys summary")) == 2), f"it says {page.find('main').text!r}")
@@ -170,10 +175,7 @@ def look_at_journeys(look: Look, page: Page) -> None:
     look(page.wait(lambda: len(page.all("#map path.walk")) == 1), "the map doesn't show the journey that was opened")
     counts = {kind: len(page.all(f"#map path.{kind}")) for kind in ("ride", "walk", "stop", "end")}
     look(counts == {"ride": 2, "walk": 1, "stop": 2, "end": 2}, f"the map has {counts}")
-    frame, shapes = page.find("#map").rect, [it.rect for it in page.all("#map path.end")]
-    sides = (("x", "width"), ("y", "height"))
-    inside = all(frame[at] <= it[at] <= frame[at] + frame[length] for it in shapes for at, length in sides)
-    look(inside, "the ends of the journey are not within the map")
+    look(is_within_map(page), "the ends of the journey are not within the map")
 
 
 def look_at_the_address(look: Look, page: Page) -> None:
@@ -248,6 +250,7 @@ def look_at_looks(look: Look, page: Page) -> None:
         page.width(width, "light")
         needed = page.browser.execute_script("return document.documentElement.scrollWidth")
         look(needed <= width, f"at a width of {width} the page is {needed} wide")
+        look(page.wait(lambda: is_within_map(page)), f"at a width of {width} the ends of the journey are not within the map")
     small = [it.text for it in page.all("input, button, summary") if it.is_displayed() and it.rect["height"] < 44]
     look(not small, f"too small for a finger: {small}")
     doubled = page.browser.execute_script(DOUBLED)
