@@ -4,7 +4,9 @@ import signal
 import socket
 import sys
 from types import FrameType
+from typing import Any
 
+import h11
 import uvicorn
 from uvicorn.protocols.http.h11_impl import H11Protocol
 
@@ -33,11 +35,26 @@ def address_of(listener: socket.socket) -> str:
     return f"http://[{host}]:{port}/" if ":" in host else f"http://{host}:{port}/"
 
 
+class PlainHttp(h11.Connection):
+    """HTTP whose server stays with it: a wish to upgrade to another protocol is ignored (RFC 9110, 7.8). Uvicorn refuses the request."""
+
+    def next_event(self) -> Any:
+        event = super().next_event()
+        if isinstance(event, h11.Request) and any(name == b"upgrade" for name, _ in event.headers):
+            headers = [(name, value) for name, value in event.headers if name not in (b"connection", b"upgrade")]
+            return h11.Request(method=event.method, target=event.target, headers=headers, http_version=event.http_version)
+        return event
+
+
 class Connection(H11Protocol):
     """A connection that is ended if there are too many, or if nothing moves on it for a time: no bytes come in, and the client takes none of
     a response. Uvicorn by itself holds any number of them, and waits for a first request, and for a client who doesn't read, without end."""
 
     _received = 0
+
+    def __init__(self, *args: Any, **more: Any) -> None:
+        super().__init__(*args, **more)
+        self.conn = PlainHttp(h11.SERVER)
 
     def connection_made(self, transport: asyncio.Transport) -> None:
         super().connection_made(transport)

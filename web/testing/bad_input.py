@@ -94,10 +94,13 @@ def look_at_requests(look: Look, gateway: Gateway) -> None:
     look(gateway.get("/api/v1/health", "HEAD").status == 200, "HEAD isn't answered")
     for data in (b"\0\1\2\r\n\r\n", b"GET\r\n\r\n", b"GET /" + b"x" * 100_000 + b" HTTP/1.1\r\n\r\n",
                  b"GET / HTTP/1.1\r\nhost: x\r\nx: " + b"y" * 100_000 + b"\r\n\r\n", b"GET /\xff HTTP/1.1\r\nhost: x\r\n\r\n",
-                 b"GET / HTTP/1.1\r\nhost: x\r\nno header at all\r\n\r\n", b"\x16\x03\x01\x02\0\x01\0\x01\xfc\r\n\r\n",
-                 b"GET / HTTP/1.1\r\nhost: x\r\nupgrade: websocket\r\nconnection: upgrade\r\n\r\n"):
+                 b"GET / HTTP/1.1\r\nhost: x\r\nno header at all\r\n\r\n", b"\x16\x03\x01\x02\0\x01\0\x01\xfc\r\n\r\n"):
         line = raw(gateway, data)
         look(not line or line.startswith(b"HTTP/1.1 4"), f"{data[:20]!r} is answered with {line!r}")
+    for protocol in ("websocket", "h2c"):
+        upgrade = {"Connection": "Upgrade, HTTP2-Settings", "HTTP2-Settings": "AAMAAABkAAQAAP__", "Upgrade": protocol}
+        status = gateway.get("/api/v1/health", headers=upgrade).status
+        look(status == 200, f"a request that may be upgraded to {protocol} has status {status}")
     headers = gateway.get("/api/v1/health").headers
     has_both = headers["X-Content-Type-Options"] == "nosniff" and headers["Access-Control-Allow-Origin"] == "*"
     look(has_both, "the interface lacks headers")
