@@ -14,7 +14,7 @@ from typing import Any
 
 from .comparing import is_plan
 from .feeds import clock, make_large_town
-from .running import Askers, Gateway, Reply, target
+from .running import Asker, Gateway, Reply, target
 
 Look = Callable[[object, str], None]
 CLIENTS, SECONDS, KILLS = 50, 20.0, 2
@@ -83,15 +83,15 @@ def run_clients(gateway: Gateway, targets: list[str], draw: random.Random) -> tu
     return [asked for some in lists for asked in some], lost, killed
 
 
-def look_at_answers(look: Look, askers: Askers, questions: list[tuple[str, str, str]], asked: list[Asked]) -> None:
+def look_at_answers(look: Look, asker: Asker, questions: list[tuple[str, str, str]], asked: list[Asked]) -> None:
     """Each answer is that of `tp ask` over the store that the gateway left."""
     answered = sorted({it.number for it in asked if it.status == 200})
 
     def answer(number: int) -> Any:
         start, end, at = questions[number]
-        return askers.ask(start, end, "--at", at)
+        return asker.ask(start, end, "--at", at)
 
-    with concurrent.futures.ThreadPoolExecutor(askers.count) as pool:
+    with concurrent.futures.ThreadPoolExecutor(os.cpu_count()) as pool:
         answers = dict(zip(answered, pool.map(answer, answered)))
     right = {(number, content): answers[number] is not None and is_plan(json.loads(content), answers[number])
              for number, content in {(it.number, it.content) for it in asked if it.status == 200}}
@@ -178,4 +178,4 @@ def look_at_load(look: Look, program: str, room: Path, draw: random.Random) -> N
     status, _ = gateway.end()
     look(status == 0, f"SIGTERM ended with status {status}")
     look_at_refusals(look, questions, asked)
-    look_at_answers(look, Askers(program, words, store), questions, asked)
+    look_at_answers(look, Asker(program, words, store), questions, asked)

@@ -2,9 +2,7 @@
 import http.client
 import json
 import os
-import queue
 import resource
-import shutil
 import subprocess
 import time
 import urllib.parse
@@ -23,24 +21,15 @@ def tp(program: str, *words: str) -> tuple[int, str, str]:
     return ran.returncode, ran.stdout.decode(), ran.stderr.decode()
 
 
-class Askers:
-    """`tp ask` over a store, several at once: each over a copy of its own, since one process at a time has a store open."""
+class Asker:
+    """`tp ask` over a store, which any number of processes may read at once."""
 
     def __init__(self, program: str, words: list[str], store: Path) -> None:
-        self._program, self._words = program, words
-        self._stores: queue.SimpleQueue[Path] = queue.SimpleQueue()
-        self.count = os.cpu_count() or 1
-        for number in range(self.count):
-            self._stores.put(Path(shutil.copy(store, f"{store}-{number}")))
+        self._program, self._words = program, [*words, f"--store={store}"]
 
     def ask(self, start: str, end: str, *more: str, form: str = "json") -> Any:
         """The answer in a format; none if there is none."""
-        store = self._stores.get()
-        try:
-            words = ["ask", *self._words, f"--from={start}", f"--to={end}", "--format", form, f"--store={store}", *more]
-            status, out, _ = tp(self._program, *words)
-        finally:
-            self._stores.put(store)
+        status, out, _ = tp(self._program, "ask", *self._words, f"--from={start}", f"--to={end}", "--format", form, *more)
         return json.loads(out) if status == 0 else None
 
 
