@@ -47,10 +47,8 @@ class PlainHttp(h11.Connection):
 
 
 class Connection(H11Protocol):
-    """A connection that is ended if there are too many, or if nothing moves on it for a time: no bytes come in, and the client takes none of
-    a response. Uvicorn by itself holds any number of them, and waits for a first request, and for a client who doesn't read, without end."""
-
-    _received = 0
+    """A connection that is ended if there are too many, or if nothing moves on it for a time: no whole request comes, and the client takes
+    nothing of a response. Uvicorn by itself holds any number of them, and waits without end for requests and for a client to read."""
 
     def __init__(self, *args: Any, **more: Any) -> None:
         super().__init__(*args, **more)
@@ -58,7 +56,7 @@ class Connection(H11Protocol):
 
     def connection_made(self, transport: asyncio.Transport) -> None:
         super().connection_made(transport)
-        self._watch((-1, -1))
+        self._watch(None)
         if len(self.connections) > CONNECTIONS + CONNECTIONS_TO_REFUSE:
             transport.abort()
 
@@ -66,18 +64,14 @@ class Connection(H11Protocol):
         self._watcher.cancel()
         super().connection_lost(exc)
 
-    def data_received(self, data: bytes) -> None:
-        self._received += len(data)
-        super().data_received(data)
-
     def timeout_keep_alive_handler(self) -> None:
         """Closes a connection between requests. Uvicorn's timer goes on if a request had come before the response to the last one ended."""
         if self.cycle is None or self.cycle.response_complete:
             super().timeout_keep_alive_handler()
 
-    def _watch(self, before: tuple[int, int]) -> None:
-        """Ends the connection if it is as it was at the look before this one."""
-        now = self._received, self.transport.get_write_buffer_size()
+    def _watch(self, before: tuple[object, int] | None) -> None:
+        """Ends the connection if its last request and what waits to be read are as they were at the look before this one."""
+        now = self.cycle, self.transport.get_write_buffer_size()
         if now == before:
             self.transport.abort()
         self._watcher = asyncio.get_running_loop().call_later(SECONDS_OF_A_STILL_CONNECTION, self._watch, now)

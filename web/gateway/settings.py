@@ -6,7 +6,7 @@ from pathlib import Path
 SECONDS_OF_A_QUESTION = 10.0
 SECONDS_OF_A_SEARCH = 5.0
 SECONDS_OF_THE_END = 10.0
-# More than a question or a search takes: while the planner computes, nothing moves on its connection.
+# More than a question or a search takes: while the planner computes, nothing moves on its connection. A request must come in this time.
 SECONDS_OF_A_STILL_CONNECTION = 15
 REQUESTS_AT_ONCE = 256
 CONNECTIONS = 1_024

@@ -5,6 +5,7 @@ import os
 import signal
 import socket
 import subprocess
+import threading
 import time
 from collections.abc import Callable
 from pathlib import Path
@@ -99,7 +100,12 @@ def connected(gateway: Gateway, data: bytes = b"") -> socket.socket:
 def reply_on(connection: socket.socket) -> bytes:
     """All bytes that come on a connection until it is closed, which this client doesn't do."""
     with connection, connection.makefile("rb") as stream:
-        return stream.read()
+        try:
+            return stream.read()
+        except ConnectionResetError:
+            return b""
+        except TimeoutError:
+            return b"it is still open"
 
 
 def unread_pages(gateway: Gateway) -> socket.socket:
@@ -165,12 +171,21 @@ def look_at_connections(look: Look, gateway: Gateway) -> None:
     look(is_answered(gateway), "after the connections are gone no request is answered")
 
 
+def send_slowly(connection: socket.socket) -> None:
+    """Sends a request whose end doesn't come, a byte each second, until the connection is closed."""
+    with contextlib.suppress(OSError):
+        for byte in b"GET / HTTP/1.1\r\n" + b"x" * 60:
+            connection.sendall(bytes([byte]))
+            time.sleep(1)
+
+
 def look_at_limits(look: Look, program: str, room: Path) -> None:
-    """More questions at once than are allowed, of a `tp` that never replies: each is refused, at once or after ten seconds. A connection on
-    which no request comes is closed."""
-    silent = script(room / "silent", f'[ "$1" = serve ] || exec {program} "$@"\nexec sleep 60')
+    """More questions at once than are allowed, of a `tp` that never replies: each is refused, at once or after ten seconds. Connections on
+    which no request comes in time are closed."""
+    silent = script(room / "silent", f'[ "$1" = serve ] || exec {program} "$@"\nexec sleep 600')
     gateway = Gateway(silent, "--feed", str(DEMO), "--date", "20240102", "--store", str(room / "silent-store"))
-    still = connected(gateway)
+    still, slow = connected(gateway), connected(gateway)
+    threading.Thread(target=send_slowly, args=(slow,), daemon=True).start()
     question = f"GET /api/v1/plan?fromPlace=A&toPlace=D&{TIME} HTTP/1.1\r\nhost: x\r\nconnection: close\r\n\r\n".encode()
     replies = [reply_on(it) for it in [connected(gateway, question) for _ in range(AT_ONCE + 40)]]
     look(all(it.startswith(b"HTTP/1.1 503") and b"retry-after" in it.lower() for it in replies), "a question isn't refused with 503")
@@ -179,6 +194,7 @@ def look_at_limits(look: Look, program: str, room: Path) -> None:
     health = gateway.get("/api/v1/health")
     look(health.status == 503 and health.headers["Retry-After"], f"the health of a gateway whose tp never replies has status {health.status}")
     look(reply_on(still) == b"", "a connection on which nothing moves isn't closed")
+    look(reply_on(slow) == b"", "a connection on which a request comes byte by byte isn't closed")
     look_at_connections(look, gateway)
     look(gateway.end() == (0, ""), "a gateway whose tp never replies did not end with status 0 and without a word")
 
