@@ -74,8 +74,8 @@ class Pipe:
             raise busy("tp has not replied in time" if self.is_ready else "tp is starting") from error
 
     async def run(self) -> tuple[int, str] | None:
-        """Keeps a process alive until the pipe is closed. Gives a status and why, if a fault of feed, store or options ends the first process
-        before its first reply."""
+        """Keeps a process alive until the pipe is closed. Gives a status and why, if the first process ends by a fault before
+        its first reply."""
         pause = FIRST_PAUSE
         while not self._is_closing:
             since = time.monotonic()

@@ -192,7 +192,8 @@ def look_at_limits(look: Look, program: str, room: Path) -> None:
     counts = [sum(text in it for it in replies) for text in (b"too many requests at once", b"tp is starting")]
     look(counts == [40, AT_ONCE], f"{counts[0]} questions were too many, and {counts[1]} not replied to")
     health = gateway.get("/api/v1/health")
-    look(health.status == 503 and health.headers["Retry-After"], f"the health of a gateway whose tp never replies has status {health.status}")
+    is_refused = health.status == 503 and health.headers["Retry-After"]
+    look(is_refused, f"the health of a gateway whose tp never replies has status {health.status}")
     look(reply_on(still) == b"", "a connection on which nothing moves isn't closed")
     look(reply_on(slow) == b"", "a connection on which a request comes byte by byte isn't closed")
     look_at_connections(look, gateway)

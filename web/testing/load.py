@@ -21,8 +21,8 @@ CLIENTS, SECONDS, KILLS = 50, 20.0, 2
 # A reply that takes longer is lost. The gateway refuses a question after ten seconds, so this holds on a busy machine too.
 PATIENCE = 30.0
 QUESTIONS = 100
-# The questions leave from the first stops, whose trees are built early, and from the last ones. One worker builds all trees of the town
-# over these days in about a minute, so that trees are built to the end of the time.
+# The questions leave from the first stops, whose trees are built early, and from the last ones. One worker takes about a minute for all
+# trees of the town over these days, so it builds trees to the end of the time.
 STOPS, SOURCES, LAST = 2_000, 120, 20
 DAYS = "14"
 TICKS = os.sysconf("SC_CLK_TCK")

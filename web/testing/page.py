@@ -351,7 +351,7 @@ def take_screenshot(look: Look, program: str, room: Path) -> None:
 def look_at_page(look: Look, program: str, room: Path) -> None:
     make_feed(room / "named")
     words = ["--feed", str(room / "named"), "--date", "20240102", "--store", str(room / "page")]
-    look(tp(program, "check", "--feed", str(room / "named"))[0] == 0, "the feed is at fault")
+    look(tp(program, "check", "--feed", str(room / "named"))[0] == 0, "the feed has a fault")
     gateway = Gateway(program, *words)
     look(gateway.wait(True) and gateway.wait_for("lines", "through stops"), "the gateway has not stored all trees")
     browser = chromium()
