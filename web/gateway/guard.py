@@ -63,6 +63,7 @@ class Guard:
                     headers["Allow"] = "GET, HEAD"
                 if scope["path"].startswith(API):
                     headers["Access-Control-Allow-Origin"] = "*"
+                    headers["Access-Control-Expose-Headers"] = "Retry-After"
                     headers["Cache-Control"] = "no-store"
             await send(message)
 

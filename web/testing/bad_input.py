@@ -102,8 +102,8 @@ def look_at_requests(look: Look, gateway: Gateway) -> None:
         status = gateway.get("/api/v1/health", headers=upgrade).status
         look(status == 200, f"a request that may be upgraded to {protocol} has status {status}")
     headers = gateway.get("/api/v1/health").headers
-    has_both = headers["X-Content-Type-Options"] == "nosniff" and headers["Access-Control-Allow-Origin"] == "*"
-    look(has_both, "the interface lacks headers")
+    wanted = {"X-Content-Type-Options": "nosniff", "Access-Control-Allow-Origin": "*", "Access-Control-Expose-Headers": "Retry-After"}
+    look({name: headers[name] for name in wanted} == wanted, f"the interface has the headers {dict(headers)}")
     look("script-src 'self'" in gateway.get("/").headers["Content-Security-Policy"], "the page has no policy")
 
 
