@@ -55,8 +55,8 @@ const ids = [...document.querySelectorAll("[id]")].map((it) => it.id);
 return ids.filter((it, at) => ids.indexOf(it) !== at);
 """
 # What a screen reader must have a name for, and what it must be given of the page.
-NAMED_ROLES = ("combobox", "listbox", "button", "link", "DisclosureTriangle", "region", "search", "heading", "DateTime")
-PARTS = {("combobox", "From"), ("combobox", "To"), ("DateTime", "Leave at"), ("button", "Find journeys"), ("button", "Swap from and to"),
+NAMED_ROLES = ("combobox", "listbox", "button", "link", "DisclosureTriangle", "region", "search", "heading")
+PARTS = {("combobox", "From"), ("combobox", "To"), ("button", "Find journeys"), ("button", "Swap from and to"),
          ("region", "Journeys found"), ("region", "Map"), ("group", "Map of the open journey"), ("search", "Journey")}
 
 
@@ -260,6 +260,7 @@ def look_at_looks(look: Look, page: Page) -> None:
     unnamed = [role for role, name in parts if role in NAMED_ROLES and not name]
     look(not unnamed, f"a screen reader has no name for {unnamed}")
     look(PARTS <= set(parts), f"a screen reader isn't given {sorted(PARTS - set(parts))}")
+    look("Leave at" in [name for _, name in parts], "a screen reader has no name for the time")
 
 
 def read_parts(page: Page) -> list[tuple[str, str]]:
