@@ -11,7 +11,7 @@ from pathlib import Path
 from typing import Any
 
 from selenium.common.exceptions import TimeoutException
-from selenium.webdriver import Chrome
+from selenium.webdriver import ActionChains, Chrome
 from selenium.webdriver.chrome.options import Options
 from selenium.webdriver.chrome.service import Service
 from selenium.webdriver.common.by import By
@@ -65,7 +65,7 @@ def make_feed(folder: Path) -> None:
     folder.mkdir()
     write(folder, "stops.txt", [
         ("stop_id", "stop_name", "stop_lat", "stop_lon"), ("H", "Café du Port", 49.50, -7.02), ("X", "Café Noir", 49.49, -7.03),
-        ("T", "Town Hall", 49.51, -7.00), ("M", "Market", 49.512, -6.996), ("C", "Castle", 49.53, -6.97),
+        ("T", "Town Hall", 49.51, -7.00), ("M", "<b>Market</b>", 49.512, -6.996), ("C", "Castle", 49.53, -6.97),
         ("N", "Nowhere <b>else</b>", "", "")])
     write(folder, "routes.txt", [("route_id", "route_short_name"), ("R4", 4), ("R9", 9)])
     write(folder, "trips.txt", [
@@ -168,14 +168,17 @@ def look_at_journeys(look: Look, page: Page) -> None:
     line = page.find("#map path.ride").get_attribute("d")
     look(line.count("L") == 2, f"the ride isn't drawn through the stop between: {line!r}")
     page.press(Keys.TAB, Keys.TAB, Keys.ENTER)
-    wanted = ["4 towards Town Hall\n09:00 board at Café du Port\n09:10 alight at Town Hall", "Walk 4 min to Market\nThere at 09:14",
-              "6 min to change or wait", "9 towards Castle\n09:20 board at Market\n09:35 alight at Castle"]
+    wanted = ["4 towards Town Hall\n09:00 board at Café du Port\n09:10 alight at Town Hall", "Walk 4 min to <b>Market</b>\nThere at 09:14",
+              "6 min to change or wait", "9 towards Castle\n09:20 board at <b>Market</b>\n09:35 alight at Castle"]
     look(page.wait(lambda: [it.text for it in page.all("details[open] .legs li")] == wanted),
          f"the second journey has {[it.text for it in page.all('details[open] .legs li')]}")
     look(page.wait(lambda: len(page.all("#map path.walk")) == 1), "the map doesn't show the journey that was opened")
     counts = {kind: len(page.all(f"#map path.{kind}")) for kind in ("ride", "walk", "stop", "end")}
     look(counts == {"ride": 2, "walk": 1, "stop": 2, "end": 2}, f"the map has {counts}")
     look(is_within_map(page), "the ends of the journey are not within the map")
+    ActionChains(page.browser).move_to_element(page.all("#map path.stop")[1]).perform()
+    is_named = page.wait(lambda: [it.text for it in page.all("#map .leaflet-tooltip")] == ["<b>Market</b>"])
+    look(is_named, "a stop on the map isn't named as text")
 
 
 def look_at_the_address(look: Look, page: Page) -> None:
