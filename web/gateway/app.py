@@ -44,7 +44,7 @@ async def response_of(_: Request, error: Exception) -> Response:
     if isinstance(error, HTTPException):
         name = {404: "NotFound", 405: "BadMethod"}.get(error.status_code, "BadRequest")
         return refused(Refusal(error.status_code, name, error.detail))
-    return refused(Refusal(500, "Fault", "the gateway is at fault"))
+    return refused(Refusal(500, "Fault", "the gateway has a fault"))
 
 
 class Handlers:

@@ -57,12 +57,13 @@ class Guard:
             if message["type"] == "http.response.start":
                 headers = MutableHeaders(scope=message)
                 headers["X-Content-Type-Options"] = "nosniff"
-                headers["Referrer-Policy"] = "no-referrer"
+                headers["Referrer-Policy"] = "strict-origin"  # public servers of tiles want the name of the site that asks
                 headers["Content-Security-Policy"] = self._policy
                 if message["status"] == 405:
                     headers["Allow"] = "GET, HEAD"
                 if scope["path"].startswith(API):
                     headers["Access-Control-Allow-Origin"] = "*"
+                    headers["Access-Control-Expose-Headers"] = "Retry-After"
                     headers["Cache-Control"] = "no-store"
             await send(message)
 

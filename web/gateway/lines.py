@@ -1,7 +1,7 @@
 """The lines of rides through the stops between, from a second `tp serve`.
 
-The replies in JSON lack these stops, and those in GeoJSON lack the names and times of a plan. One process at a time has a store open, so
-the second one has a copy of it, which is made once all trees are stored. Until then, and whenever it doesn't reply, lines are straight.
+The replies in JSON lack these stops, and those in GeoJSON lack the names and times of a plan. Each `tp serve` has its store for itself. So
+the second one has a copy, which is made once all trees are stored. Until then, and whenever it doesn't reply, lines are straight.
 """
 import asyncio
 import json

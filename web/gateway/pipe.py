@@ -1,6 +1,6 @@
 """The pipe to `tp serve`: questions go in line by line, and replies come out in the same order.
 
-One process at a time has a store open, so there is one pipe, and all requests share it. A process that ends is started again, and the
+`tp serve` has the store for itself, so there is one pipe, and all requests share it. A process that ends is started again, and the
 questions that it left without a reply are asked again. Questions are read one by one, so the first of them is the one at which it ended.
 """
 import asyncio
@@ -74,8 +74,8 @@ class Pipe:
             raise busy("tp has not replied in time" if self.is_ready else "tp is starting") from error
 
     async def run(self) -> tuple[int, str] | None:
-        """Keeps a process alive until the pipe is closed. Gives a status and why, if a fault of the feed, of the store or of the options
-        ends the first process before its first reply."""
+        """Keeps a process alive until the pipe is closed. Gives a status and why, if the first process ends by a fault before
+        its first reply."""
         pause = FIRST_PAUSE
         while not self._is_closing:
             since = time.monotonic()

@@ -80,7 +80,7 @@ class Planner:
         try:
             await work
         except Exception as error:
-            fail(STATUS_OF_A_MISTAKE, f"the gateway is at fault: {error!r}")
+            fail(STATUS_OF_A_MISTAKE, f"the gateway has a fault: {error!r}")
 
     async def _keep_pipe(self, fail: Fail) -> None:
         fault = await self._pipe.run()

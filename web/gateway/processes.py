@@ -1,10 +1,19 @@
-"""Processes of `tp`. Each starts without a shell and in a process group of its own, so that Ctrl-C ends only the gateway."""
+"""This process, and those of `tp`. They start without a shell and in a process group of their own, so that Ctrl-C ends only the gateway."""
 import asyncio
 import contextlib
+import resource
 
-from .settings import BYTES_OF_A_REPLY
+from .settings import BYTES_OF_A_REPLY, OPEN_FILES
 
 Streams = tuple[asyncio.StreamWriter, asyncio.StreamReader, asyncio.StreamReader]
+
+
+def allow_open_files() -> None:
+    """Lets this process have more files open than the usual 1,024, if the system allows it."""
+    now, most = resource.getrlimit(resource.RLIMIT_NOFILE)
+    wanted = OPEN_FILES if most == resource.RLIM_INFINITY else min(OPEN_FILES, most)
+    if now != resource.RLIM_INFINITY and now < wanted:
+        resource.setrlimit(resource.RLIMIT_NOFILE, (wanted, most))
 
 
 async def start(words: list[str]) -> asyncio.subprocess.Process:

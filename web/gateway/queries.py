@@ -7,11 +7,12 @@ from .settings import BYTES_OF_AN_ID, CHARACTERS_OF_A_TEXT
 
 PARAMETERS = 32
 MOST_ITINERARIES = 100
-# Parameters of MOTIS that would change which journeys are right, and the values by which they don't.
+# Parameters of MOTIS that would change which journeys are right, and the values by which they don't. No journey has more than 7 changes.
 UNCHANGING = {
-    "arriveBy": {"false"}, "via": {""}, "pageCursor": {""}, "transitModes": {"", "TRANSIT"}, "maxTransfers": {""}, "maxTravelTime": {""},
-    "minTransferTime": {"", "0"}, "additionalTransferTime": {"", "0"}, "transferTimeFactor": {"", "1", "1.0"},
-    "requireBikeTransport": {"false"}, "requireCarTransport": {"false"},
+    "arriveBy": {"false"}, "via": {""}, "pageCursor": {""}, "transitModes": {"", "TRANSIT"}, "maxTravelTime": {""},
+    "maxTransfers": {"", *map(str, range(7, 100))}, "minTransferTime": {"", "0"}, "additionalTransferTime": {"", "0"},
+    "transferTimeFactor": {"", "1", "1.0"}, "pedestrianProfile": {"", "FOOT"}, "requireBikeTransport": {"false"},
+    "requireCarTransport": {"false"},
 }
 
 
@@ -69,11 +70,11 @@ def count_of(found: dict[str, str], name: str) -> int | None:
 
 
 def plan_query(query: bytes) -> PlanQuery:
-    """The parameters of plan. What isn't offered is refused if it would change the answer, and passed over if not."""
+    """The parameters of plan. What isn't offered is refused if it would change the answer, and ignored if not."""
     found = parameters_of(query)
     for name, values in UNCHANGING.items():
         if name in found and found[name] not in values:
-            raise Refusal(400, "NotOffered", f"{name}: no other value is offered than {' or '.join(sorted(values)) or 'none'}")
+            raise Refusal(400, "NotOffered", f"{name}: a value that would change the answer is not offered")
     return PlanQuery(stop_id(found, "fromPlace"), stop_id(found, "toPlace"), found.get("time"), count_of(found, "numItineraries"))
 
 

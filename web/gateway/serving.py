@@ -4,14 +4,16 @@ import signal
 import socket
 import sys
 from types import FrameType
+from typing import Any
 
+import h11
 import uvicorn
 from uvicorn.protocols.http.h11_impl import H11Protocol
 
 from .app import application
-from .settings import SECONDS_OF_A_STILL_CONNECTION, SECONDS_OF_THE_END, Settings
-
-CONNECTIONS = 1_024
+from .processes import allow_open_files
+from .settings import (
+    CONNECTIONS, CONNECTIONS_AT_A_TIME, CONNECTIONS_TO_REFUSE, SECONDS_OF_A_STILL_CONNECTION, SECONDS_OF_THE_END, Settings)
 
 
 def listening(host: str, port: int) -> socket.socket:
@@ -21,7 +23,7 @@ def listening(host: str, port: int) -> socket.socket:
     try:
         listener.setsockopt(socket.SOL_SOCKET, socket.SO_REUSEADDR, 1)
         listener.bind((host, port))
-        listener.listen(CONNECTIONS)
+        listener.listen(CONNECTIONS_AT_A_TIME)
     except OSError:
         listener.close()
         raise
@@ -33,32 +35,43 @@ def address_of(listener: socket.socket) -> str:
     return f"http://[{host}]:{port}/" if ":" in host else f"http://{host}:{port}/"
 
 
-class Connection(H11Protocol):
-    """A connection that is ended if nothing moves on it for a time: no bytes come in, and the client takes none of a response. Uvicorn by
-    itself waits for a first request, and for a client who doesn't read, without end."""
+class PlainHttp(h11.Connection):
+    """HTTP whose server stays with it: a wish to upgrade to another protocol is ignored (RFC 9110, 7.8). Uvicorn refuses the request."""
 
-    _received = 0
+    def next_event(self) -> Any:
+        event = super().next_event()
+        if isinstance(event, h11.Request) and any(name == b"upgrade" for name, _ in event.headers):
+            headers = [(name, value) for name, value in event.headers if name not in (b"connection", b"upgrade")]
+            return h11.Request(method=event.method, target=event.target, headers=headers, http_version=event.http_version)
+        return event
+
+
+class Connection(H11Protocol):
+    """A connection that is ended if there are too many, or if nothing moves on it for a time: no whole request comes, and the client takes
+    nothing of a response. Uvicorn by itself holds any number of them, and waits without end for requests and for a client to read."""
+
+    def __init__(self, *args: Any, **more: Any) -> None:
+        super().__init__(*args, **more)
+        self.conn = PlainHttp(h11.SERVER)
 
     def connection_made(self, transport: asyncio.Transport) -> None:
         super().connection_made(transport)
-        self._watch((-1, -1))
+        self._watch(None)
+        if len(self.connections) > CONNECTIONS + CONNECTIONS_TO_REFUSE:
+            transport.abort()
 
     def connection_lost(self, exc: Exception | None) -> None:
         self._watcher.cancel()
         super().connection_lost(exc)
-
-    def data_received(self, data: bytes) -> None:
-        self._received += len(data)
-        super().data_received(data)
 
     def timeout_keep_alive_handler(self) -> None:
         """Closes a connection between requests. Uvicorn's timer goes on if a request had come before the response to the last one ended."""
         if self.cycle is None or self.cycle.response_complete:
             super().timeout_keep_alive_handler()
 
-    def _watch(self, before: tuple[int, int]) -> None:
-        """Ends the connection if it is as it was at the look before this one."""
-        now = self._received, self.transport.get_write_buffer_size()
+    def _watch(self, before: tuple[object, int] | None) -> None:
+        """Ends the connection if its last request and what waits to be read are as they were at the look before this one."""
+        now = self.cycle, self.transport.get_write_buffer_size()
         if now == before:
             self.transport.abort()
         self._watcher = asyncio.get_running_loop().call_later(SECONDS_OF_A_STILL_CONNECTION, self._watch, now)
@@ -88,7 +101,7 @@ class Service:
         # A warning of Uvicorn has parts of a request that is no HTTP, and nothing of a request is part of a log.
         self._server = Server(uvicorn.Config(
             app, log_level="error", access_log=False, http=Connection, ws="none", lifespan="on", loop="asyncio", server_header=False,
-            timeout_keep_alive=SECONDS_OF_A_STILL_CONNECTION, limit_concurrency=CONNECTIONS,
+            timeout_keep_alive=SECONDS_OF_A_STILL_CONNECTION, limit_concurrency=CONNECTIONS, backlog=CONNECTIONS_AT_A_TIME,
         ))
 
     def _fail(self, status: int, cause: str) -> None:
@@ -102,6 +115,7 @@ class Service:
         """Answers to the end, and gives the status."""
         signal.signal(signal.SIGTERM, self._leave)
         signal.signal(signal.SIGINT, self._leave)
+        allow_open_files()
         try:
             self._server.run(sockets=[listener])
         except SystemExit as error:

@@ -6,9 +6,15 @@ from pathlib import Path
 SECONDS_OF_A_QUESTION = 10.0
 SECONDS_OF_A_SEARCH = 5.0
 SECONDS_OF_THE_END = 10.0
-# More than a question or a search takes: while the planner computes, nothing moves on its connection.
+# More than a question or a search takes: while the planner computes, nothing moves on its connection. A request must come in this time.
 SECONDS_OF_A_STILL_CONNECTION = 15
 REQUESTS_AT_ONCE = 256
+CONNECTIONS = 1_024
+# Of the connections beyond these, some stay to be refused with words, and all others are ended. Few are taken at a time, so that they can't
+# use up the files that the process may have open.
+CONNECTIONS_TO_REFUSE = 64
+CONNECTIONS_AT_A_TIME = 256
+OPEN_FILES = 4_096
 SEARCHES_AT_ONCE = 4
 QUESTIONS_IN_THE_PIPE = 2_048
 BYTES_OF_A_PATH = 1_024

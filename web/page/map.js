@@ -66,12 +66,14 @@ export class JourneyMap {
         L.control.scale({ imperial: false }).addTo(this.map);
         if (settings.tiles) this.addTiles(settings);
         this.layer = null;
+        this.map.on("resize", () => this.fit());
     }
 
     addTiles({ tiles, attribution }) {
         const named = document.createElement("span");
         named.textContent = attribution || "";
         L.tileLayer(tiles, { attribution: named.innerHTML, maxZoom: 19 }).addTo(this.map);
+        this.map.getContainer().classList.add("tiled");
     }
 
     clear() {
@@ -87,10 +89,16 @@ export class JourneyMap {
             named.append(text(it.properties.name));
             layer.bindTooltip(named);
         } }).addTo(this.map);
-        const bounds = this.layer.getBounds();
-        if (bounds.isValid()) this.map.fitBounds(bounds, { padding: [30, 30], maxZoom: 16 });
-        this.note.textContent = bounds.isValid()
+        this.note.textContent = this.fit()
             ? "The map shows the journey that is open in the list. The list has all that the map has, in words."
             : "The feed has no positions for the stops of this journey, so the map shows nothing.";
+    }
+
+    // Moves the map to the journey, also if a phone is turned. False if there is nothing to show.
+    fit() {
+        const bounds = this.layer && this.layer.getBounds();
+        const isShown = Boolean(bounds) && bounds.isValid();
+        if (isShown) this.map.fitBounds(bounds, { padding: [30, 30], maxZoom: 16 });
+        return isShown;
     }
 }

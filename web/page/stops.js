@@ -75,7 +75,7 @@ export class StopField {
         this.found = found;
         this.list.replaceChildren(...found.map((stop, place) => this.option(stop, place)));
         const count = found.length === 1 ? "1 stop" : `${found.length || "No"} stops`;
-        this.say(found.length ? `${count} found; the arrow keys choose.` : "No stop has this name.");
+        this.say(found.length ? `${count} found; the arrow keys choose.` : "No stop has this in its name or id.");
         this.list.hidden = !found.length;
         this.input.setAttribute("aria-expanded", String(Boolean(found.length)));
         this.mark(-1);

@@ -18,10 +18,10 @@ PLANS = {
     f"fromPlace={LONG}&toPlace=D&{TIME}": 400, f"fromPlace=A&toPlace={LONG}&{TIME}": 400,
     f"fromPlace={'x' * 2_048}&toPlace=D&{TIME}": 400, f"fromPlace={'x' * 8_200}&toPlace=D&{TIME}": 414,
     # ids that no stop has, among them paths, commands and positions
-    **{f"fromPlace={stop}&toPlace=D&{TIME}": 400 for stop in (
+    **{f"{ends}={stop}&{TIME}": 400 for ends in ("toPlace=D&fromPlace", "fromPlace=A&toPlace") for stop in (
         "X", "a", "../../etc/passwd", "/etc/passwd", "%24(id)", "%60id%60", "--help", "48.1,11.5", "A%20", "A;id", "A%7Cid", "%22A%22")},
     # control characters, and bytes that are no UTF-8
-    **{f"fromPlace=A{code}&toPlace=D&{TIME}": 400 for code in (
+    **{f"{ends}A{code}&{TIME}": 400 for ends in ("toPlace=D&fromPlace=", "fromPlace=A&toPlace=") for code in (
         "%00", "%09", "%0A", "%0D", "%1B", "%7F", "%C2%85", "%FF", "%C3", "%ED%A0%80")},
     f"fromPlace=A%09D%0920240102%0908:00:00%0AB&toPlace=D&{TIME}": 400, f"fromPlace=A&toPlace=D%0A&{TIME}": 400,
     "fromPlace=A&toPlace=D&time=2024-01-02T08:00:00Z%0A": 400, f"from%00Place=A&fromPlace=A&toPlace=D&{TIME}": 400,
@@ -40,9 +40,11 @@ PLANS = {
     **{f"fromPlace=A&toPlace=D&{TIME}&numItineraries={text}": 400 for text in (
         "0", "-1", "101", "1.5", "x", "", "1e1", "%D9%A1", "9" * 30, "0x1")},
     **{f"fromPlace=A&toPlace=D&{TIME}&{more}": 400 for more in (
-        "arriveBy=true", "via=B", "pageCursor=x", "maxTransfers=1", "transitModes=BUS")},
+        "arriveBy=true", "via=B", "pageCursor=x", "maxTransfers=1", "maxTransfers=-1", "transitModes=BUS", "pedestrianProfile=WHEELCHAIR",
+        "requireBikeTransport=true", "minTransferTime=5")},
     # what is right
     f"fromPlace=A&toPlace=D&{TIME}": 200, f"fromPlace=A&toPlace=D&{TIME}&numItineraries=5&arriveBy=false&via=&withFares=true": 200,
+    f"fromPlace=A&toPlace=D&{TIME}&maxTransfers=14&pedestrianProfile=FOOT": 200,
     **{f"fromPlace=%41&toPlace=D&time={text}": 200 for text in (
         "2024-01-02t08:00:00z", "2024-01-02T09:30:00.25%2B01:30", "2024-01-02T00:00:00", "2024-01-02T23:59:59Z")},
 }
@@ -92,13 +94,16 @@ def look_at_requests(look: Look, gateway: Gateway) -> None:
     look(gateway.get("/api/v1/health", "HEAD").status == 200, "HEAD isn't answered")
     for data in (b"\0\1\2\r\n\r\n", b"GET\r\n\r\n", b"GET /" + b"x" * 100_000 + b" HTTP/1.1\r\n\r\n",
                  b"GET / HTTP/1.1\r\nhost: x\r\nx: " + b"y" * 100_000 + b"\r\n\r\n", b"GET /\xff HTTP/1.1\r\nhost: x\r\n\r\n",
-                 b"GET / HTTP/1.1\r\nhost: x\r\nno header at all\r\n\r\n", b"\x16\x03\x01\x02\0\x01\0\x01\xfc\r\n\r\n",
-                 b"GET / HTTP/1.1\r\nhost: x\r\nupgrade: websocket\r\nconnection: upgrade\r\n\r\n"):
+                 b"GET / HTTP/1.1\r\nhost: x\r\nno header at all\r\n\r\n", b"\x16\x03\x01\x02\0\x01\0\x01\xfc\r\n\r\n"):
         line = raw(gateway, data)
         look(not line or line.startswith(b"HTTP/1.1 4"), f"{data[:20]!r} is answered with {line!r}")
+    for protocol in ("websocket", "h2c"):
+        upgrade = {"Connection": "Upgrade, HTTP2-Settings", "HTTP2-Settings": "AAMAAABkAAQAAP__", "Upgrade": protocol}
+        status = gateway.get("/api/v1/health", headers=upgrade).status
+        look(status == 200, f"a request that may be upgraded to {protocol} has status {status}")
     headers = gateway.get("/api/v1/health").headers
-    has_both = headers["X-Content-Type-Options"] == "nosniff" and headers["Access-Control-Allow-Origin"] == "*"
-    look(has_both, "the interface lacks headers")
+    wanted = {"X-Content-Type-Options": "nosniff", "Access-Control-Allow-Origin": "*", "Access-Control-Expose-Headers": "Retry-After"}
+    look({name: headers[name] for name in wanted} == wanted, f"the interface has the headers {dict(headers)}")
     look("script-src 'self'" in gateway.get("/").headers["Content-Security-Policy"], "the page has no policy")
 
 

@@ -1,18 +1,23 @@
 """How the gateway starts, ends, and lives with a `tp` that ends."""
+import contextlib
+import http.client
 import os
 import signal
 import socket
 import subprocess
+import threading
 import time
 from collections.abc import Callable
 from pathlib import Path
+
+from gateway.processes import allow_open_files
 
 from .bad_input import DEMO, TIME
 from .running import WEB, Gateway, is_alive, tp
 
 Look = Callable[[object, str], None]
 RUN = str(WEB / "run")
-AT_ONCE = 256
+AT_ONCE, HELD = 256, 1_088
 
 
 def run(*words: str) -> tuple[int, str]:
@@ -95,7 +100,12 @@ def connected(gateway: Gateway, data: bytes = b"") -> socket.socket:
 def reply_on(connection: socket.socket) -> bytes:
     """All bytes that come on a connection until it is closed, which this client doesn't do."""
     with connection, connection.makefile("rb") as stream:
-        return stream.read()
+        try:
+            return stream.read()
+        except ConnectionResetError:
+            return b""
+        except TimeoutError:
+            return b"it is still open"
 
 
 def unread_pages(gateway: Gateway) -> socket.socket:
@@ -137,19 +147,56 @@ def look_at_a_fatal_question(look: Look, program: str, room: Path) -> None:
     look(gateway.end()[0] == 0, "the gateway with a fragile tp did not end with status 0")
 
 
+def is_answered(gateway: Gateway) -> bool:
+    """Whether a request gets an answer of the gateway within a time."""
+    end = time.monotonic() + 30
+    while time.monotonic() < end:
+        with contextlib.suppress(OSError, http.client.HTTPException):
+            if b'"stops"' in gateway.get("/api/v1/health").content:
+                return True
+    return False
+
+
+def look_at_connections(look: Look, gateway: Gateway) -> None:
+    """More connections than are held, on which nothing is asked: the last are ended at once. On the others requests are refused, until
+    some have gone."""
+    allow_open_files()
+    connections = [connected(gateway) for _ in range(HELD + 20)]
+    look(all(reply_on(it) == b"" for it in connections[-10:]), "a connection that is one too many isn't ended")
+    connections[0].sendall(b"GET /api/v1/health HTTP/1.1\r\nhost: x\r\n\r\n")
+    line = reply_on(connections[0])
+    look(line.startswith(b"HTTP/1.1 503"), f"a request beside too many connections is answered with {line[:100]!r}")
+    for it in connections:
+        it.close()
+    look(is_answered(gateway), "after the connections are gone no request is answered")
+
+
+def send_slowly(connection: socket.socket) -> None:
+    """Sends a request whose end doesn't come, a byte each second, until the connection is closed."""
+    with contextlib.suppress(OSError):
+        for byte in b"GET / HTTP/1.1\r\n" + b"x" * 60:
+            connection.sendall(bytes([byte]))
+            time.sleep(1)
+
+
 def look_at_limits(look: Look, program: str, room: Path) -> None:
-    """More questions at once than are allowed, of a `tp` that never replies: each is refused, at once or after ten seconds. A connection on
-    which no request comes is closed."""
-    silent = script(room / "silent", f'[ "$1" = serve ] || exec {program} "$@"\nexec sleep 60')
+    """More questions at once than are allowed, of a `tp` that never replies: each is refused, at once or after ten seconds. Connections on
+    which no request comes in time are closed."""
+    silent = script(room / "silent", f'[ "$1" = serve ] || exec {program} "$@"\nexec sleep 600')
     gateway = Gateway(silent, "--feed", str(DEMO), "--date", "20240102", "--store", str(room / "silent-store"))
-    still = connected(gateway)
+    still, slow = connected(gateway), connected(gateway)
+    threading.Thread(target=send_slowly, args=(slow,), daemon=True).start()
     question = f"GET /api/v1/plan?fromPlace=A&toPlace=D&{TIME} HTTP/1.1\r\nhost: x\r\nconnection: close\r\n\r\n".encode()
     replies = [reply_on(it) for it in [connected(gateway, question) for _ in range(AT_ONCE + 40)]]
     look(all(it.startswith(b"HTTP/1.1 503") and b"retry-after" in it.lower() for it in replies), "a question isn't refused with 503")
     counts = [sum(text in it for it in replies) for text in (b"too many requests at once", b"tp is starting")]
     look(counts == [40, AT_ONCE], f"{counts[0]} questions were too many, and {counts[1]} not replied to")
-    look(gateway.get("/api/v1/health").status == 503, "the health of a gateway whose tp never replies is not 503")
+    health = gateway.get("/api/v1/health")
+    is_refused = health.status == 503 and health.headers["Retry-After"]
+    look(is_refused, f"the health of a gateway whose tp never replies has status {health.status}")
     look(reply_on(still) == b"", "a connection on which nothing moves isn't closed")
+    look(reply_on(slow) == b"", "a connection on which a request comes byte by byte isn't closed")
+    look_at_connections(look, gateway)
     look(gateway.end() == (0, ""), "a gateway whose tp never replies did not end with status 0 and without a word")
 
 

@@ -14,15 +14,18 @@ from typing import Any
 
 from .comparing import is_plan
 from .feeds import clock, make_large_town
-from .running import Askers, Gateway, Reply, target
+from .running import Asker, Gateway, Reply, target
 
 Look = Callable[[object, str], None]
 CLIENTS, SECONDS, KILLS = 50, 20.0, 2
-QUESTIONS = 200
-# The questions leave from the first stops, whose trees are built early, and from the last ones. One worker builds all trees of the town
-# over these days in about a minute, so that trees are built to the end of the time.
+# A reply that takes longer is lost. The gateway refuses a question after ten seconds, so this holds on a busy machine too.
+PATIENCE = 30.0
+QUESTIONS = 100
+# The questions leave from the first stops, whose trees are built early, and from the last ones. One worker takes about a minute for all
+# trees of the town over these days, so it builds trees to the end of the time.
 STOPS, SOURCES, LAST = 2_000, 120, 20
 DAYS = "14"
+TICKS = os.sysconf("SC_CLK_TCK")
 
 
 @dataclass(frozen=True)
@@ -39,7 +42,7 @@ class Asked:
 
 def ask_all(host: str, targets: list[str], end: float, draw: random.Random, lost: list[str]) -> list[Asked]:
     """One client: asks one question after the other on one connection until the time is over."""
-    connection, asked = http.client.HTTPConnection(host, timeout=60), []
+    connection, asked = http.client.HTTPConnection(host, timeout=PATIENCE), []
     while time.monotonic() < end:
         number, since = draw.randrange(len(targets)), time.monotonic()
         try:
@@ -59,7 +62,8 @@ def kill_planner(gateway: Gateway, end: float, killed: list[int]) -> None:
     pause = (end - time.monotonic()) / (KILLS + 1)
     for _ in range(KILLS):
         time.sleep(pause)
-        planner = gateway.planner()
+        while (planner := gateway.planner()) is None and time.monotonic() < end:
+            time.sleep(0.1)
         if planner is not None:
             os.kill(planner, signal.SIGKILL)
             killed.append(planner)
@@ -79,15 +83,15 @@ def run_clients(gateway: Gateway, targets: list[str], draw: random.Random) -> tu
     return [asked for some in lists for asked in some], lost, killed
 
 
-def look_at_answers(look: Look, askers: Askers, questions: list[tuple[str, str, str]], asked: list[Asked]) -> None:
+def look_at_answers(look: Look, asker: Asker, questions: list[tuple[str, str, str]], asked: list[Asked]) -> None:
     """Each answer is that of `tp ask` over the store that the gateway left."""
     answered = sorted({it.number for it in asked if it.status == 200})
 
     def answer(number: int) -> Any:
         start, end, at = questions[number]
-        return askers.ask(start, end, "--at", at)
+        return asker.ask(start, end, "--at", at)
 
-    with concurrent.futures.ThreadPoolExecutor(askers.count) as pool:
+    with concurrent.futures.ThreadPoolExecutor(os.cpu_count()) as pool:
         answers = dict(zip(answered, pool.map(answer, answered)))
     right = {(number, content): answers[number] is not None and is_plan(json.loads(content), answers[number])
              for number, content in {(it.number, it.content) for it in asked if it.status == 200}}
@@ -112,7 +116,37 @@ def look_at_refusals(look: Look, questions: list[tuple[str, str, str]], asked: l
     look(unstored, "no question was refused as not stored, so trees were not built meanwhile")
 
 
-def report(asked: list[Asked], stored: int, stops: int) -> None:
+def busy_seconds() -> float:
+    """The processor time that all processes of the machine have taken."""
+    user, nice, system, _, _, *more = map(int, Path("/proc/stat").read_text().split("\n", 1)[0].split()[1:9])
+    return (user + nice + system + sum(more)) / TICKS
+
+
+def seconds_of(process: int | None) -> float:
+    """The processor time of a process, and of those that it started and that have ended."""
+    try:
+        return sum(map(int, Path(f"/proc/{process}/stat").read_text().rpartition(")")[2].split()[11:15])) / TICKS
+    except OSError:
+        return 0.0
+
+
+class OtherWork:
+    """What all other processes took of the machine's processors, since this was made."""
+
+    def __init__(self, gateway: Gateway) -> None:
+        self._gateway, self._since = gateway, time.monotonic()
+        self._own, self._busy = self._own_seconds(), busy_seconds()
+
+    def share(self) -> float:
+        own = self._own_seconds() - self._own
+        spent = (time.monotonic() - self._since) * (os.cpu_count() or 1)
+        return max(0.0, busy_seconds() - self._busy - own) / spent
+
+    def _own_seconds(self) -> float:
+        return sum(map(seconds_of, (os.getpid(), self._gateway.process.pid, self._gateway.planner())))
+
+
+def report(asked: list[Asked], other: float, stored: int, stops: int) -> None:
     """Prints what was measured, for a reader to judge: on an idle machine 50 ms at the 99th of a hundred, and trees left to build."""
     times = sorted(it.until - it.since for it in asked)
     answers = sum(it.status == 200 for it in asked)
@@ -120,6 +154,7 @@ def report(asked: list[Asked], stored: int, stops: int) -> None:
             (("50th of a hundred", 0.5), ("99th", 0.99), ("slowest", 1.0))]
     counts = f"{len(asked)} replies, {answers} of them answers"
     print(f"{CLIENTS} clients, {SECONDS:.0f} s: {counts}; {', '.join(shares)}; {stored} of {stops} trees stored")
+    print(f"other work took {other:.0%} of the processors meanwhile")
 
 
 def look_at_load(look: Look, program: str, room: Path, draw: random.Random) -> None:
@@ -131,14 +166,16 @@ def look_at_load(look: Look, program: str, room: Path, draw: random.Random) -> N
     targets = [target("plan", fromPlace=start, toPlace=end, time=f"2024-01-02T{at}Z") for start, end, at in questions]
     gateway = Gateway(program, *words, "--store", str(store), "--workers", "1", "--straight")
     look(gateway.wait(False), "the gateway did not become ready")
+    other_work = OtherWork(gateway)
     asked, lost, killed = run_clients(gateway, targets, draw)
+    other = other_work.share()
     look(len(killed) == KILLS, f"only {len(killed)} times was tp killed")
     look(not lost, f"{len(lost)} replies were lost, as by {lost[:1]}")
     look(gateway.wait(False), "the gateway is not ready after the load")
     state = gateway.get("/api/v1/health").json
-    report(asked, state["stored"], state["stops"])
+    report(asked, other, state["stored"], state["stops"])
     look(state["starts"] == KILLS + 1, f"tp was started {state['starts']} times")
     status, _ = gateway.end()
     look(status == 0, f"SIGTERM ended with status {status}")
     look_at_refusals(look, questions, asked)
-    look_at_answers(look, Askers(program, words, store), questions, asked)
+    look_at_answers(look, Asker(program, words, store), questions, asked)

@@ -2,6 +2,7 @@
 import base64
 import http.server
 import json
+import re
 import shutil
 import threading
 import time
@@ -10,7 +11,7 @@ from pathlib import Path
 from typing import Any
 
 from selenium.common.exceptions import TimeoutException
-from selenium.webdriver import Chrome
+from selenium.webdriver import ActionChains, Chrome
 from selenium.webdriver.chrome.options import Options
 from selenium.webdriver.chrome.service import Service
 from selenium.webdriver.common.by import By
@@ -48,14 +49,15 @@ for (const element of document.querySelectorAll("body *")) {
 }
 return least;
 """
-# What a screen reader would have no name for, and ids that stand twice.
-UNNAMED = """
-const named = (it) => it.getAttribute("aria-label") || it.labels?.length || it.textContent.trim() || it.getAttribute("aria-labelledby")
-    || it.title;
-const parts = document.querySelectorAll("input, button, a[href], summary, [role=listbox], [role=group], section, form");
+# Ids that stand twice.
+DOUBLED = """
 const ids = [...document.querySelectorAll("[id]")].map((it) => it.id);
-return [...[...parts].filter((it) => !named(it)).map((it) => it.outerHTML.slice(0, 80)), ...ids.filter((it, at) => ids.indexOf(it) !== at)];
+return ids.filter((it, at) => ids.indexOf(it) !== at);
 """
+# What a screen reader must have a name for, and what it must be given of the page.
+NAMED_ROLES = ("combobox", "listbox", "button", "link", "DisclosureTriangle", "region", "search", "heading")
+PARTS = {("combobox", "From"), ("combobox", "To"), ("button", "Find journeys"), ("button", "Swap from and to"),
+         ("region", "Journeys found"), ("region", "Map"), ("group", "Map of the open journey"), ("search", "Journey")}
 
 
 def make_feed(folder: Path) -> None:
@@ -63,7 +65,7 @@ def make_feed(folder: Path) -> None:
     folder.mkdir()
     write(folder, "stops.txt", [
         ("stop_id", "stop_name", "stop_lat", "stop_lon"), ("H", "Café du Port", 49.50, -7.02), ("X", "Café Noir", 49.49, -7.03),
-        ("T", "Town Hall", 49.51, -7.00), ("M", "Market", 49.512, -6.996), ("C", "Castle", 49.53, -6.97),
+        ("T", "Town Hall", 49.51, -7.00), ("M", "<b>Market</b>", 49.512, -6.996), ("C", "Castle", 49.53, -6.97),
         ("N", "Nowhere <b>else</b>", "", "")])
     write(folder, "routes.txt", [("route_id", "route_short_name"), ("R4", 4), ("R9", 9)])
     write(folder, "trips.txt", [
@@ -141,6 +143,7 @@ def look_at_typing(look: Look, page: Page) -> None:
     look(is_announced, f"the number of suggestions isn't announced: {note.text!r}")
     page.press(Keys.ARROW_DOWN, Keys.ARROW_DOWN, Keys.ARROW_UP, Keys.ARROW_DOWN)
     look(field.get_attribute("aria-activedescendant") == "from-stops-1", "the arrow keys don't mark a stop")
+    look_at_contrast(look, page)
     page.press(Keys.ENTER)
     look(field.get_attribute("value") == "Café du Port" and not page.suggested("from"), "Enter doesn't choose the marked stop")
     page.press(Keys.TAB, "cast")
@@ -148,6 +151,11 @@ def look_at_typing(look: Look, page: Page) -> None:
     page.press(Keys.ESCAPE)
     look(not page.suggested("to"), "Escape doesn't close the list")
     page.press(Keys.ENTER)
+
+
+def is_within_map(page: Page) -> bool:
+    frame, shapes = page.find("#map").rect, [it.rect for it in page.all("#map path.end")]
+    return all(frame[at] <= it[at] <= frame[at] + frame[length] for it in shapes for at, length in (("x", "width"), ("y", "height")))
 
 
 def look_at_journeys(look: Look, page: Page) -> None:
@@ -160,17 +168,17 @@ def look_at_journeys(look: Look, page: Page) -> None:
     line = page.find("#map path.ride").get_attribute("d")
     look(line.count("L") == 2, f"the ride isn't drawn through the stop between: {line!r}")
     page.press(Keys.TAB, Keys.TAB, Keys.ENTER)
-    wanted = ["4 towards Town Hall\n09:00 board at Café du Port\n09:10 alight at Town Hall", "Walk 4 min to Market\nThere at 09:14",
-              "6 min to change or wait", "9 towards Castle\n09:20 board at Market\n09:35 alight at Castle"]
+    wanted = ["4 towards Town Hall\n09:00 board at Café du Port\n09:10 alight at Town Hall", "Walk 4 min to <b>Market</b>\nThere at 09:14",
+              "6 min to change or wait", "9 towards Castle\n09:20 board at <b>Market</b>\n09:35 alight at Castle"]
     look(page.wait(lambda: [it.text for it in page.all("details[open] .legs li")] == wanted),
          f"the second journey has {[it.text for it in page.all('details[open] .legs li')]}")
     look(page.wait(lambda: len(page.all("#map path.walk")) == 1), "the map doesn't show the journey that was opened")
     counts = {kind: len(page.all(f"#map path.{kind}")) for kind in ("ride", "walk", "stop", "end")}
     look(counts == {"ride": 2, "walk": 1, "stop": 2, "end": 2}, f"the map has {counts}")
-    frame, shapes = page.find("#map").rect, [it.rect for it in page.all("#map path.end")]
-    sides = (("x", "width"), ("y", "height"))
-    inside = all(frame[at] <= it[at] <= frame[at] + frame[length] for it in shapes for at, length in sides)
-    look(inside, "the ends of the journey are not within the map")
+    look(is_within_map(page), "the ends of the journey are not within the map")
+    ActionChains(page.browser).move_to_element(page.all("#map path.stop")[1]).perform()
+    is_named = page.wait(lambda: [it.text for it in page.all("#map .leaflet-tooltip")] == ["<b>Market</b>"])
+    look(is_named, "a stop on the map isn't named as text")
 
 
 def look_at_the_address(look: Look, page: Page) -> None:
@@ -197,6 +205,7 @@ def look_at_refusals(look: Look, page: Page) -> None:
     is_refused = page.wait(lambda: "not within the covered days" in page.find("#refused").text)
     look(is_refused, f"a day is refused as {page.find('#refused').text!r}")
     look(page.find("#refused").get_attribute("role") == "alert", "a refusal isn't announced")
+    look_at_contrast(look, page)
     page.browser.execute_script(set_value, page.find("#when"), "2024-01-02T08:00")
     field.clear()
     field.send_keys("nowhere", Keys.ENTER)
@@ -229,19 +238,38 @@ def look_at_a_tree_that_comes(look: Look, page: Page, address: str) -> None:
     look(page.wait(lambda: len(page.all("#journeys summary")) == 2), "the question isn't asked again")
 
 
-def look_at_looks(look: Look, page: Page) -> None:
-    """Widths, contrast, names for screen readers, and what the browser complains of."""
-    for scheme in ("light", "dark"):
-        for width in (320, 360, 768, 1000):
-            page.width(width, scheme)
-            needed = page.browser.execute_script("return document.documentElement.scrollWidth")
-            look(needed <= width, f"at a width of {width} the page is {needed} wide")
+def look_at_contrast(look: Look, page: Page) -> None:
+    """The contrast of each text as the page is now."""
+    for scheme in ("dark", "light"):
+        page.width(1000, scheme)
         ratio, text = page.browser.execute_script(CONTRAST)
         look(ratio >= 4.5, f"in {scheme} the contrast of {text[:40]!r} is {ratio:.2f}")
+
+
+def look_at_looks(look: Look, page: Page) -> None:
+    """Widths, contrast, and names for screen readers."""
+    look_at_contrast(look, page)
+    for width in (320, 360, 768, 1000):
+        page.width(width, "light")
+        needed = page.browser.execute_script("return document.documentElement.scrollWidth")
+        look(needed <= width, f"at a width of {width} the page is {needed} wide")
+        look(page.wait(lambda: is_within_map(page)), f"at a width of {width} the ends of the journey are not within the map")
     small = [it.text for it in page.all("input, button, summary") if it.is_displayed() and it.rect["height"] < 44]
     look(not small, f"too small for a finger: {small}")
-    look(not page.browser.execute_script(UNNAMED), f"without a name or doubled: {page.browser.execute_script(UNNAMED)}")
+    doubled = page.browser.execute_script(DOUBLED)
+    look(not doubled, f"ids that stand twice: {doubled}")
     look(page.find("html").get_attribute("lang") == "en" and page.browser.title, "the page has no language or title")
+    parts = read_parts(page)
+    unnamed = [role for role, name in parts if role in NAMED_ROLES and not name]
+    look(not unnamed, f"a screen reader has no name for {unnamed}")
+    look(PARTS <= set(parts), f"a screen reader isn't given {sorted(PARTS - set(parts))}")
+    look("Leave at" in [name for _, name in parts], "a screen reader has no name for the time")
+
+
+def read_parts(page: Page) -> list[tuple[str, str]]:
+    """The roles and names of what the browser gives a screen reader."""
+    nodes = page.browser.execute_cdp_cmd("Accessibility.getFullAXTree", {})["nodes"]
+    return [(it["role"]["value"], it["name"]["value"]) for it in nodes if not it["ignored"] and "name" in it]
 
 
 def keep_screenshot(page: Page) -> None:
@@ -264,26 +292,22 @@ def look_at_no_scripts(look: Look, address: str) -> None:
 def look_at_unready(look: Look, program: str, room: Path, browser: Chrome) -> None:
     """What the page says while the planner is starting: the gateway has a `tp` that never replies."""
     silent = room / "silent"
-    silent.write_text(f'#!/bin/sh\n[ "$1" = serve ] || exec {program} "$@"\nexec sleep 60\n')
+    silent.write_text(f'#!/bin/sh\n[ "$1" = serve ] || exec {program} "$@"\nexec cat >/dev/null\n')
     silent.chmod(0o755)
     gateway = Gateway(str(silent), "--feed", str(room / "named"), "--date", "20240102", "--store", str(room / "silent-store"))
     try:
         page = Page(browser, gateway.address)
         is_starting = page.wait(lambda: "starting" in page.find("#progress").text)
         look(is_starting, f"before tp replies the page says {page.find('#progress').text!r}")
-        reply = gateway.get("/api/v1/health")
-        look(reply.status == 503 and reply.headers["Retry-After"], f"before tp replies the health has status {reply.status}")
-        reply = gateway.get("/api/v1/plan?fromPlace=H&toPlace=C&time=2024-01-02T08:00:00Z")
-        look(reply.status == 503 and reply.headers["Retry-After"], f"before tp replies plan has status {reply.status}")
     finally:
         look(gateway.end()[0] == 0, "a gateway whose tp never replies did not end with status 0")
 
 
 class Tiles(http.server.BaseHTTPRequestHandler):
-    """Answers each address of a tile with one pixel."""
+    """Answers each address of a tile with one pixel, if a header names the site that asks. Public servers of tiles want that."""
 
     def do_GET(self) -> None:
-        self.send_response(200)
+        self.send_response(200 if re.fullmatch(r"http://127\.0\.0\.1:\d+/", self.headers["Referer"] or "") else 403)
         self.send_header("Content-Type", "image/png")
         self.end_headers()
         self.wfile.write(PIXEL)
@@ -303,6 +327,9 @@ def look_at_tiles(look: Look, program: str, room: Path, browser: Chrome) -> None
             look(page.wait(lambda: page.all("#map .leaflet-tile-loaded")), "no tile is loaded")
             named = page.find("#map .leaflet-control-attribution").text
             look(named == "<b>Owner</b>", f"the owner of the tiles is named as {named!r}")
+            page.width(1000, "dark")
+            color = page.browser.execute_script("return getComputedStyle(document.getElementById('map')).getPropertyValue('--ride')")
+            look(color == "#0b57a4", f"over tiles in dark a ride has the colour {color}")
         finally:
             look(gateway.end()[0] == 0, "the gateway with tiles did not end with status 0")
             server.shutdown()
@@ -328,7 +355,7 @@ def take_screenshot(look: Look, program: str, room: Path) -> None:
 def look_at_page(look: Look, program: str, room: Path) -> None:
     make_feed(room / "named")
     words = ["--feed", str(room / "named"), "--date", "20240102", "--store", str(room / "page")]
-    look(tp(program, "check", "--feed", str(room / "named"))[0] == 0, "the feed is at fault")
+    look(tp(program, "check", "--feed", str(room / "named"))[0] == 0, "the feed has a fault")
     gateway = Gateway(program, *words)
     look(gateway.wait(True) and gateway.wait_for("lines", "through stops"), "the gateway has not stored all trees")
     browser = chromium()

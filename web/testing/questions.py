@@ -10,7 +10,7 @@ from pathlib import Path
 
 from .comparing import is_plan
 from .feeds import make_odd_town
-from .running import Askers, Gateway, target, tp
+from .running import Asker, Gateway, target, tp
 
 RULE, ZONE = "CET-1CEST,M3.5.0,M10.5.0/3", zoneinfo.ZoneInfo("Europe/Berlin")
 # Three days, within which summer time begins; the second and the third start by the noon of each.
@@ -53,10 +53,10 @@ def moments(first: datetime.datetime, count: int, draw: random.Random) -> list[d
     return [datetime.datetime.fromtimestamp(second, datetime.UTC) for second in seconds]
 
 
-def question(gateway: Gateway, askers: Askers, asked: tuple[str, str, str, str, str]) -> bool:
+def question(gateway: Gateway, asker: Asker, asked: tuple[str, str, str, str, str]) -> bool:
     """Whether the gateway's answer to a question is that of `tp ask`, which must leave at the same moment."""
     start, end, date, clock, text = asked
-    answer, lines = (askers.ask(start, end, "--on", date, "--at", clock, form=form) for form in ("json", "geojson"))
+    answer, lines = (asker.ask(start, end, "--on", date, "--at", clock, form=form) for form in ("json", "geojson"))
     reply = gateway.get(target("plan", fromPlace=start, toPlace=end, time=text))
     if answer is None or reply.status != 200:
         return False
@@ -67,7 +67,7 @@ def question(gateway: Gateway, askers: Askers, asked: tuple[str, str, str, str, 
 
 
 def look_at_questions(look: Look, program: str, room: Path, count: int, draw: random.Random) -> None:
-    """Random questions. The gateway's store is one, and that of `tp ask` another, since one process at a time has a store open."""
+    """Random questions. The gateway's store is one, and that of `tp ask` another, since `tp serve` has its store for itself."""
     ids = make_odd_town(room / "odd", draw)
     with concurrent.futures.ThreadPoolExecutor(os.cpu_count()) as pool:
         for name, first, share in (("spring", FIRST, 0.8), ("autumn", FALLS_BACK, 0.2)):
@@ -75,14 +75,14 @@ def look_at_questions(look: Look, program: str, room: Path, count: int, draw: ra
             gateway = Gateway(program, *words, "--store", str(room / f"gateway-{name}"))
             store = room / f"asked-{name}"
             look(tp(program, "build", *words, "--store", str(store))[0] == 0, "the store to compare with was not built")
-            askers = Askers(program, words, store)
+            asker = Asker(program, words, store)
             look(gateway.wait(True) and gateway.wait_for("lines", "through stops"), "the gateway has not stored all trees")
             asked = []
             for moment in moments(first, int(count * share), draw):
                 day = service_time(moment, first)
                 if day is not None:
                     asked.append((draw.choice(ids), draw.choice(ids), *day, time_text(moment, draw)))
-            for one, right in zip(asked, pool.map(lambda it: question(gateway, askers, it), asked)):
+            for one, right in zip(asked, pool.map(lambda it: question(gateway, asker, it), asked)):
                 look(right, f"{one} has another answer than tp ask gives")
             if name == "spring":
                 look_at_texts(look, gateway, program, room / "odd", ids)

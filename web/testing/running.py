@@ -2,8 +2,7 @@
 import http.client
 import json
 import os
-import queue
-import shutil
+import resource
 import subprocess
 import time
 import urllib.parse
@@ -12,6 +11,8 @@ from typing import Any
 
 WEB = Path(__file__).resolve().parent.parent
 SECONDS = 120
+# How many files a process may have open, if nobody allows it more.
+FILES = 1_024
 
 
 def tp(program: str, *words: str) -> tuple[int, str, str]:
@@ -20,24 +21,15 @@ def tp(program: str, *words: str) -> tuple[int, str, str]:
     return ran.returncode, ran.stdout.decode(), ran.stderr.decode()
 
 
-class Askers:
-    """`tp ask` over a store, several at once: each over a copy of its own, since one process at a time has a store open."""
+class Asker:
+    """`tp ask` over a store, which any number of processes may read at once."""
 
     def __init__(self, program: str, words: list[str], store: Path) -> None:
-        self._program, self._words = program, words
-        self._stores: queue.SimpleQueue[Path] = queue.SimpleQueue()
-        self.count = os.cpu_count() or 1
-        for number in range(self.count):
-            self._stores.put(Path(shutil.copy(store, f"{store}-{number}")))
+        self._program, self._words = program, [*words, f"--store={store}"]
 
     def ask(self, start: str, end: str, *more: str, form: str = "json") -> Any:
         """The answer in a format; none if there is none."""
-        store = self._stores.get()
-        try:
-            words = ["ask", *self._words, f"--from={start}", f"--to={end}", "--format", form, f"--store={store}", *more]
-            status, out, _ = tp(self._program, *words)
-        finally:
-            self._stores.put(store)
+        status, out, _ = tp(self._program, "ask", *self._words, f"--from={start}", f"--to={end}", "--format", form, *more)
         return json.loads(out) if status == 0 else None
 
 
@@ -52,12 +44,24 @@ class Reply:
         return json.loads(self.content)
 
 
+def take_usual_limit() -> None:
+    resource.setrlimit(resource.RLIMIT_NOFILE, (FILES, resource.getrlimit(resource.RLIMIT_NOFILE)[1]))
+
+
+def words_of(process: str) -> list[bytes]:
+    """The words that a process was started with; none if it has ended."""
+    try:
+        return Path(f"/proc/{process}/cmdline").read_bytes().split(b"\0")
+    except OSError:
+        return []
+
+
 class Gateway:
-    """A gateway of its own, on a port that is free."""
+    """A gateway of its own, on a port that is free. It may have as many files open as a shell allows."""
 
     def __init__(self, program: str, *options: str) -> None:
         words = [str(WEB / "run"), "--port", "0", "--program", program, *options]
-        self.process = subprocess.Popen(words, stdout=subprocess.PIPE, stderr=subprocess.PIPE, text=True)
+        self.process = subprocess.Popen(words, stdout=subprocess.PIPE, stderr=subprocess.PIPE, text=True, preexec_fn=take_usual_limit)
         self.address = self.process.stdout.readline().strip() if self.process.stdout else ""
         self.host = urllib.parse.urlsplit(self.address).netloc
 
@@ -95,7 +99,7 @@ class Gateway:
         """The number of the process of `tp serve` that replies in a format."""
         children = Path(f"/proc/{self.process.pid}/task/{self.process.pid}/children")
         for child in children.read_text().split():
-            words = Path(f"/proc/{child}/cmdline").read_bytes().split(b"\0")
+            words = words_of(child)
             if words[1:2] == [b"serve"] and b"--format=" + form in words:
                 return int(child)
         return None
