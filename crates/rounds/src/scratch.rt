@@ -122,12 +122,18 @@ fn known(layers: &[Layer], index: usize) -> &Row
     &layers[index - 1].ready
 }
 
+// Where and when the journeys of a run start.
+#[derive(Clone, Copy)]
+struct Start {
+    source: StopId,
+    depart: u32,
+}
+
 // What comes of one layer by one ride more, where all are done up to it.
 fn ride_from(
     table: &Timetable,
     lines: &Lines,
-    source: StopId,
-    depart: u32,
+    start: &Start,
     index: usize,
     layers: &mut [Layer],
     noted: &mut Noted,
@@ -138,8 +144,8 @@ fn ride_from(
     requires noted { length noted.old ≡ length lines.now.lines }
     requires few { index < 8 }
     requires index { index < length rounds.old }
-    requires done { DoneTo table.now source depart index layers.old rounds.old }
-    ensures done { DoneTo table.now source depart (index + 1) layers.new rounds.new }
+    requires done { DoneTo table.now start.now.source start.now.depart index layers.old rounds.old }
+    ensures done { DoneTo table.now start.now.source start.now.depart (index + 1) layers.new rounds.new }
     ensures settled { (r : ℕ) → (round_at rounds.new r).settled ≡ (round_at rounds.old r).settled }
     ensures same { length noted.new ≡ length noted.old }
 {
@@ -160,8 +166,7 @@ fn ride_from(
 fn ride_layers(
     table: &Timetable,
     lines: &Lines,
-    source: StopId,
-    depart: u32,
+    start: &Start,
     layers: &mut [Layer],
     noted: &mut Noted,
     rounds: &mut [Row],
@@ -170,13 +175,13 @@ fn ride_layers(
     requires valid { IsTable table.now }
     requires noted { length noted.old ≡ length lines.now.lines }
     requires few { length rounds.old ≤ 8 }
-    requires begun { DoneTo table.now source depart 0 layers.old rounds.old }
-    ensures done { DoneTo table.now source depart (length rounds.old) layers.new rounds.new }
+    requires begun { DoneTo table.now start.now.source start.now.depart 0 layers.old rounds.old }
+    ensures done { DoneTo table.now start.now.source start.now.depart (length rounds.old) layers.new rounds.new }
     ensures settled { (r : ℕ) → (round_at rounds.new r).settled ≡ (round_at rounds.old r).settled }
     ensures same { length noted.new ≡ length noted.old }
 {
     for index in 0..rounds.len() {
-        ride_from(table, lines, source, depart, index, layers, noted, rounds);
+        ride_from(table, lines, start, index, layers, noted, rounds);
     }
 }
 
@@ -205,7 +210,8 @@ fn run_layers(
 {
     settle_rounds(rounds);
     begin_layers(table, source, depart, layers);
-    ride_layers(table, lines, source, depart, layers, noted, rounds);
+    let start = Start { source, depart };
+    ride_layers(table, lines, &start, layers, noted, rounds);
 }
 
 impl Scratch {

@@ -23,7 +23,7 @@ ride_on-requires-clause-short c =
     let low : n < length layers = (let z = is.sizes in let i = c.requires.index in omega (arith, z, i)) in
     let under = c.index-front-index.is ∙ (c.split_at_mut-front.ensures.by_index.0 n c.index-front-index.result (omega arith) ∙ read_at layers n c.index-front-index.result low) in
     subst (λ (y : Layer). AllShort 7 y.ready.marks) (sym under)
-    (ready_short c.args.table.now c.args.source c.args.depart n (layer_at layers n).ready.marks (omega (arith, c.requires.few)) (is.done n (let k : n ≤ n = omega arith in k)).readies)
+    (ready_short c.args.table.now c.args.start.now.source c.args.start.now.depart n (layer_at layers n).ready.marks (omega (arith, c.requires.few)) (is.done n (let k : n ≤ n = omega arith in k)).readies)
 
 pub ride_on-requires-clause-early : goal.ride_on-requires-clause-early
 ride_on-requires-clause-early c =
@@ -33,7 +33,7 @@ ride_on-requires-clause-early c =
     let low : n < length layers = (let z = is.sizes in let i = c.requires.index in omega (arith, z, i)) in
     let under = c.index-front-index.is ∙ (c.split_at_mut-front.ensures.by_index.0 n c.index-front-index.result (omega arith) ∙ read_at layers n c.index-front-index.result low) in
     subst (λ (y : Layer). AllEarly LATEST_MOMENT y.rode.marks) (sym under)
-    (rode_early c.args.table.now c.args.source c.args.depart n (layer_at layers n).rode.marks c.requires.valid (is.done n (let k : n ≤ n = omega arith in k)).rides)
+    (rode_early c.args.table.now c.args.start.now.source c.args.start.now.depart n (layer_at layers n).rode.marks c.requires.valid (is.done n (let k : n ≤ n = omega arith in k)).rides)
 
 pub ride_on-requires-clause-rode : goal.ride_on-requires-clause-rode
 ride_on-requires-clause-rode c =
@@ -43,7 +43,7 @@ ride_on-requires-clause-rode c =
     let in' : suc n < length layers = (let z = is.sizes in let i = c.requires.index in omega (arith, z, i)) in
     let here = second_read layers c.split_at_mut-front.result.1.now n c.index-back-0.result (c.split_at_mut-front.ensures.by_index.1 0 c.index-back-0.result) in' in
     subst (λ (y : Layer). AllEarly LATEST_MOMENT y.rode.marks) (sym here)
-    (rides_early c.args.table.now c.args.source c.args.depart (suc n) (layer_at layers (suc n)).rode.marks c.requires.valid (is.begun (suc n) (let k : n < suc n = omega arith in k) in').rides)
+    (rides_early c.args.table.now c.args.start.now.source c.args.start.now.depart (suc n) (layer_at layers (suc n)).rode.marks c.requires.valid (is.begun (suc n) (let k : n < suc n = omega arith in k) in').rides)
 
 pub ride_on-requires-clause-next : goal.ride_on-requires-clause-next
 ride_on-requires-clause-next c =
@@ -69,7 +69,7 @@ ride_on-requires-clause-served c =
     let under = c.index-front-index.is ∙ (c.split_at_mut-front.ensures.by_index.0 n c.index-front-index.result (omega arith) ∙ read_at layers n c.index-front-index.result low) in
     let same : (r : ℕ) → r < n + 1 → layer_at front r ≡ layer_at layers r = λ r lt. c.split_at_mut-front.ensures.by_index.0 r no_layer lt in
     subst (λ (y : Layer). Served T (arrivals_of c.known.result.now) y.rode.marks) (sym under)
-    (known_served T c.args.source c.args.depart n layers c.args.rounds.now c.known.result.now is
+    (known_served T c.args.start.now.source c.args.start.now.depart n layers c.args.rounds.now c.known.result.now is
     (λ e. c.known.ensures.first e ∙ ap (λ (y : Layer). y.rode) (same 0 (omega (arith, e))))
     (λ r e. c.known.ensures.later r e ∙ ap (λ (y : Layer). y.ready) (same r (omega (arith, e))))).0
 
@@ -96,7 +96,7 @@ returns-clause-done c =
     subst (λ (y : Layer). Ridden T y (layer_at layers (suc n)) x (round_at rounds n) round) under
     (subst (λ (y : Layer). Ridden T c.index-front-index.result y x (round_at rounds n) round) here
     (subst (λ (z : RowData). Ridden T c.index-front-index.result (get_or back 0 c.index-back-0.result) x z round) ends ridden)) in
-    rw (parts, add-one) (done_next T c.args.source c.args.depart n layers (slice_set layers (suc n) x) rounds (slice_set rounds n round) x round c.requires.valid
+    rw (parts, add-one) (done_next T c.args.start.now.source c.args.start.now.depart n layers (slice_set layers (suc n) x) rounds (slice_set rounds n round) x round c.requires.valid
     (length-set layers (suc n) x) (length-set rounds n round) lt
     (λ r ne. get_or-set_other layers (suc n) r x no_layer ne)
     (get_or-set_same layers (suc n) x no_layer in')
