@@ -22,12 +22,23 @@ const MOST_LEVELS: u8 = 8;
 /// For how many siblings memory is reserved at most before they are read.
 const RESERVED_NODES: usize = 64;
 
+/// How many of so many items there are bytes for, if each takes `size` bytes at least.
+fn there(input: &Input, size: usize, count: usize) -> usize
+    requires { 0 < size }
+{
+    // A division is slow, and seldom needed.
+    if count.saturating_mul(size) <= input.bytes.len() {
+        count
+    } else {
+        input.bytes.len() / size
+    }
+}
+
 /// How many siblings memory is reserved for before they are read: no more than there are bytes for. A node has two stops, a number of ends
 /// and a number of children, and at least one end or child.
 fn reserved(input: &Input, form: StopForm, count: u32) -> usize {
-    let stop = form.width.byte_count();
-    let there = input.bytes.len() / (4 * stop + Width::Four.byte_count());
-    there.min(count as usize).min(RESERVED_NODES)
+    let size = 4 * form.width.byte_count() + Width::Four.byte_count();
+    there(input, size, (count as usize).min(RESERVED_NODES))
 }
 
 /// How many nodes and ends may still come.
@@ -74,8 +85,8 @@ fn ends<A: Allocator>(
     ensures { Gives (λ ends. (ends.items, input.new.bytes.now)) result
         (ends_at (byte_count form.width) form.stops count None input.old.bytes.now) }
 {
-    let there = input.bytes.len() / form.width.byte_count();
-    let mut ends = Vec::with_capacity(alloc, there.min(count as usize))?;
+    let room = there(input, form.width.byte_count(), count as usize);
+    let mut ends = Vec::with_capacity(alloc, room)?;
     let mut last = None;
     for _ in 0..count {
         let end = input.stop(form)?;
