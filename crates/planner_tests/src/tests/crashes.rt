@@ -10,6 +10,14 @@ use std::sync::Arc;
 use std::test::Fail;
 use timetable::{Rides, Timetable};
 
+// A crash of a life: at which call of the disk it is stopped, how long a file it leaves, and how many receipts it had given.
+#[derive(Clone, Copy)]
+struct Crash {
+    call: u64,
+    len: u64,
+    receipts: usize,
+}
+
 // A life of all five sources on an empty file, stopped at the n-th call of the disk.
 fn life_until(alloc: Global, table: &Arc<Timetable>, n: u64) -> Life<MemDisk> {
     let mut disk = MemDisk::new(alloc);
@@ -18,15 +26,17 @@ fn life_until(alloc: Global, table: &Arc<Timetable>, n: u64) -> Life<MemDisk> {
     life_of(alloc, table, disk, &orders)
 }
 
-// The file that a crash of that life leaves, of this length and with these bytes where it leaves them open.
+// The file that a crash of that life leaves, with these bytes where it leaves them open.
 fn left_at(
     alloc: Global,
     table: &Arc<Timetable>,
-    n: u64,
-    len: u64,
+    crash: &Crash,
     fill: &[u8],
 ) -> Result<MemDisk, Fail> {
-    match life_until(alloc, table, n).disk.crash(len, fill) {
+    match life_until(alloc, table, crash.call)
+        .disk
+        .crash(crash.len, fill)
+    {
         Ok(disk) => Ok(disk),
         Err(_) => Err(Fail::new("no such crash")),
     }
@@ -48,16 +58,15 @@ fn check_crash(
     rt: &impl Abort,
     alloc: Global,
     table: &Arc<Timetable>,
-    n: u64,
-    len: u64,
-    receipts: usize,
+    crash: &Crash,
     fill: &[u8],
 ) -> Result<(), Fail> {
-    let disk = left_at(alloc, table, n, len, fill)?;
+    let disk = left_at(alloc, table, crash, fill)?;
     match recover(alloc, disk, table, Rides::new(3)) {
         Ok(found) => {
             let list = found.store.stored();
-            assert!(rt; list.len() == receipts || list.len() == receipts.saturating_add(1));
+            let least = crash.receipts;
+            assert!(rt; list.len() == least || list.len() == least.saturating_add(1));
             assert!(rt; is_first(list));
             Ok(())
         }
@@ -70,34 +79,32 @@ fn check_length(
     rt: &impl Abort,
     alloc: Global,
     table: &Arc<Timetable>,
-    n: u64,
-    len: u64,
+    crash: &Crash,
     open: usize,
-    receipts: usize,
     target: &[u8],
 ) -> Result<(), Fail> {
     for byte in [0, 0xFF, 0xA5_u8] {
         let fill = vec![in alloc; byte; open]?;
-        check_crash(rt, alloc, table, n, len, receipts, &fill)?;
+        check_crash(rt, alloc, table, crash, &fill)?;
     }
     let zeros = bytes_of(
         alloc,
-        &mut left_at(alloc, table, n, len, &vec![in alloc; 0; open]?)?,
+        &mut left_at(alloc, table, crash, &vec![in alloc; 0; open]?)?,
     )?;
     let ones = bytes_of(
         alloc,
-        &mut left_at(alloc, table, n, len, &vec![in alloc; 0xFF; open]?)?,
+        &mut left_at(alloc, table, crash, &vec![in alloc; 0xFF; open]?)?,
     )?;
     let mut fill = written_in(alloc, &zeros, &ones, target)?;
     assert_eq!(rt; fill.len(), open);
-    check_crash(rt, alloc, table, n, len, receipts, &fill)?;
+    check_crash(rt, alloc, table, crash, &fill)?;
     for byte in fill.iter_mut() {
         *byte = !*byte;
     }
-    check_crash(rt, alloc, table, n, len, receipts, &fill)?;
+    check_crash(rt, alloc, table, crash, &fill)?;
     if open == 1 {
         for value in 0..=255 {
-            check_crash(rt, alloc, table, n, len, receipts, &[value])?;
+            check_crash(rt, alloc, table, crash, &[value])?;
         }
     }
     Ok(())
@@ -117,7 +124,12 @@ fn check_stop(
     let receipts = receipts_of(&life);
     for len in 0..400 {
         if let Some(open) = life.disk.open_bytes(len) {
-            check_length(rt, alloc, table, n, len, open as usize, receipts, &target)?;
+            let crash = Crash {
+                call: n,
+                len,
+                receipts,
+            };
+            check_length(rt, alloc, table, &crash, open as usize, &target)?;
         }
     }
     Ok(life.end != End::Done)
