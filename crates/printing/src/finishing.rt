@@ -70,7 +70,8 @@ pub fn show<O: Write + Drop, E: Write + Drop>(
     }
 }
 
-/// Prints what a command came to on standard output, or says its fault on standard error, as the voice has it. Gives the status to end with.
+/// Prints what a command came to on standard output, or says its fault on standard error, as the voice has it. Gives the status to end
+/// with.
 pub fn finish<T: Teller, O: Write + Drop, E: Write + Drop>(
     alloc: Global,
     teller: &T,

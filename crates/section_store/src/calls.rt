@@ -34,7 +34,8 @@ impl<D: Disk> SectionStore<D> {
             → OnOk result (IsBody self.old.form trees tree.now self.new.place self.new.extent (D.state self.new.disk)) }
         ensures written { D.honest self.old.disk → MatchResult result
             (λ _. WroteBody self.old.form tree.now self.old.place self.new.extent (D.state self.old.disk) (D.state self.new.disk))
-            (λ fault. fault ≡ PutFault.Device → BodyFailed self.old.form tree.now self.old.place (D.state self.old.disk) (D.state self.new.disk)) }
+            (λ fault. fault ≡ PutFault.Device
+            → BodyFailed self.old.form tree.now self.old.place (D.state self.old.disk) (D.state self.new.disk)) }
         ensures moments { (trees : List Content) → D.honest self.old.disk
             → IsRest self.old.form trees self.old.place (D.state self.old.disk)
             → LeavesOnly (D.state self.old.disk) (D.state self.new.disk) (λ bytes. IsSections self.old.form bytes trees) }
