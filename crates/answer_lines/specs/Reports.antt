@@ -4,6 +4,7 @@ use Rattle.std.specs.Fmt.{decimal}
 use Rattle.std.specs.List.{flat_map}
 use Rattle.shown_ids.specs.Shown.{shown}
 use Rattle.answer_lines.specs.Audits.{audit_status, audit_text}
+use Rattle.answer_lines.specs.declared.report.Built.{Built}
 use Rattle.answer_lines.specs.declared.report.Report.{Report}
 use Rattle.answer_lines.specs.declared.report.Report.TheVariants as reports
 
@@ -18,7 +19,8 @@ count_line stored of = codes "stored " ++ (decimal stored ++ (codes " of " ++ (d
 -- the lines of a report, each with its end
 abbrev pub report_text : Report → List ℕ
 report_text (reports.Stored ids) = flat_map (λ id. id_line [] id.now) ids.items
-report_text (reports.Built stored of missing) = count_line stored of ++ flat_map (λ id. id_line (codes "missing ") id.now) missing.items
+report_text (reports.Built built) =
+    count_line built.stored built.of ++ flat_map (λ id. id_line (codes "missing ") id.now) built.missing.items
 report_text (reports.Audited audit) = audit_text audit ++ 10 ∷ []
 
 -- 3 if some stop has no tree
@@ -26,7 +28,10 @@ abbrev pub status_by : {X : Type 0} → List X → ℕ
 status_by [] = 0
 status_by (missing ∷ others) = 3
 
+abbrev pub built_status : Built → ℕ
+built_status built = status_by built.missing.items
+
 abbrev pub report_status : Report → ℕ
 report_status (reports.Stored ids) = 0
-report_status (reports.Built stored of missing) = status_by missing.items
+report_status (reports.Built built) = built_status built
 report_status (reports.Audited audit) = audit_status audit

@@ -12,5 +12,5 @@ pub use answer::{Answer, Point};
 pub use audit::{Audit, Differing};
 pub use moment::{DayTime, day_time};
 pub use printing::{PrintFault, print, print_bytes};
-pub use report::Report;
+pub use report::{Built, Report};
 pub use stage::Stage;

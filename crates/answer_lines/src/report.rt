@@ -3,11 +3,22 @@
 ghost use Rattle.std.specs.Prelude.{◌≡◌, Some};
 ghost use Rattle.std.specs.Fmt.{WritesOnOk};
 ghost use Rattle.std.specs.List.{flat_map};
-ghost use Rattle.answer_lines.specs.Reports.{id_line, report_status, report_text};
+ghost use Rattle.answer_lines.specs.Reports.{built_status, id_line, report_status, report_text};
 
 use crate::audit::Audit;
 use shown_ids::Shown;
-use std::fmt;
+use std::{fmt, slice};
+
+/// What a build came to.
+#[derive(Debug, Drop)]
+pub struct Built<'a> {
+    /// How many stops have their tree in the store.
+    pub stored: usize,
+    /// How many stops there are.
+    pub of: usize,
+    /// The ids of the stops whose trees aren't stored.
+    pub missing: Vec<&'a str>,
+}
 
 /// A report on a store, shown as the program prints it: lines, each with its end. A list of no stops has no line.
 #[derive(Debug, Drop)]
@@ -15,26 +26,37 @@ pub enum Report<'a> {
     /// The ids of the stops whose trees are stored, in the order in which they were: one a line.
     Stored(Vec<&'a str>),
     /// What a build came to: `stored N of M`, and `missing ID` for each stop whose tree would be too large.
-    Built {
-        /// How many stops have their tree in the store.
-        stored: usize,
-        /// How many stops there are.
-        of: usize,
-        /// The ids of the stops whose trees aren't stored.
-        missing: Vec<&'a str>,
-    },
+    Built(Built<'a>),
     /// What an audit of a stored tree came to, on one line.
     Audited(Audit<'a>),
 }
 
-impl Report<'_> {
+impl Built<'_> {
+    /// The status to end with: 3 if a stop has no tree, else 0.
+    pub fn status(&self) -> u8
+        ensures { result ≡ built_status self.now }
+    {
+        if self.missing.is_empty() { 0 } else { 3 }
+    }
+}
+
+impl<'a> Report<'a> {
+    /// The ids of the stops that the report is about.
+    pub fn stops(&self) -> &[&'a str] {
+        match self {
+            Report::Stored(ids) => ids.as_slice(),
+            Report::Built(built) => built.missing.as_slice(),
+            Report::Audited(audit) => slice::from_ref(&audit.from),
+        }
+    }
+
     /// The status to end with: 0 if all is done, 3 if a build left stops without a tree, 5 if an audit found a difference.
     pub fn status(&self) -> u8
         ensures { result ≡ report_status self.now }
     {
         match self {
-            Report::Built { missing, .. } if !missing.is_empty() => 3,
-            Report::Built { .. } | Report::Stored(_) => 0,
+            Report::Stored(_) => 0,
+            Report::Built(built) => built.status(),
             Report::Audited(audit) => audit.status(),
         }
     }
@@ -46,11 +68,13 @@ impl fmt::Display for Report<'_> {
     fn fmt<W: fmt::Write>(&self, f: &mut fmt::Formatter<W>) -> fmt::Result {
         match self {
             Report::Stored(ids) => write_ids(f, "", ids),
-            Report::Built {
-                stored,
-                of,
-                missing,
-            } => {
+            Report::Built(
+                Built {
+                    stored,
+                    of,
+                    missing,
+                },
+            ) => {
                 writeln!(f, "stored {stored} of {of}")?;
                 write_ids(f, "missing ", missing)
             }

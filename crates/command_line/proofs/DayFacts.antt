@@ -1,12 +1,11 @@
 -- The days that words have, as they were read.
-use Rattle.std.proofs.Common.{rules, ◌≡◌, List, Option, None, Some, IfSome, IfNone, option_map, sym, inr, pos}
+use Rattle.std.proofs.Common.{rules, ◌≡◌, List, Option, None, Some, IfSome, IfNone, option_map, codes, sym, inr, pos}
 use Rattle.jiff.specs.Types.{Date}
-use Rattle.clap.specs.Words.{Row, Text}
+use Rattle.clap.specs.Words.{Row, Text, first_of}
 use Rattle.gtfs_text.specs.Values.{date_of, ymd}
 use Rattle.question_lines.specs.declared.question.Question.{Question}
-use Rattle.command_line.specs.Jobs.{HasPlaces, named_day}
+use Rattle.command_line.specs.Jobs.{HasPlaces}
 use Rattle.command_line.specs.Readings.{ArePlaces, IsDayIn, LacksDayIn}
-use Rattle.command_line.specs.declared.job.Task.{Task}
 use Rattle.command_line.specs.declared.question.Places.{Places}
 
 -- some day
@@ -21,11 +20,11 @@ pub has_places : (rows : List Row) (places : Places) (day : Date) → ArePlaces 
 has_places rows places day are = record { from = are.from; to = are.to; at = (places.at.now, are.at) }
 
 -- a day that is named is the one that is read of its text
-module _ (rows : List Row) (task : Task) (first : Option Date) (one : Date) (text : Text) (is : first ≡ Some one) (named : named_day rows task ≡ Some text) where
-  pub day_read : (read : Option Date) → option_map ymd read ≡ date_of text → IfSome read (IsDayIn rows first task)
+module _ (rows : List Row) (first : Option Date) (one : Date) (text : Text) (is : first ≡ Some one) (named : first_of (codes "on") rows ≡ Some text) where
+  pub day_read : (read : Option Date) → option_map ymd read ≡ date_of text → IfSome read (IsDayIn rows first)
   day_read None value = tt
   day_read (Some day) value = (one, is, rw named (sym value))
 
-  pub no_day : (read : Option Date) → option_map ymd read ≡ date_of text → IfNone read (LacksDayIn rows first task)
+  pub no_day : (read : Option Date) → option_map ymd read ≡ date_of text → IfNone read (LacksDayIn rows first)
   no_day None value = inr ((one, is), (text, named, sym value))
   no_day (Some day) value = tt

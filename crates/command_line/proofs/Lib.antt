@@ -1,2 +1,4 @@
 pub mod DayFacts
+pub mod FaultFacts
+pub mod NameFacts
 pub mod PlanFacts

@@ -6,9 +6,9 @@ use Rattle.gtfs_text.specs.Values.{date_of, ymd}
 use Rattle.options.specs.Settings.{HasSettings}
 use Rattle.options.specs.declared.settings.Settings.{Settings}
 use Rattle.command_line.specs.Formats.{IsStyle}
-use Rattle.command_line.specs.Jobs.{IsCommand}
+use Rattle.command_line.specs.Jobs.{IsCommand, question_of}
 use Rattle.command_line.specs.Misreads.{IsBadDate, IsMisread}
-use Rattle.command_line.specs.Readings.{IsCommandFault, IsPlanFault, unread_of}
+use Rattle.command_line.specs.Readings.{IsFaultOf, IsPlanFault, unread_of}
 use Rattle.command_line.specs.declared.format.Style.{Style}
 use Rattle.command_line.specs.declared.job.Command.{Command}
 use Rattle.command_line.specs.declared.job.Plan.{Plan}
@@ -32,20 +32,20 @@ module _ (name : Text) (rows : List Row) (settings : Settings) (style : Style) (
   }
 
   -- a fault of the command is one of the plan
-  pub misread : (fault : WordFault) → IsCommandFault name rows first fault → IsPlanFault name rows (unread_of fault style)
+  pub misread : (fault : WordFault) → IsFaultOf (IsCommand name rows) question_of rows first fault → IsPlanFault name rows (unread_of fault style)
   misread faults.NoJob lacks = (refl, λ plan is. lacks plan.command is.command)
-  misread faults.BadDate bad = elim bad.2 [
+  misread faults.BadDate bad = elim bad.3 [
     | inl none ↦ no_first none bad.0 bad.1
     | inr day ↦ record {
       plan = planned bad.0;
       outline = record { settings = has; command = bad.1; style = told };
       told = refl;
-      fault = inr ((day.0.0, sym value ∙ ap (option_map ymd) day.0.1), day.1);
+      fault = inr ((day.0.0, sym value ∙ ap (option_map ymd) day.0.1), bad.2, day.1);
     }
   ]
   misread faults.BadTime bad = record {
     plan = planned bad.0;
     outline = record { settings = has; command = bad.1; style = told };
     told = refl;
-    fault = (bad.2.0, sym value ∙ ap (option_map ymd) bad.2.1, bad.2.2);
+    fault = (bad.3.0, sym value ∙ ap (option_map ymd) bad.3.1, bad.2, bad.3.2);
   }

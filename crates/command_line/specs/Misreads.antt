@@ -5,46 +5,36 @@ use Rattle.jiff.specs.Types.{Date}
 use Rattle.clap.specs.Words.{Kinds, Row, Text}
 use Rattle.gtfs_text.specs.Values.{date_of}
 use Rattle.options.specs.Statuses.{IsStatus}
+use Rattle.options.specs.Values.{HasText}
+use Rattle.question_lines.specs.declared.question.Question.{Question}
 use Rattle.command_line.specs.Days.{HasNoTime, IsDate}
-use Rattle.command_line.specs.Jobs.{IsDayOf, IsOutline, NamesNoJob, named_day}
+use Rattle.command_line.specs.Jobs.{IsDayOf, IsOutline, NamesNoJob, question_of}
 use Rattle.command_line.specs.declared.format.Style.{Style}
-use Rattle.command_line.specs.declared.job.Command.{Command}
-use Rattle.command_line.specs.declared.job.Command.TheVariants as command
 use Rattle.command_line.specs.declared.job.Plan.{Plan}
-use Rattle.command_line.specs.declared.job.Task.{Task}
 use Rattle.command_line.specs.declared.unread.Unread.{Unread}
 use Rattle.command_line.specs.declared.unread.Unread.TheVariants as unread
 
+-- a question is asked
+abbrev pub IsAsked : Option Question → Type 0
+IsAsked asked = (question : Question) × (asked ≡ Some question)
+
 -- the day to leave on is named, and is none
-abbrev pub LacksDay : List Row → Task → Type 0
-LacksDay rows task = (text : Text) × (named_day rows task ≡ Some text) × (date_of text ≡ None)
+abbrev pub LacksDay : List Row → Type 0
+LacksDay rows = (text : Text) × HasText rows (codes "on") text × (date_of text ≡ None)
 
-abbrev pub LacksDayOf : List Row → Command → Type 0
-LacksDayOf rows (command.Answer task question) = LacksDay rows task
-LacksDayOf rows (command.Build store workers progress) = ⊥
-LacksDayOf rows (command.List store) = ⊥
-LacksDayOf rows (command.Audit store from) = ⊥
-LacksDayOf rows (command.Serve store workers) = ⊥
-
--- the question has a day to leave on, and its time is none
-abbrev pub LacksTime : List Row → Date → Task → Type 0
-LacksTime rows first asked = ((day : Date) × IsDayOf rows first asked day) × HasNoTime rows (codes "at")
-
-abbrev pub LacksTimeOf : List Row → Date → Command → Type 0
-LacksTimeOf rows first (command.Answer task question) = LacksTime rows first task
-LacksTimeOf rows first (command.Build store workers progress) = ⊥
-LacksTimeOf rows first (command.List store) = ⊥
-LacksTimeOf rows first (command.Audit store from) = ⊥
-LacksTimeOf rows first (command.Serve store workers) = ⊥
+-- there is a day to leave on, and the time is none
+abbrev pub LacksTime : List Row → Date → Type 0
+LacksTime rows first = ((day : Date) × IsDayOf rows first day) × HasNoTime rows (codes "at")
 
 -- the first covered day is none; or else the day to leave on is
 abbrev pub IsBadDate : List Row → Plan → Type 0
 IsBadDate rows plan =
-    (date_of plan.settings.date.now ≡ None) ⊎ (((first : Date) × IsDate plan.settings.date.now first) × LacksDayOf rows plan.command)
+    (date_of plan.settings.date.now ≡ None)
+    ⊎ (((first : Date) × IsDate plan.settings.date.now first) × IsAsked (question_of plan.command) × LacksDay rows)
 
 -- the days are such, and the time is none
 abbrev pub IsBadTime : List Row → Plan → Type 0
-IsBadTime rows plan = (first : Date) × IsDate plan.settings.date.now first × LacksTimeOf rows first plan.command
+IsBadTime rows plan = (first : Date) × IsDate plan.settings.date.now first × IsAsked (question_of plan.command) × LacksTime rows first
 
 -- a command's name and rows give a plan whose answer has that style, but for days and times, of which this is the fault
 pub record IsMisread (Fault : List Row → Plan → Type 0) (style : Style) (name : Text) (rows : List Row) : Type 0 where

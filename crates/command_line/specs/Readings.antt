@@ -4,14 +4,11 @@ use Rattle.jiff.specs.Types.{Date}
 use Rattle.clap.specs.Words.{Row, Text}
 use Rattle.options.specs.Values.{HasText}
 use Rattle.question_lines.specs.declared.question.Question.{Question}
-use Rattle.command_line.specs.Jobs.{AreTimes, HasPlaces, IsCommand, IsDayOf, IsJobBy, IsOutline, IsTask, NamesNoCommand}
-use Rattle.command_line.specs.Misreads.{IsBadDate, IsBadTime, IsMisread, LacksDay, LacksDayOf, LacksTimeOf}
+use Rattle.command_line.specs.Jobs.{AreTimes, HasPlaces, IsDayOf, IsJobBy, IsOutline}
+use Rattle.command_line.specs.Misreads.{IsAsked, IsBadDate, IsBadTime, IsMisread, LacksDay, LacksTime}
 use Rattle.command_line.specs.declared.format.Style.{Style}
-use Rattle.command_line.specs.declared.job.Command.{Command}
-use Rattle.command_line.specs.declared.job.Command.TheVariants as command
 use Rattle.command_line.specs.declared.job.Job.{Job}
 use Rattle.command_line.specs.declared.job.Plan.{Plan}
-use Rattle.command_line.specs.declared.job.Task.{Task}
 use Rattle.command_line.specs.declared.question.Places.{Places}
 use Rattle.command_line.specs.declared.unread.Unread.{Unread}
 use Rattle.command_line.specs.declared.unread.Unread.TheVariants as unread
@@ -28,49 +25,30 @@ abbrev pub LacksPlaces : List Row → Type 0
 LacksPlaces rows = (question : Question) → ¬ HasPlaces rows question
 
 -- the day to leave on, if the first covered day is one
-abbrev pub IsDayIn : List Row → Option Date → Task → Date → Type 0
-IsDayIn rows first task day = (one : Date) × (first ≡ Some one) × IsDayOf rows one task day
+abbrev pub IsDayIn : List Row → Option Date → Date → Type 0
+IsDayIn rows first day = (one : Date) × (first ≡ Some one) × IsDayOf rows one day
 
-abbrev pub LacksDayIn : List Row → Option Date → Task → Type 0
-LacksDayIn rows first task = (first ≡ None) ⊎ (((one : Date) × (first ≡ Some one)) × LacksDay rows task)
+abbrev pub LacksDayIn : List Row → Option Date → Type 0
+LacksDayIn rows first = (first ≡ None) ⊎ (((one : Date) × (first ≡ Some one)) × LacksDay rows)
 
--- the command's day and time, if the first covered day is one
-abbrev pub AreTimesIn : List Row → Option Date → Command → Type 0
-AreTimesIn rows first named = (one : Date) → first ≡ Some one → AreTimes rows one named
+abbrev pub LacksTimeIn : List Row → Option Date → Type 0
+LacksTimeIn rows first = (one : Date) × (first ≡ Some one) × LacksTime rows one
 
--- a command that answers no question
-abbrev pub IsPlain : Command → Type 0
-IsPlain (command.Answer task question) = ⊥
-IsPlain (command.Build store workers progress) = Unit {0}
-IsPlain (command.List store) = Unit {0}
-IsPlain (command.Audit store from) = Unit {0}
-IsPlain (command.Serve store workers) = Unit {0}
+-- the day and the time of a question, if the first covered day is one
+abbrev pub AreTimesIn : List Row → Option Date → Option Question → Type 0
+AreTimesIn rows first asked = (one : Date) → first ≡ Some one → AreTimes rows one asked
 
-abbrev pub NamesNoPlain : Text → List Row → Type 0
-NamesNoPlain name rows = (named : Command) → IsPlain named → ¬ IsCommand name rows named
+-- the day of a question is none, or its time
+abbrev pub LacksTimes : List Row → Option Date → WordFault → Type 0
+LacksTimes rows first faults.NoJob = ⊥
+LacksTimes rows first faults.BadDate = LacksDayIn rows first
+LacksTimes rows first faults.BadTime = LacksTimeIn rows first
 
-abbrev pub NamesNoAnswer : Text → List Row → Type 0
-NamesNoAnswer name rows = (task : Task) (question : Question) → IsTask name rows task → ¬ HasPlaces rows question
-
--- there is a command, but one of its days is none, or its time
-abbrev pub HasBadDate : Text → List Row → Option Date → Type 0
-HasBadDate name rows first =
-    (named : Command) × IsCommand name rows named × ((first ≡ None) ⊎ (((one : Date) × (first ≡ Some one)) × LacksDayOf rows named))
-
-abbrev pub HasBadTime : Text → List Row → Option Date → Type 0
-HasBadTime name rows first =
-    (named : Command) × IsCommand name rows named × ((one : Date) × (first ≡ Some one) × LacksTimeOf rows one named)
-
--- there is no answer, or no command, or one with such a fault
-abbrev pub IsAnswerFault : Text → List Row → Option Date → WordFault → Type 0
-IsAnswerFault name rows first faults.NoJob = NamesNoAnswer name rows
-IsAnswerFault name rows first faults.BadDate = HasBadDate name rows first
-IsAnswerFault name rows first faults.BadTime = HasBadTime name rows first
-
-abbrev pub IsCommandFault : Text → List Row → Option Date → WordFault → Type 0
-IsCommandFault name rows first faults.NoJob = NamesNoCommand name rows
-IsCommandFault name rows first faults.BadDate = HasBadDate name rows first
-IsCommandFault name rows first faults.BadTime = HasBadTime name rows first
+-- the words give none of these; or they give one that asks a question, but for its day or its time
+abbrev pub IsFaultOf : {X : Type 0} → (X → Type 0) → (X → Option Question) → List Row → Option Date → WordFault → Type 0
+IsFaultOf {X} Is asked rows first faults.NoJob = (x : X) → ¬ Is x
+IsFaultOf {X} Is asked rows first faults.BadDate = (x : X) × Is x × IsAsked (asked x) × LacksDayIn rows first
+IsFaultOf {X} Is asked rows first faults.BadTime = (x : X) × Is x × IsAsked (asked x) × LacksTimeIn rows first
 
 -- what words at fault end with, in a style
 abbrev pub unread_of : WordFault → Style → Unread

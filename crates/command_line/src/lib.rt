@@ -3,14 +3,13 @@
 
 mod format;
 mod job;
-mod program;
 mod question;
 mod unread;
 mod words;
 mod workers;
 
 pub use format::{Format, Style};
-pub use job::{Command, Job, Plan, Task};
+pub use job::{Command, Job, Plan, Search, Task};
 pub use unread::Unread;
 pub use words::read_words;
 pub use workers::Workers;

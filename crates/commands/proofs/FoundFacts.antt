@@ -2,7 +2,6 @@
 use Rattle.std.proofs.Common.{◌≡◌, ◌∙◌, Result, Ok, Err, IfOk, IfErr, MatchResult, refl, sym, subst}
 use Rattle.answer_lines.specs.declared.answer.Answer.{Answer}
 use Rattle.answer_lines.specs.declared.report.Report.{Report}
-use Rattle.command_line.specs.declared.job.Task.{Task}
 use Rattle.faults.specs.declared.fault.Fault.{Fault}
 use Rattle.question_lines.specs.declared.question.Question.{Question}
 use Rattle.commands.specs.Found.{found_by}
@@ -18,12 +17,12 @@ matched (Err e) P Q ok err = err
 pub made_ok : {X E : Type 0} (r made : Result X E) (x : X) (P : X → Type 0) → IfOk r P → made ≡ r → made ≡ Ok x → P x
 made_ok {X} {E} r made x P ok is done = let e : r ≡ Ok x = sym is ∙ done in subst (λ (q : Result X E). IfOk q P) e ok
 
-pub answer_found : (task : Task) (question : Question) (answer : Result Answer Fault) (found : Result Found Fault) (Right : Answer → Type 0)
-    (Wrong : Fault → Type 0) → found ≡ found_by (λ a. founds.Answer task question a) answer → MatchResult answer Right Wrong
+pub answer_found : (question : Question) (answer : Result Answer Fault) (found : Result Found Fault) (Right : Answer → Type 0)
+    (Wrong : Fault → Type 0) → found ≡ found_by (λ a. founds.Answer question a) answer → MatchResult answer Right Wrong
     → MatchResult found (FindsAnswer Right) Wrong
-answer_found task question (Ok a) found Right Wrong is right =
-    subst (λ (f : Result Found Fault). MatchResult f (FindsAnswer Right) Wrong) (sym is) (task, question, a, refl, right)
-answer_found task question (Err fault) found Right Wrong is wrong =
+answer_found question (Ok a) found Right Wrong is right =
+    subst (λ (f : Result Found Fault). MatchResult f (FindsAnswer Right) Wrong) (sym is) (question, a, refl, right)
+answer_found question (Err fault) found Right Wrong is wrong =
     subst (λ (f : Result Found Fault). MatchResult f (FindsAnswer Right) Wrong) (sym is) wrong
 
 pub report_found : (report : Result Report Fault) (found : Result Found Fault) (Right : Report → Type 0) (Wrong : Fault → Type 0)

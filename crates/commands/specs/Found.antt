@@ -22,12 +22,12 @@ found_by show (Err fault) = Err fault
 
 -- as lines
 abbrev pub lines_of : Found → Told
-lines_of (founds.Answer task question answer) = tolds.Answer answer
+lines_of (founds.Answer question answer) = tolds.Answer answer
 lines_of (founds.Report report) = tolds.Report report
 
 -- the text tells what is found in a format
 abbrev pub IsTextOf : Telling → Format → BasisData → Found → List ℕ → Type 0
-IsTextOf t format basis (founds.Answer task question answer) text = t.tells format basis answer text
+IsTextOf t format basis (founds.Answer question answer) text = t.tells format basis answer text
 IsTextOf t format basis (founds.Report report) text = t.reports format report text
 
 -- as a text in a format, or memory ran out as it was made

@@ -1,5 +1,4 @@
 pub mod World
-pub mod Errands
 pub mod Feeds
 pub mod Files
 pub mod Rules

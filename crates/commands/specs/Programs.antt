@@ -3,7 +3,7 @@ use Rattle.std.specs.Prelude.{◌≡◌, ◌⊎◌, ℕ, List, [], Option, None,
 use Rattle.std.specs.Option.{option_map, unwrap_or}
 use Rattle.clap.specs.Words.{Text, fault_of, subcommand_of}
 use Rattle.gtfs_tables.specs.Feed.{Feed}
-use Rattle.command_line.specs.CommandLine.{program_app}
+use Rattle.command_grammar.specs.CommandLine.{program_app}
 use Rattle.command_line.specs.Jobs.{IsJob}
 use Rattle.command_line.specs.Misreads.{IsUnread}
 use Rattle.command_line.specs.declared.format.Style.TheVariants as styles

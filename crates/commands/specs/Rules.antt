@@ -18,39 +18,44 @@ use Rattle.printing.specs.declared.told.Told.{Told}
 use Rattle.printing.specs.declared.told.Told.TheVariants as tolds
 use Rattle.store_answers.specs.Asked.{IsStoredAnswer, IsStoredRefusal}
 use Rattle.store_answers.specs.Audited.{IsAudited, IsUnaudited}
-use Rattle.store_answers.specs.Builds.{IsBuilt, IsUnbuilt}
+use Rattle.store_answers.specs.Builds.{IsBuilt, IsUnbuilt, ReportsBuilt}
 use Rattle.store_answers.specs.Listings.{IsListed, IsUnlisted}
-use Rattle.tellers.specs.Tellings.{IsStopsFault, Telling}
+use Rattle.service_days.specs.Answers.{IsMoment}
+use Rattle.tellers.specs.Tellings.{IsStopsFault, Telling, tells_legs}
+use Rattle.command_line.specs.declared.format.Style.{Style}
 use Rattle.command_line.specs.declared.job.Task.{Task}
+use Rattle.command_line.specs.declared.job.Task.TheVariants as tasks
 use Rattle.commands.specs.declared.found.Found.{Found}
 use Rattle.commands.specs.declared.found.Found.TheVariants as founds
-use Rattle.commands.specs.declared.storing.Use.{Use}
-use Rattle.commands.specs.declared.storing.Use.TheVariants as uses
 
 -- an answer to a question is found, which is right
 abbrev pub FindsAnswer : (Answer → Type 0) → Found → Type 0
 FindsAnswer Right found =
-    (task : Task) × (question : Question) × (answer : Answer) × (found ≡ founds.Answer task question answer) × Right answer
+    (question : Question) × (answer : Answer) × (found ≡ founds.Answer question answer) × Right answer
 
 -- a report is found, which is right
 abbrev pub FindsReport : (Report → Type 0) → Found → Type 0
 FindsReport Right found = (report : Report) × (found ≡ founds.Report report) × Right report
 
 -- a question between stops, over the timetable alone
-abbrev pub IsStopAnswer : BasisData → Option ℕ → Question → (List ℕ → List ℕ → ℕ → Answer → Type 0) → Result Found Fault → Type 0
-IsStopAnswer basis moment question Right found =
-    MatchResult found (FindsAnswer (IsAnswered (stop_alone basis.names) Right basis.timetable moment question))
+abbrev pub IsStopAnswer : BasisData → Question → (List ℕ → List ℕ → ℕ → Answer → Type 0) → Result Found Fault → Type 0
+IsStopAnswer basis question Right found =
+    (moment : Option ℕ) × IsMoment basis.cover question.day question.seconds moment
+    × MatchResult found (FindsAnswer (IsAnswered (stop_alone basis.names) Right basis.timetable moment question))
     (IsUnanswered (stop_alone basis.names) NoneMissing basis.timetable moment question)
 
--- what may be found over the file of a store, by the states of its disk before and after, or which fault
-abbrev pub IsUse : BasisData → ℕ → Use → State → State → Result Found Fault → Type 0
-IsUse basis k (uses.Ask task question moment legs) old new found =
-    MatchResult found (FindsAnswer (IsStoredAnswer basis k moment question legs old new)) (IsStoredRefusal basis k moment question old new)
-IsUse basis k uses.List old new found = MatchResult found (FindsReport (IsListed basis k old new)) (IsUnlisted basis k old new)
-IsUse basis k (uses.Audit from) old new found =
+-- What a task may find over the file of a store, by the states of its disk before and after, or which fault. The style says whether rides
+-- and walks are found without being asked for.
+abbrev pub IsTaskDone : Style → BasisData → ℕ → Task → State → State → Result Found Fault → Type 0
+IsTaskDone style basis k (tasks.Ask question legs) old new found =
+    (moment : Option ℕ) × IsMoment basis.cover question.day question.seconds moment
+    × MatchResult found (FindsAnswer (IsStoredAnswer basis k moment question (tells_legs style legs) old new))
+    (IsStoredRefusal basis k moment question old new)
+IsTaskDone style basis k tasks.List old new found = MatchResult found (FindsReport (IsListed basis k old new)) (IsUnlisted basis k old new)
+IsTaskDone style basis k (tasks.Audit from) old new found =
     MatchResult found (FindsReport (IsAudited basis k from.now old new)) (IsUnaudited basis k from.now old new)
-IsUse basis k (uses.Build workers progress) old new found =
-    MatchResult found (FindsReport (IsBuilt basis k old new)) (IsUnbuilt basis k old new)
+IsTaskDone style basis k (tasks.Build workers progress) old new found =
+    MatchResult found (FindsReport (ReportsBuilt (IsBuilt basis k old new))) (IsUnbuilt basis k old new)
 
 -- what a feed has, and what else is among the names in its folder; or the feed's fault
 abbrev pub IsChecked : (Names → Type 0) → Bool → Feed → Result Told Fault → Type 0

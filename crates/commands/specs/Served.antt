@@ -1,10 +1,8 @@
 -- What comes of replying to the questions of an input, while trees are built.
 use Rattle.std.specs.Prelude.{◌≡◌, ◌↔◌, ◌⊎◌, ℕ, Bool, true, false, List, [], ◌∷◌, ◌++◌, MatchBool, Option, None, Some, Result, Ok, Err, IfErr, MatchResult, codes}
-use Rattle.std.specs.Fmt.{decimal}
 use Rattle.std.specs.Io.KnownBytes.{Keeps}
-use Rattle.answer_lines.specs.Reports.{report_status}
-use Rattle.answer_lines.specs.declared.report.Report.{Report}
-use Rattle.answer_lines.specs.declared.report.Report.TheVariants as reports
+use Rattle.answer_lines.specs.Reports.{built_status as of_built, count_line}
+use Rattle.answer_lines.specs.declared.report.Built.{Built}
 use Rattle.command_line.specs.declared.format.Style.{Style}
 use Rattle.command_line.specs.declared.format.Style.TheVariants as styles
 use Rattle.feed_basis.specs.Basis.{BasisData}
@@ -30,8 +28,8 @@ use Rattle.commands.specs.World.{SystemView}
 use Rattle.commands.specs.declared.served.TheConstants.{UNREAD}
 
 -- the status of what came of a build
-abbrev pub built_status : Result Report Fault → ℕ
-built_status (Ok report) = report_status report
+abbrev pub built_status : Result Built Fault → ℕ
+built_status (Ok built) = of_built built
 built_status (Err fault) = status_of fault
 
 -- How replies ended: standard output refused a write, memory ran out before the first line, or else as the build beside them did. That
@@ -51,11 +49,8 @@ end_text ends.OutputRefused false = []
 end_text ends.NoMemory refused = NO_MEMORY.now
 
 -- how many trees the file has, or why the build came to an early end
-abbrev pub IsBuiltText : Telling → Voice → Result Report Fault → List ℕ → Type 0
-IsBuiltText t voice (Ok (reports.Built stored of missing)) text =
-    text ≡ codes "stored " ++ (decimal stored ++ (codes " of " ++ (decimal of ++ 10 ∷ [])))
-IsBuiltText t voice (Ok (reports.Stored ids)) text = text ≡ []
-IsBuiltText t voice (Ok (reports.Audited audit)) text = text ≡ []
+abbrev pub IsBuiltText : Telling → Voice → Result Built Fault → List ℕ → Type 0
+IsBuiltText t voice (Ok built) text = text ≡ count_line built.stored built.of
 IsBuiltText t voice (Err fault) text = IsFaultText t voice fault text
 
 -- replies and the build came to an end, and standard error says how

@@ -1,24 +1,24 @@
 //! What a command finds: at the timetable, or over the file of a store.
 
-ghost use Rattle.commands.specs.Runs.{IsSearched};
+ghost use Rattle.commands.specs.Runs.{IsSearchFound};
 ghost use Rattle.commands.specs.World.{view_of};
 ghost use Rattle.tellers.specs.Tellings.{telling_of};
 
-use crate::errand::Search;
 use crate::found::{Found, found_answer};
-use crate::storing::{Use, over_store};
+use crate::opening::StoreFile;
+use crate::storing::over_store;
 use crate::system::System;
 use answering::{direct, scan};
-use command_line::{Style, Task};
+use command_line::{Search, Style};
 use faults::Fault;
 use feed_basis::Basis;
 use std::alloc::Global;
 use std::io::Write;
 use streams::Stream;
-use tellers::{copy_of, tells_legs};
+use tellers::tells_legs;
 use timetable::Rides;
 
-/// Finds what a command searches for, to be told in the style: at the timetable, or over the file of its store. The disk of the store comes
+/// Finds what a command searches for, to be told in the style: at the timetable, or over the file of a store. The disk of the store comes
 /// back if it was opened. Standard error says if a new store is begun.
 pub fn find<'a, S: System, E: Write + Drop>(
     alloc: Global,
@@ -29,37 +29,29 @@ pub fn find<'a, S: System, E: Write + Drop>(
     search: &Search<'a>,
     err: &mut Stream<E>,
 ) -> (Result<Found<'a>, Fault<'a>>, Option<S::Store>)
-    ensures { IsSearched (view_of (S.world system.now) S.Store.honest S.Store.state S.Store.failures
+    ensures { IsSearchFound (view_of (S.world system.now) S.Store.honest S.Store.state S.Store.failures
         (telling_of S.Teller.tells S.Teller.reports S.Teller.finds S.Teller.replies S.Teller.faults S.Teller.nears))
         style basis.now rides search.now result.0 result.1 err.old err.new }
 {
     match search {
-        Search::Answer(task, question) => {
+        Search::Direct { question } => {
             let moment = basis.moment(question.day, question.seconds);
-            match task {
-                Task::Direct => {
-                    let answer = direct(alloc, basis, question, moment);
-                    (found_answer(task, question, answer), None)
-                }
-                Task::Scan { legs } => {
-                    let legs = tells_legs(style, *legs);
-                    let answer = scan(alloc, basis, question, moment, rides, legs);
-                    (found_answer(task, question, answer), None)
-                }
-                Task::Ask { legs, store } => {
-                    let legs = tells_legs(style, *legs);
-                    let over = Use::Ask(*task, copy_of(question), moment, legs);
-                    over_store(alloc, system, basis, rides, store, &over, err)
-                }
-            }
+            let answer = direct(alloc, basis, question, moment);
+            (found_answer(question, answer), None)
         }
-        Search::Build(path, workers, progress) => {
-            let over = Use::Build(*workers, *progress);
-            over_store(alloc, system, basis, rides, path, &over, err)
+        Search::Scan { question, legs } => {
+            let moment = basis.moment(question.day, question.seconds);
+            let legs = tells_legs(style, *legs);
+            let answer = scan(alloc, basis, question, moment, rides, legs);
+            (found_answer(question, answer), None)
         }
-        Search::List(path) => over_store(alloc, system, basis, rides, path, &Use::List, err),
-        Search::Audit(path, from) => {
-            over_store(alloc, system, basis, rides, path, &Use::Audit(from), err)
+        Search::Stored { store, task } => {
+            let file = StoreFile {
+                path: store,
+                basis,
+                rides,
+            };
+            over_store(alloc, system, style, &file, task, err)
         }
     }
 }

@@ -6,7 +6,7 @@ ghost use Rattle.printing.specs.Finished.{streams_of};
 ghost use Rattle.tellers.specs.Tellings.{telling_of};
 
 use answer_lines::{Answer, Report};
-use command_line::{Format, Plan, Style, Task};
+use command_line::{Format, Plan, Style};
 use faults::Fault;
 use feed_basis::Basis;
 use printing::{Streams, Told, Voice, finish};
@@ -19,21 +19,20 @@ use tellers::{Asked, Teller, copy_of};
 #[derive(Drop)]
 pub enum Found<'a> {
     /// An answer to a question.
-    Answer(Task<'a>, Question<'a>, Answer),
+    Answer(Question<'a>, Answer),
     /// What a store has, or what came of a build.
     Report(Report<'a>),
 }
 
 /// An answer to a question as what is found, or its fault.
 pub fn found_answer<'a>(
-    task: &Task<'a>,
     question: &Question<'a>,
     answer: Result<Answer, Fault<'a>>,
 ) -> Result<Found<'a>, Fault<'a>>
-    ensures { result ≡ found_by (λ answer. Found.Answer task.now question.now answer) answer.entry }
+    ensures { result ≡ found_by (λ answer. Found.Answer question.now answer) answer.entry }
 {
     match answer {
-        Ok(answer) => Ok(Found::Answer(*task, copy_of(question), answer)),
+        Ok(answer) => Ok(Found::Answer(copy_of(question), answer)),
         Err(fault) => Err(fault),
     }
 }
@@ -53,7 +52,7 @@ fn as_lines<'a>(found: Found<'a>) -> Told<'a>
     ensures { result ≡ lines_of found.entry }
 {
     match found {
-        Found::Answer(_, _, answer) => Told::Answer(answer),
+        Found::Answer(_, answer) => Told::Answer(answer),
         Found::Report(report) => Told::Report(report),
     }
 }
@@ -70,20 +69,18 @@ fn in_format<T: Teller>(
     ensures { IsToldIn (telling_of T.tells T.reports T.finds T.replies T.faults T.nears) format basis.now found.now result }
 {
     let text = match found {
-        Found::Answer(task, question, answer) => {
+        Found::Answer(question, answer) => {
             let asked = Asked {
                 settings: plan.settings,
-                task: *task,
-                question: Question {
-                    from: question.from,
-                    to: question.to,
-                    day: question.day,
-                    seconds: question.seconds,
-                },
+                command: plan.command.name(),
+                question: copy_of(question),
             };
             teller.answer(alloc, format, &asked, basis, answer)
         }
-        Found::Report(report) => teller.report(alloc, format, plan.settings.feed, report),
+        Found::Report(report) => {
+            let command = plan.command.name();
+            teller.report(alloc, format, command, plan.settings.feed, report)
+        }
     };
     match text {
         Ok(text) => Ok(Told::Text(text)),

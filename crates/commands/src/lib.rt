@@ -2,7 +2,6 @@
 #![tactic(auto)]
 
 mod checking;
-mod errand;
 mod finding;
 mod found;
 mod opening;

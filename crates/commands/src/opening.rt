@@ -27,6 +27,14 @@ fn file_fault<'a>(fault: FileFault) -> Fault<'a>
     }
 }
 
+/// The file of a store, and what it is for: the timetable of the basis, and journeys of at most `rides` rides.
+#[derive(Clone, Copy)]
+pub struct StoreFile<'a> {
+    pub path: &'a str,
+    pub basis: &'a Basis,
+    pub rides: Rides,
+}
+
 /// The disk of a file in which a store may be opened.
 pub struct Ready<D: Disk> {
     pub disk: D,
@@ -34,28 +42,26 @@ pub struct Ready<D: Disk> {
     pub is_new: bool,
 }
 
-/// Opens the file of that path as a disk, and looks at it. It gives the disk if a store of the basis's timetable, and of journeys of at
-/// most `rides` rides, may be opened there. Any other file is left as it is. The disk comes back with each fault, if there is one.
+/// Opens the file as a disk, and looks at it. It gives the disk if a store of what the file is for may be opened there. Any other file is
+/// left as it is. The disk comes back with each fault, if there is one.
 pub fn open_ready<S: System>(
     alloc: Global,
     system: &S,
-    basis: &Basis,
-    rides: Rides,
-    path: &str,
+    file: &StoreFile<'_>,
     only_reads: bool,
 ) -> Result<Ready<S::Store>, (Fault<'static>, Option<S::Store>)>
     ensures ready { IfOk result (λ ready. IsReady (view_of (S.world system.now) S.Store.honest S.Store.state S.Store.failures
         (telling_of S.Teller.tells S.Teller.reports S.Teller.finds S.Teller.replies S.Teller.faults S.Teller.nears))
-        (form_over basis.now rides) path.now ready.disk ready.is_new) }
+        (form_over file.now.basis.now file.now.rides) file.now.path.now ready.disk ready.is_new) }
     ensures kept_out { IfErr result (λ e. IsKeptOut (view_of (S.world system.now) S.Store.honest S.Store.state S.Store.failures
         (telling_of S.Teller.tells S.Teller.reports S.Teller.finds S.Teller.replies S.Teller.faults S.Teller.nears))
-        (form_over basis.now rides) path.now e.0 e.1) }
+        (form_over file.now.basis.now file.now.rides) file.now.path.now e.0 e.1) }
 {
-    let mut disk = match system.open_store(path, only_reads) {
+    let mut disk = match system.open_store(file.path, only_reads) {
         Ok(disk) => disk,
         Err(fault) => return Err((file_fault(fault), None)),
     };
-    match file_kind(alloc, &mut disk, basis.timetable(), rides) {
+    match file_kind(alloc, &mut disk, file.basis.timetable(), file.rides) {
         Ok(FileKind::New) => Ok(Ready { disk, is_new: true }),
         Ok(FileKind::Old) => Ok(Ready {
             disk,

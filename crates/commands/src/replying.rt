@@ -7,28 +7,24 @@ ghost use Rattle.commands.specs.World.{view_of};
 ghost use Rattle.printing.specs.Finished.{streams_of};
 ghost use Rattle.tellers.specs.Tellings.{telling_of};
 
-use crate::opening::{Ready, open_ready, say_new};
+use crate::opening::{Ready, StoreFile, open_ready, say_new};
 use crate::replies::FormatReplies;
 use crate::running::Ended;
 use crate::served::tell_serving;
 use crate::system::System;
 use command_line::{Plan, Style, Workers};
 use faults::Fault;
-use feed_basis::Basis;
 use printing::{Streams, Voice, tell_fault};
 use serving::{Lines, ReplyTeller};
 use std::alloc::Global;
 use std::io::{BufRead, Write};
-use store_answers::serve;
+use store_answers::{Building, serve};
 use tellers::Teller;
-use timetable::Rides;
 
-/// A store that is served: its file, over which timetable, for journeys of at most these rides, and who builds what it lacks.
+/// A store that is served: its file, and how many workers build what it lacks.
 #[derive(Clone, Copy)]
 pub struct Site<'a> {
-    pub basis: &'a Basis,
-    pub rides: Rides,
-    pub path: &'a str,
+    pub file: StoreFile<'a>,
     pub workers: Workers,
 }
 
@@ -44,14 +40,14 @@ fn serve_by<S: System, R: ReplyTeller, I: BufRead, O: Write + Drop, E: Write + D
 ) -> Ended<S::Store, O, E>
     ensures { IsServedBy (view_of (S.world system.now) S.Store.honest S.Store.state S.Store.failures
         (telling_of S.Teller.tells S.Teller.reports S.Teller.finds S.Teller.replies S.Teller.faults S.Teller.nears))
-        site.now.basis.now site.now.rides site.now.path.now voice.now
-        (dialogue_of (λ question reply text. R.tells replies.now site.now.basis.now question reply text) (R.tells_legs replies.now)
+        site.now.file.basis.now site.now.file.rides site.now.file.path.now voice.now
+        (dialogue_of (λ question reply text. R.tells replies.now site.now.file.basis.now question reply text) (R.tells_legs replies.now)
         (I.remaining input.old))
         (streams_of streams.out streams.err) (streams_of result.streams.out result.streams.err) result.status result.store }
 {
     let teller = system.teller();
     let Streams { out, mut err } = streams;
-    match open_ready(alloc, system, site.basis, site.rides, site.path, false) {
+    match open_ready(alloc, system, &site.file, false) {
         Err((fault, store)) => {
             let status = tell_fault(alloc, &teller, voice, &fault, &mut err);
             Ended {
@@ -62,19 +58,14 @@ fn serve_by<S: System, R: ReplyTeller, I: BufRead, O: Write + Drop, E: Write + D
         }
         Ok(ready) => {
             let Ready { disk, is_new } = ready;
-            say_new(site.path, is_new, &mut err);
+            say_new(site.file.path, is_new, &mut err);
+            let building = Building {
+                basis: site.file.basis,
+                rides: site.file.rides,
+                workers: site.workers,
+            };
             let threads = system.threads();
-            let (served, disk, out) = serve(
-                alloc,
-                threads,
-                site.basis,
-                site.rides,
-                disk,
-                site.workers,
-                replies,
-                input,
-                out,
-            );
+            let (served, disk, out) = serve(alloc, threads, &building, disk, replies, input, out);
             let refused = out.has_refused();
             let status = tell_serving(alloc, &teller, voice, &served, refused, &mut err);
             Ended {
@@ -99,7 +90,7 @@ pub fn run_serve<S: System, I: BufRead, O: Write + Drop, E: Write + Drop>(
 ) -> Ended<S::Store, O, E>
     ensures { IsServed (view_of (S.world system.now) S.Store.honest S.Store.state S.Store.failures
         (telling_of S.Teller.tells S.Teller.reports S.Teller.finds S.Teller.replies S.Teller.faults S.Teller.nears))
-        (I.remaining input.old) plan.now.style voice.now site.now.basis.now site.now.rides site.now.path.now
+        (I.remaining input.old) plan.now.style voice.now site.now.file.basis.now site.now.file.rides site.now.file.path.now
         (streams_of streams.out streams.err) (streams_of result.streams.out result.streams.err) result.status result.store }
 {
     let format = match plan.style {

@@ -2,17 +2,17 @@
 
 ghost use Rattle.std.specs.Prelude.{◌≡◌};
 ghost use Rattle.gtfs_tables.specs.Feed.{Feed, AreReaders};
-ghost use Rattle.commands.specs.Runs.{IsPlanRun, IsSearchRun, told_style, voice_of};
+ghost use Rattle.commands.specs.Runs.{IsFoundRun, IsPlanRun, voice_of};
 ghost use Rattle.commands.specs.World.{view_of};
 ghost use Rattle.printing.specs.Finished.{streams_of};
 ghost use Rattle.tellers.specs.Tellings.{telling_of};
 
-use crate::errand::{Errand, Search, errand_of};
 use crate::finding::find;
 use crate::found::finish_found;
+use crate::opening::StoreFile;
 use crate::replying::{Site, run_serve};
 use crate::system::System;
-use command_line::{Command, Plan, Style};
+use command_line::{Command, Plan, Search};
 use disk_model::Disk;
 use feed_basis::{Basis, basis_of};
 use gtfs_tables::Files;
@@ -29,22 +29,12 @@ pub struct Ended<D: Disk + Drop, O: Write + Drop, E: Write + Drop> {
     pub streams: Streams<O, E>,
 }
 
-// The style of what is told of a command: a build is told as lines.
-fn told_style(plan: &Plan<'_>) -> Style
-    ensures { result ≡ told_style plan.now.command plan.now.style }
-{
-    match plan.command {
-        Command::Build { .. } | Command::Audit { .. } => Style::Lines,
-        Command::Answer { .. } | Command::List { .. } | Command::Serve { .. } => plan.style,
-    }
-}
-
 /// How a plan is told.
 pub fn voice_of<'a>(plan: &Plan<'a>) -> Voice<'a>
     ensures { result ≡ voice_of plan.now }
 {
     Voice {
-        style: told_style(plan),
+        style: plan.style,
         feed: plan.settings.feed,
     }
 }
@@ -59,7 +49,7 @@ fn run_search<S: System, O: Write + Drop, E: Write + Drop>(
     search: &Search<'_>,
     streams: Streams<O, E>,
 ) -> Ended<S::Store, O, E>
-    ensures { IsSearchRun (view_of (S.world system.now) S.Store.honest S.Store.state S.Store.failures
+    ensures { IsFoundRun (view_of (S.world system.now) S.Store.honest S.Store.state S.Store.failures
         (telling_of S.Teller.tells S.Teller.reports S.Teller.finds S.Teller.replies S.Teller.faults S.Teller.nears))
         plan.now basis.now rides search.now (streams_of streams.out streams.err) (streams_of result.streams.out result.streams.err)
         result.status result.store }
@@ -113,14 +103,16 @@ pub fn run_plan<S: System, I: BufRead, O: Write + Drop, E: Write + Drop>(
         }
     };
     let rides = Rides::new(plan.settings.rides);
-    match errand_of(&plan.command) {
-        Errand::Find(search) => run_search(alloc, system, plan, &basis, rides, &search, streams),
-        Errand::Serve(path, workers) => {
+    match &plan.command {
+        Command::Find(search) => run_search(alloc, system, plan, &basis, rides, search, streams),
+        Command::Serve { store, workers } => {
             let site = Site {
-                basis: &basis,
-                rides,
-                path,
-                workers,
+                file: StoreFile {
+                    path: store,
+                    basis: &basis,
+                    rides,
+                },
+                workers: *workers,
             };
             run_serve(alloc, system, plan, &voice, &site, input, streams)
         }

@@ -5,7 +5,7 @@ ghost use Rattle.commands.specs.Served.{IsBuiltText, IsServingSaid, built_status
 ghost use Rattle.streams.specs.Streams.{IsSaid};
 ghost use Rattle.tellers.specs.Tellings.{telling_of};
 
-use answer_lines::Report;
+use answer_lines::Built;
 use faults::Fault;
 use printing::{NO_MEMORY, UNWRITTEN, Voice, tell_fault};
 use serving::End;
@@ -22,7 +22,7 @@ fn tell_built<T: Teller, E: Write + Drop>(
     alloc: Global,
     teller: &T,
     voice: &Voice<'_>,
-    built: &Result<Report<'_>, Fault<'_>>,
+    built: &Result<Built<'_>, Fault<'_>>,
     err: &mut Stream<E>,
 ) -> u8
     ensures status { result ≡ built_status built.now }
@@ -30,14 +30,9 @@ fn tell_built<T: Teller, E: Write + Drop>(
         × IsSaid text err.old err.new }
 {
     match built {
-        Ok(report) => {
-            match report {
-                Report::Built { stored, of, .. } => {
-                    err.say(format_args!("stored {stored} of {of}\n"))
-                }
-                Report::Stored(_) | Report::Audited(_) => err.say(""),
-            }
-            report.status()
+        Ok(built) => {
+            err.say(format_args!("stored {} of {}\n", built.stored, built.of));
+            built.status()
         }
         Err(fault) => tell_fault(alloc, teller, voice, fault, err),
     }

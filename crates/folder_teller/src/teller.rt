@@ -4,7 +4,7 @@ use crate::fault::fault_json;
 use crate::replies::{Lookup, MEMORY_REFUSED, reply_text};
 use crate::texts::{asked_by, itinerary_text, line, stops_text};
 use answer_lines::{Answer, Report};
-use command_line::{Format, Plan, Task};
+use command_line::{Format, Plan};
 use faults::Fault;
 use feed_basis::Basis;
 use feed_names::open_names;
@@ -98,15 +98,6 @@ impl<'r> FolderTeller<'r> {
     }
 }
 
-// The command of a task.
-fn command_of(task: &Task<'_>) -> &'static str {
-    match task {
-        Task::Direct => "direct",
-        Task::Scan { .. } => "scan",
-        Task::Ask { .. } => "ask",
-    }
-}
-
 // Nothing is claimed of the texts: tests say what they are.
 impl Teller for FolderTeller<'_> {
     type Lookup = Lookup;
@@ -132,7 +123,7 @@ impl Teller for FolderTeller<'_> {
         answer: &Answer,
     ) -> Result<String, AllocError> {
         let settings = &asked.settings;
-        let asked = asked_by(command_of(&asked.task), &asked.question, format);
+        let asked = asked_by(asked.command, &asked.question, format);
         let itinerary = self.itinerary(alloc, settings, &asked, basis, answer)?;
         itinerary_text(alloc, format, &itinerary)
     }
@@ -141,15 +132,11 @@ impl Teller for FolderTeller<'_> {
         &self,
         alloc: Global,
         format: Format,
+        command: &str,
         folder: &str,
         report: &Report<'_>,
     ) -> Result<String, AllocError> {
-        let (command, ids): (&str, &[&str]) = match report {
-            Report::Stored(ids) => ("list", ids),
-            Report::Built { missing, .. } => ("build", missing),
-            Report::Audited(audit) => ("audit", slice::from_ref(&audit.from)),
-        };
-        let list = self.stop_list(alloc, folder, command, ids)?;
+        let list = self.stop_list(alloc, folder, command, report.stops())?;
         stops_text(alloc, format, &list)
     }
 

@@ -2,7 +2,6 @@
 
 ghost use Rattle.std.specs.Prelude.{◌≡◌};
 
-use command_line::Task;
 use options::Settings;
 use question_lines::Question;
 
@@ -10,7 +9,8 @@ use question_lines::Question;
 #[derive(Clone, Copy, Debug, PartialEq, Eq)]
 pub struct Asked<'p, 'a> {
     pub settings: Settings<'p>,
-    pub task: Task<'a>,
+    /// The name of the command.
+    pub command: &'static str,
     pub question: Question<'a>,
 }
 

@@ -49,11 +49,12 @@ pub trait Teller: Copy {
     ) -> Result<String, AllocError>
         ensures { IfOk result (λ text. tells format basis.now answer.now (string_bytes text)) };
 
-    /// The text of a report in a format, over the feed in a folder. It fails only if memory runs out.
+    /// The text of a command's report in a format, over the feed in a folder. It fails only if memory runs out.
     fn report(
         &self,
         alloc: Global,
         format: Format,
+        command: &str,
         folder: &str,
         report: &Report<'_>,
     ) -> Result<String, AllocError>

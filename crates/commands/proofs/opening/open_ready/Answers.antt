@@ -18,8 +18,8 @@ returns-in-Ok-Foreign-clause-kept_out g c = inr (record {
   same = c.file_kind.ensures.same;
   why = λ honest.
       let read = (g.S.Store.Disk.state c.in-Ok.disk).read in
-      let kind = subst (λ (t : Table). IsOfKind (form_of t c.args.rides) read Foreign) c.timetable.ensures.value
-      (subst (λ (k : FileKind). IsOfKind (form_of c.timetable.result.now c.args.rides) read k) c.in-Ok-Foreign.field-0-is (c.in-Ok-Foreign.ensures.kind honest)) in
+      let kind = subst (λ (t : Table). IsOfKind (form_of t c.args.file.now.rides) read Foreign) c.timetable.ensures.value
+      (subst (λ (k : FileKind). IsOfKind (form_of c.timetable.result.now c.args.file.now.rides) read k) c.in-Ok-Foreign.field-0-is (c.in-Ok-Foreign.ensures.kind honest)) in
       inl (refl, kind.0, kind.1);
   counted = λ device. ⊎_elim (λ (e : faults.Store NotAStore ≡ faults.Store Device). cc) (λ (e : faults.Store NotAStore ≡ faults.PutFailed). cc) device;
 })

@@ -3,12 +3,9 @@ use Rattle.printing.specs.Faults.{IsFaultSaid}
 use Rattle.printing.specs.Finished.{streams_of}
 use Rattle.printing.specs.declared.fault.Voice.{Voice}
 use Rattle.tellers.specs.Tellings.{telling_of}
-use Rattle.commands.specs.Errands.{IsErrand}
 use Rattle.feed_basis.specs.BasisFaults.{IsBasisFault}
-use Rattle.commands.specs.Runs.{IsSearchRun, IsServed, voice_of}
+use Rattle.commands.specs.Runs.{IsFoundRun, IsServed, voice_of}
 use Rattle.commands.specs.World.{view_of}
-use Rattle.commands.specs.declared.errand.Errand.{Errand}
-use Rattle.commands.proofs.RunFacts.{search_run, serve_run}
 use Rattle.commands.proofs.running.run_plan.Goals as goal
 
 pub returns-in-Err : goal.returns-in-Err
@@ -37,12 +34,11 @@ returns-in-Find g c = λ feed h.
     let ended = c.run_search.result in
     let old = streams_of c.args.streams.out c.args.streams.err in
     let new = streams_of ended.streams.out ended.streams.err in
-    let errand = subst (λ (e : Errand). IsErrand plan.command e) c.in-Find.is c.errand_of.ensures in
-    let run = subst (λ (k : ℕ). IsSearchRun v plan basis k c.in-Find.search old new ended.status ended.store) c.new-rides.ensures c.run_search.ensures in
+    let run = subst (λ (k : ℕ). IsFoundRun v plan basis k c.in-Find.search old new ended.status ended.store) c.new-rides.ensures c.run_search.ensures in
     inr (
       basis,
       record { with_keys = sym c.hash_keys-hash_keys.ensures ∙ c.in-Ok.ensures.keyed; over = c.in-Ok.ensures.basis feed h },
-      search_run v (g.I.Read.remaining c.args.input.now) plan basis old new ended.status ended.store plan.command c.in-Find.search errand run,
+      rw c.in-Find.is run,
     )
 
 pub returns : goal.returns
@@ -55,8 +51,7 @@ returns g c = λ feed h.
     let ended = c.run_serve.result in
     let old = streams_of c.args.streams.out c.args.streams.err in
     let new = streams_of ended.streams.out ended.streams.err in
-    let path = c.in-Serve.path in
-    let errand = subst (λ (e : Errand). IsErrand plan.command e) c.in-Serve.is c.errand_of.ensures in
+    let path = c.in-Serve.store in
     let voiced = subst (λ (voice : Voice). IsServed v input plan.style voice basis c.new-rides.result path.now old new ended.status ended.store)
     c.voice_of-voice.ensures c.run_serve.ensures in
     let done = subst (λ (k : ℕ). IsServed v input plan.style (voice_of plan) basis k path.now old new ended.status ended.store)
@@ -64,5 +59,5 @@ returns g c = λ feed h.
     inr (
       basis,
       record { with_keys = sym c.hash_keys-hash_keys.ensures ∙ c.in-Ok.ensures.keyed; over = c.in-Ok.ensures.basis feed h },
-      serve_run v input plan basis old new ended.status ended.store plan.command path c.in-Serve.workers errand done,
+      rw c.in-Serve.is done,
     )

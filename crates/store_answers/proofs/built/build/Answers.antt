@@ -2,14 +2,14 @@ use Rattle.std.proofs.Common.{◌↔◌, List, ℕ, sym, subst, inl, inr, IfOk, 
 use Rattle.timetable.specs.Table.{stops_of}
 use Rattle.store_answers.specs.Builds.{CountsLeft, CountsStored, IsBuilt, IsEndOf, IsStopped, IsUnbuilt}
 use Rattle.store_answers.specs.Stores.{OnlyFailing, form_over}
-use Rattle.store_answers.proofs.BuildFacts.{Laws, Opens, came, end_fails, left_of, stays_honest, weaker}
+use Rattle.store_answers.proofs.BuildFacts.{Laws, Opens, came, end_fails, left_of, refused, reported, stays_honest, weaker}
 use Rattle.store_answers.proofs.OpeningFacts.{of_refusal, unopened_over, unopened_fails}
 use Rattle.store_answers.proofs.built.build.Goals as goal
 
 pub returns-in-Err-clause-built : goal.returns-in-Err-clause-built
 returns-in-Err-clause-built g c = λ honest.
     let e = c.in-Err.ensures in
-    inl (unopened_over (form_over c.args.basis.now c.args.rides) (g.D.Disk.state c.args.disk) (g.D.Disk.state c.in-Err.disk) c.in-Err.fault
+    inl (unopened_over (form_over c.args.building.now.basis.now c.args.building.now.rides) (g.D.Disk.state c.args.disk) (g.D.Disk.state c.in-Err.disk) c.in-Err.fault
     c.from.result (e.cause honest) (e.refused honest) (e.alone honest) c.from.ensures (e.moments honest))
 
 pub returns-in-Err-clause-device : goal.returns-in-Err-clause-device
@@ -18,8 +18,8 @@ returns-in-Err-clause-device g c =
 
 pub returns-clause-built : goal.returns-clause-built
 returns-clause-built g c = λ honest.
-    let basis = c.args.basis.now in
-    let k = c.args.rides in
+    let basis = c.args.building.now.basis.now in
+    let k = c.args.building.now.rides in
     let state = g.D.Disk.state in
     let old = state c.args.disk in
     let first = c.in-Ok.opened.1 in
@@ -36,19 +36,21 @@ returns-clause-built g c = λ honest.
     } in
     let opens : Opens g.D.Disk.honest state (form_over basis k) old first =
     record { same = e.form; opening = e.moments honest; stood = e.stood honest; sound = e.sound honest } in
-    let counts = subst (λ (l : List ℕ). IfOk c.told-report.result (CountsStored basis l)) c.stored.ensures.stored c.told-report.ensures.counts in
-    subst (λ d. MatchResult c.told-report.result (IsBuilt basis k old (state d)) (IsUnbuilt basis k old (state d))) (sym c.into_disk.ensures)
-    (weaker c.told-report.result (IsBuilt basis k old (state last.disk)) (IsStopped basis k old (state last.disk)) (IsUnbuilt basis k old (state last.disk))
+    let counts = subst (λ (l : List ℕ). IfOk c.told-built.result (CountsStored basis l)) c.stored.ensures.stored c.told-built.ensures.counts in
+    reported c.told-built.result c.report_of.result (IsBuilt basis k old (state c.into_disk.result)) (IsUnbuilt basis k old (state c.into_disk.result))
+    c.report_of.ensures
+    (subst (λ d. MatchResult c.told-built.result (IsBuilt basis k old (state d)) (IsUnbuilt basis k old (state d))) (sym c.into_disk.ensures)
+    (weaker c.told-built.result (IsBuilt basis k old (state last.disk)) (IsStopped basis k old (state last.disk)) (IsUnbuilt basis k old (state last.disk))
     (λ fault h. inr h)
-    (came g.D.Disk.honest state g.D.Disk.failures laws basis k old first last outcome c.told-report.result opens p
-    c.told-report.ensures.whole counts c.told-report.ensures.ended))
+    (came g.D.Disk.honest state g.D.Disk.failures laws basis k old first last outcome c.told-built.result opens p
+    c.told-built.ensures.whole counts c.told-built.ensures.ended)))
 
-pub told-report-requires : goal.told-report-requires
-told-report-requires g c =
+pub told-built-requires : goal.told-built-requires
+told-built-requires g c =
     let last = c.precompute_telling-desk.result.0 in
     let outcome = c.precompute_telling-desk.result.1 in
-    subst (λ (l : List ℕ). CountsLeft (stops_of c.args.basis.now.timetable) l outcome) (sym c.stored.ensures.stored)
-    (left_of g.D.Disk.honest g.D.Disk.state g.D.Disk.failures c.in-Ok.opened.1 last (form_over c.args.basis.now c.args.rides) outcome
+    subst (λ (l : List ℕ). CountsLeft (stops_of c.args.building.now.basis.now.timetable) l outcome) (sym c.stored.ensures.stored)
+    (left_of g.D.Disk.honest g.D.Disk.state g.D.Disk.failures c.in-Ok.opened.1 last (form_over c.args.building.now.basis.now c.args.building.now.rides) outcome
     c.in-Ok.ensures.form c.precompute_telling-desk.ensures.precomputed)
 
 pub returns-clause-device : goal.returns-clause-device
@@ -57,11 +59,12 @@ returns-clause-device g c =
     let first = c.in-Ok.opened.1 in
     let last = c.precompute_telling-desk.result.0 in
     let outcome = c.precompute_telling-desk.result.1 in
-    subst (λ d. IfErr c.told-report.result (OnlyFailing (failures c.args.disk) (failures d))) (sym c.into_disk.ensures)
-    (subst (λ n. IfErr c.told-report.result (OnlyFailing n (failures last.disk))) c.in-Ok.ensures.device
-    (of_refusal c.told-report.result (IsEndOf outcome) (OnlyFailing (failures first.disk) (failures last.disk))
+    refused c.told-built.result c.report_of.result (OnlyFailing (failures c.args.disk) (failures c.into_disk.result)) c.report_of.ensures
+    (subst (λ d. IfErr c.told-built.result (OnlyFailing (failures c.args.disk) (failures d))) (sym c.into_disk.ensures)
+    (subst (λ n. IfErr c.told-built.result (OnlyFailing n (failures last.disk))) c.in-Ok.ensures.device
+    (of_refusal c.told-built.result (IsEndOf outcome) (OnlyFailing (failures first.disk) (failures last.disk))
     (λ fault is. end_fails g.D.Disk.honest g.D.Disk.state failures first last outcome fault is c.precompute_telling-desk.ensures.precomputed)
-    c.told-report.ensures.ended))
+    c.told-built.ensures.ended)))
 
 pub returns-clause-honest : goal.returns-clause-honest
 returns-clause-honest g c =

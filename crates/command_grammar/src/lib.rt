@@ -1,0 +1,6 @@
+//! The grammar of the program's command line: its commands, the words that each takes, and their help.
+#![tactic(auto)]
+
+mod program;
+
+pub use program::matches_of;
