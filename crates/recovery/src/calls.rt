@@ -46,7 +46,8 @@ pub fn recover_to<D: Disk, K: Keeper>(
     ensures opening { D.honest disk → MatchResult result
         (λ store. IsOpening (form_of (arc_value table.now) rides) (D.state disk) (D.state store.disk))
         (λ e. IsOpening (form_of (arc_value table.now) rides) (D.state disk) (D.state e.1)) }
-    ensures written { D.honest disk → ¬ IsFresh (D.state disk).read → IfOk result (λ store. D.state store.disk ≡ after_sync (D.state disk)) }
+    ensures written { D.honest disk → ¬ IsFresh (D.state disk).read
+        → IfOk result (λ store. D.state store.disk ≡ after_sync (D.state disk)) }
     ensures alone { D.honest disk → IfErr result (λ e. IsOutside e.0 ⊎ IsLeftAlone (D.state disk) (D.state e.1)) }
     ensures honest { MatchResult result (λ store. D.honest disk ↔ D.honest store.disk) (λ e. D.honest disk ↔ D.honest e.1) }
     ensures ready { IfOk result (λ store. (store.next ≡ Step.WriteBody) × (store.form ≡ form_of (arc_value table.now) rides)) }

@@ -83,8 +83,8 @@ fn report_of<'a>(built: Result<Built<'a>, Fault<'a>>) -> Result<Report<'a>, Faul
 
 /// Stores the trees that the file of the disk lacks: workers build them in threads, and the calling thread stores each as it is handed in.
 /// It reports how many the file has then, and the stops without one. The file is recovered, and a fresh one begun. No tree is kept in
-/// memory once it is stored. `progress` is told how far the build is. The disk comes back. A stop is left without its tree if that is too
-/// large, or memory is refused for it.
+/// memory once it is stored. The build reports to `progress` how far it is. The disk comes back. A stop is left without its tree if that is
+/// too large, or memory is refused for it.
 ///
 /// Of an honest disk, whatever the order of the workers' steps: stopped before, within or after any call, the file stands for a list that
 /// begins with the old one, and has each tree whose storing was done; the same build again goes on from there.

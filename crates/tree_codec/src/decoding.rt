@@ -22,7 +22,7 @@ const MOST_LEVELS: u8 = 8;
 /// For how many siblings memory is reserved at most before they are read.
 const RESERVED_NODES: usize = 64;
 
-/// How many of so many items there are bytes for, if each takes `size` bytes at least.
+/// How many of `count` items the bytes that are left can hold, if each takes at least `size` bytes.
 fn there(input: &Input, size: usize, count: usize) -> usize
     requires { 0 < size }
 {
