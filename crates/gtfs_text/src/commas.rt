@@ -10,6 +10,10 @@ use std::io::{ErrorKind, Read};
 /// How many commas of one record are read, quoted ones among them, before memory is refused to it.
 pub(crate) const COMMA_LIMIT: usize = 1_000_000;
 
+// How many bytes of a record are read before its commas are counted. Each of these bytes is taken for a comma, so that a record of a usual
+// length isn't looked through.
+const UNCOUNTED: usize = 65_536;
+
 /// Bytes that are read as long as commas are left.
 #[derive(Drop)]
 pub(crate) struct UpToCommas<'a> {
@@ -40,7 +44,11 @@ impl Read for UpToCommas<'_> {
             return Err(io::Error::from(ErrorKind::OutOfMemory));
         }
         let read = self.bytes.read(buf)?;
-        let commas = commas_in(&buf[..read]);
+        let commas = if left > COMMA_LIMIT - UNCOUNTED {
+            read
+        } else {
+            commas_in(&buf[..read])
+        };
         self.left.set(left.saturating_sub(commas));
         Ok(read)
     }
