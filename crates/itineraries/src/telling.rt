@@ -157,8 +157,8 @@ struct Teller<'a> {
 
 impl Teller<'_> {
     // A time by the clock.
-    fn time(&self, alloc: Global, at: DayTime) -> Result<Time, AllocError> {
-        self.clock.time(alloc, at.date, at.seconds)
+    fn time(&self, at: DayTime) -> Time {
+        self.clock.time(at)
     }
 
     // The seconds from one time to a later one.
@@ -197,7 +197,7 @@ impl Teller<'_> {
     fn stay(&self, alloc: Global, id: &str, at: DayTime) -> Result<Stay, AllocError> {
         Ok(Stay {
             place: self.names.place(alloc, id)?,
-            time: self.time(alloc, at)?,
+            time: self.time(at),
         })
     }
 
@@ -245,22 +245,22 @@ impl Teller<'_> {
         };
         Ok(Journey {
             rides: point.rides,
-            departure: Some(self.time(alloc, departs)?),
-            arrival: self.time(alloc, point.at)?,
+            departure: Some(self.time(departs)),
+            arrival: self.time(point.at),
             seconds: self.seconds(departs, point.at),
             legs: Some(self.legs(alloc, begins, &point.stages)?),
         })
     }
 
     // A journey by a single ride, of which only the arrival is known.
-    fn arrival(&self, alloc: Global, at: DayTime) -> Result<Journey, AllocError> {
-        Ok(Journey {
+    fn arrival(&self, at: DayTime) -> Journey {
+        Journey {
             rides: 1,
             departure: None,
-            arrival: self.time(alloc, at)?,
+            arrival: self.time(at),
             seconds: None,
             legs: None,
-        })
+        }
     }
 
     // Puts in the journeys of an answer.
@@ -273,7 +273,7 @@ impl Teller<'_> {
     ) -> Result<(), AllocError> {
         match answer {
             Answer::NoRide => {}
-            Answer::Arrive(at) => journeys.push(self.arrival(alloc, *at)?)?,
+            Answer::Arrive(at) => journeys.push(self.arrival(*at))?,
             Answer::Points(points) => {
                 for point in points {
                     journeys.push(self.journey(alloc, begins, point)?)?;
@@ -330,7 +330,7 @@ pub fn itinerary_by<'a>(
         command: asked.command,
         from: names.place(alloc, asked.from)?,
         to: names.place(alloc, asked.to)?,
-        departure: teller.time(alloc, asked.departs)?,
+        departure: teller.time(asked.departs),
         journeys: teller.journeys(alloc, asked.departs, answer)?,
     })
 }

@@ -2,7 +2,7 @@
 
 use crate::itinerary::{Itinerary, Journey, Leg, Place, Trip};
 use crate::json_writer::JsonWriter;
-use crate::plain::write_kind;
+use crate::plain::{write_iso, write_kind};
 use std::alloc::{AllocError, Global};
 
 /// A position: its longitude and its latitude, in degrees (RFC 7946, section 3.1.1).
@@ -75,10 +75,10 @@ fn write_trip(out: &mut JsonWriter, trip: Option<&Trip>) {
 fn write_ends(out: &mut JsonWriter, leg: &Leg) {
     out.member("from", &leg.from.place.id);
     out.member("from_name", &leg.from.place.name);
-    out.member("departure", &leg.from.time.iso);
+    write_iso(out, "departure", &leg.from.time);
     out.member("to", &leg.to.place.id);
     out.member("to_name", &leg.to.place.name);
-    out.member("arrival", &leg.to.time.iso);
+    write_iso(out, "arrival", &leg.to.time);
 }
 
 // Writes what is told of a ride or a walk on a map. Its journey has a number from 1, and stops are left out if the feed has no position of

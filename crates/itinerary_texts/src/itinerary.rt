@@ -1,17 +1,6 @@
 //! What is told of an answer.
 
-/// A time of a service day, as the feed has it, and as ISO 8601 has it.
-#[derive(Drop)]
-pub struct Time {
-    /// The service day, as `20240102`.
-    pub date: String,
-    /// The time of the service day, as `25:10:00`.
-    pub time: String,
-    /// The same by the zone's clock, with its offset, as `2024-01-03T01:10:00+01:00`; none past the years that jiff knows.
-    pub iso: Option<String>,
-    /// What the zone's clock shows, as `2024-01-03 01:10`, for people alone.
-    pub clock: String,
-}
+use crate::time::Time;
 
 /// A stop or a station, with what the feed tells people of it.
 #[derive(Drop)]

@@ -100,6 +100,15 @@ impl JsonWriter {
         self.value(value);
     }
 
+    /// Writes a member whose value is a text of letters, digits and marks that JSON shows as they are.
+    pub(crate) fn plain_member(&mut self, name: &str, text: &str) {
+        self.name(name);
+        self.put("\"");
+        self.put(text);
+        self.put("\"");
+        self.follows = true;
+    }
+
     /// The whole text. It fails only if memory ran out.
     pub(crate) fn into_text(self) -> Result<String, AllocError> {
         if self.is_refused {

@@ -9,12 +9,12 @@ mod json_writer;
 mod people;
 mod plain;
 mod stop_map;
+mod time;
 
 pub use fault::{FaultText, fault_text_json};
 pub use geo::geojson;
-pub use itinerary::{
-    Frequency, Itinerary, Journey, Kind, Leg, Place, Route, Stay, StopList, Time, Trip,
-};
+pub use itinerary::{Frequency, Itinerary, Journey, Kind, Leg, Place, Route, Stay, StopList, Trip};
 pub use people::people_text;
 pub use plain::{itinerary_json, stops_json};
 pub use stop_map::stops_geojson;
+pub use time::{Shown, Time};

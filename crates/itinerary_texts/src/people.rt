@@ -61,7 +61,7 @@ impl fmt::Display for TripText<'_> {
 
 impl fmt::Display for Leg {
     fn fmt<W: fmt::Write>(&self, f: &mut fmt::Formatter<W>) -> fmt::Result {
-        let (departure, arrival) = (&self.from.time.clock, &self.to.time.clock);
+        let (departure, arrival) = (&self.from.time, &self.to.time);
         match (self.kind, &self.trip) {
             (Kind::Ride, Some(trip)) => {
                 writeln!(
@@ -84,14 +84,14 @@ impl fmt::Display for Leg {
 
 impl fmt::Display for Journey {
     fn fmt<W: fmt::Write>(&self, f: &mut fmt::Formatter<W>) -> fmt::Result {
-        let departure = match &self.departure {
-            Some(departure) => departure.clock.as_str(),
-            None => "",
-        };
+        write!(f, "depart ")?;
+        if let Some(departure) = &self.departure {
+            write!(f, "{departure}")?;
+        }
         writeln!(
             f,
-            "depart {departure}, arrive {}, {} min, rides {}",
-            self.arrival.clock,
+            ", arrive {}, {} min, rides {}",
+            self.arrival,
             minutes(self.seconds.unwrap_or(0)),
             self.rides
         )?;

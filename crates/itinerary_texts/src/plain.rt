@@ -1,9 +1,10 @@
 //! Answers and lists of stops as JSON.
 
 use crate::itinerary::{
-    Frequency, Itinerary, Journey, Kind, Leg, Place, Route, Stay, StopList, Time, Trip,
+    Frequency, Itinerary, Journey, Kind, Leg, Place, Route, Stay, StopList, Trip,
 };
 use crate::json_writer::JsonWriter;
+use crate::time::Time;
 use std::alloc::{AllocError, Global};
 
 /// Writes how one gets on.
@@ -26,12 +27,22 @@ fn write_place(out: &mut JsonWriter, place: &Place) {
     out.end_object();
 }
 
+/// Writes a time of the zone's clock under a name, or null past the years that jiff knows.
+pub(crate) fn write_iso(out: &mut JsonWriter, name: &str, time: &Time) {
+    match time.iso() {
+        Some(iso) => out.plain_member(name, iso.as_str()),
+        None => out.member(name, &()),
+    }
+}
+
 // Writes a time.
 fn write_time(out: &mut JsonWriter, time: &Time) {
+    let told = time.told();
+    let (date, hours) = told.as_str().split_once(' ').unwrap_or((told.as_str(), ""));
     out.begin_object();
-    out.member("date", &time.date);
-    out.member("time", &time.time);
-    out.member("iso", &time.iso);
+    out.plain_member("date", date);
+    out.plain_member("time", hours);
+    write_iso(out, "iso", time);
     out.end_object();
 }
 

@@ -1,0 +1,60 @@
+//! Times, as a feed has them and as the clocks of its zone show them.
+
+use answer_lines::DayTime;
+use arrayvec::ArrayString;
+use jiff::Timestamp;
+use jiff::tz::Offset;
+use std::fmt;
+use std::fmt::Write;
+
+/// A time of a service day, as the feed has it and as a zone's clock shows it.
+#[derive(Clone, Copy)]
+pub struct Time {
+    /// The service day, and the time of it.
+    pub told: DayTime,
+    /// The same on the zone's clock; none past the years that jiff knows.
+    pub shown: Option<Shown>,
+}
+
+/// A moment, and the zone's offset from UTC at that moment.
+#[derive(Clone, Copy)]
+pub struct Shown {
+    pub moment: Timestamp,
+    pub offset: Offset,
+}
+
+impl Time {
+    /// By the zone's clock with its offset, as ISO 8601 has it: `2024-01-03T01:10:00+01:00`.
+    pub(crate) fn iso(&self) -> Option<ArrayString<38>> {
+        match self.shown {
+            Some(shown) => Some(shown.moment.display_with_offset(shown.offset)),
+            None => None,
+        }
+    }
+
+    /// The service day and its time with a space between them: `20240102 25:10:00`.
+    pub(crate) fn told(&self) -> ArrayString<24> {
+        let mut text = ArrayString::new();
+        // It has at most 22 bytes, since the seconds are fewer than 2^32.
+        let _ = write!(text, "{}", self.told);
+        text
+    }
+}
+
+/// What the zone's clock shows, with seconds if there are some: `2024-01-03 01:10`. Past the years that jiff knows it is the service day and
+/// its time.
+impl fmt::Display for Time {
+    fn fmt<W: fmt::Write>(&self, f: &mut fmt::Formatter<W>) -> fmt::Result {
+        let Some(shown) = self.shown else {
+            return write!(f, "{}", self.told);
+        };
+        let at = shown.offset.to_datetime(shown.moment);
+        let (year, month, day) = (at.year(), at.month(), at.day());
+        let (hour, minute, second) = (at.hour(), at.minute(), at.second());
+        write!(f, "{year:04}-{month:02}-{day:02} {hour:02}:{minute:02}")?;
+        if second != 0 {
+            write!(f, ":{second:02}")?;
+        }
+        Ok(())
+    }
+}
