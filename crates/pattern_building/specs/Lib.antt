@@ -1,2 +1,3 @@
 pub mod RoundPairs
 pub mod Lowered
+pub mod Latest

@@ -11,6 +11,7 @@ ghost use Rattle.pattern_tree.specs.Completeness.{Complete, Earned, TooManyAreEa
 ghost use Rattle.pattern_building.specs.RoundPairs.{Gives, InRound, IsGiven, AddsGiven, Keeps, HasGiven, CompleteAt};
 ghost use Rattle.pattern_building.specs.Lowered.{Lowered, AreLater};
 
+use crate::growing::GrowingTree;
 use pattern_tree::{PatternTree, TreeFault};
 use rounds::{RoundView, Scratch};
 use std::alloc::{Allocator, Global};
@@ -22,7 +23,7 @@ fn add_round<A: Allocator + Clone>(
     view: &RoundView<'_>,
     rides: u8,
     stops: usize,
-    tree: &mut PatternTree<A>,
+    tree: &mut GrowingTree<A>,
 ) -> Result<(), TreeFault>
     requires some { 1 ≤ rides }
     requires few { rides ≤ length (rounds_of view.now) }
@@ -40,7 +41,7 @@ fn add_round<A: Allocator + Clone>(
     for stop in view.lowered(rides) {
         if stop.number() < stops {
             if let Some(path) = view.pattern(rides, *stop) {
-                tree.insert(path.as_slice(), *stop)?;
+                tree.insert(path, *stop)?;
             }
         }
     }
@@ -53,7 +54,7 @@ fn add_event<A: Allocator + Clone>(
     table: &Timetable,
     event: u32,
     scratch: &mut Scratch,
-    tree: &mut PatternTree<A>,
+    tree: &mut GrowingTree<A>,
 ) -> Result<(), TreeFault>
     requires table { IsMadeFor scratch.old table.now }
     requires source { source_of scratch.old < stops_of table.now }
@@ -101,11 +102,12 @@ pub fn build<A: Allocator + Clone>(
     ensures large { result ≡ Err TreeFault.TooLarge → TooManyAreEarned table.now (rides_of scratch.old) source }
 {
     let moments = scratch.departures(global, table, source)?;
-    let mut tree = PatternTree::new_in(alloc, source);
+    let rides = scratch.rides().number() as usize;
+    let mut tree = GrowingTree::new(alloc, global, source, rides, table.stops())?;
     // From the last to the first: the rides of a later event can be taken by one who is there earlier.
     scratch.restart(source);
     for index in (0..moments.len()).rev() {
         add_event(table, moments[index], scratch, &mut tree)?;
     }
-    Ok(tree)
+    Ok(tree.into_tree())
 }

@@ -5,6 +5,8 @@
 
 mod building;
 mod finishing;
+mod growing;
+mod latest;
 
 pub use building::build;
 pub use finishing::finish;

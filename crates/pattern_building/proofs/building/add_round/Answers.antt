@@ -43,11 +43,11 @@ loop-stop-preserved g c =
           let new = w.insert.new.self.pairs in
           let p : Pair = (w.in-Some.path.items, stop) in
           let gives : Gives rounds r p = (w.in-Some.ensures.sooner.0 refl, w.in-Some.ensures.path) in
-          let added : IsAdded old new p = subst (λ (path : List Step). IsAdded old new (path, stop)) w.as_slice.ensures.value w.in_ok-insert.ensures.added in
+          let added : IsAdded old new p = w.in_ok-insert.ensures.added in
           let below = subst (λ k. k < stops) c.number.ensures.value w.if-number-stops.true in
           rw w.tree-is record {
             source = w.insert.ensures.source ∙ inv.source;
-            once = w.insert.ensures.once;
+            once = w.insert.ensures.once inv.once;
             adds = adds_one rounds (InRound r stops) (InRound r stops) first old new p (λ i t h. h) inv.adds (r, (refl, below), gives) added;
             keeps = λ q h. (added q).1 (inl (inv.keeps q h));
             all = has_then rounds (SeenAt r stops listed n) (λ i t. AtStop r stop i t × (t < stops)) (SeenAt r stops listed (n + 1)) old new split inv.all (λ q h. (added q).1 (inl h))
@@ -76,13 +76,12 @@ loop-stop-preserved g c =
           }
     ]
 
-pub insert-requires-clause-some : goal.insert-requires-clause-some
-insert-requires-clause-some g c =
+pub insert-requires : goal.insert-requires
+insert-requires g c =
     let rounds = rounds_of c.args.view.now in
     let p : Pair = (c.in-Some.path.items, c.stop-item.result) in
     let gives : Gives rounds c.args.rides p = (c.in-Some.ensures.sooner.0 refl, c.in-Some.ensures.path) in
-    let some = c.requires.ridden p (subst (λ k. k < c.args.stops) c.number.ensures.value c.if-number-stops.true) gives in
-    rw c.as_slice.ensures.value some
+    record { some = c.requires.ridden p (subst (λ k. k < c.args.stops) c.number.ensures.value c.if-number-stops.true) gives }
 
 pub returns-clause-all : goal.returns-clause-all
 returns-clause-all g c = λ p given.
@@ -107,6 +106,6 @@ returns-in_err-insert-clause-large g c = λ is.
     let old = c.loop-stop.tree.pairs in
     let fault = same_fault c.from_residual.result c.in_err-insert.field-0.0 c.from_residual.ensures.1 is in
     let refused = c.in_err-insert.was ∙ ap (λ (e : TreeFault). Err e) fault in
-    let large : IsTooLarge old p = subst (λ (path : List Step). IsTooLarge old (path, c.stop-item.result)) c.as_slice.ensures.value (c.insert.ensures.large.0 refused) in
+    let large : IsTooLarge old p = c.insert.ensures.large refused in
     let below : p.1 < c.args.stops = subst (λ k. k < c.args.stops) c.number.ensures.value c.if-number-stops.true in
     (p, (c.args.rides, (refl, below), gives), subst (λ (t : Content). IsTooLarge t.pairs p) (sym c.in_err-insert.ensures.unchanged) large)

@@ -26,16 +26,16 @@ loop-index-init g c =
     let T = c.args.table.now in
     let k = rides_of c.args.scratch.now in
     let count = c.len-index.ensures in
-    let pairs : c.new_in-tree.result.pairs ≡ [] = ap (λ (x : Content). x.pairs) c.new_in-tree.ensures in
+    let pairs : c.in_ok-tree.tree.pairs ≡ [] = ap (λ (x : Content). x.pairs) c.in_ok-tree.ensures in
     record {
       same = c.restart.ensures.same;
       from = c.restart.ensures.source;
       may = λ i _. c.restart.ensures.kept T (get_or c.in_ok-moments.moments.items i 0) c.requires.table;
-      source = ap (λ (x : Content). x.source) c.new_in-tree.ensures;
+      source = ap (λ (x : Content). x.source) c.in_ok-tree.ensures;
       once = subst (λ (ps : List Pair). AllPairs (λ p q. p ≢ q) ps) (sym pairs) (λ i j d lt below. absurd (omega (arith, below)));
       earned = subst (λ (ps : List Pair). Earned T k c.args.source ps) (sym pairs) (λ path t h. let below = h.1 in absurd (omega (arith, below)));
       complete = λ i le lt. absurd (let z : ⊥ = omega (arith, count, le, lt) in z);
-      later = λ i _. later_none T c.args.source k c.new_in-tree.result.pairs (kept_of c.restart.new.self) (get_or c.in_ok-moments.moments.items i 0) c.restart.ensures.none;
+      later = λ i _. later_none T c.args.source k c.in_ok-tree.tree.pairs (kept_of c.restart.new.self) (get_or c.in_ok-moments.moments.items i 0) c.restart.ensures.none;
     }
 
 -- what is known once the events from i on are done
@@ -164,12 +164,12 @@ returns-clause-complete g c =
     let inv = c.loop-index.invariant in
     let moments = c.in_ok-moments.moments.items in
     let f = c.loop-index-test.false in
-    complete_of T s k c.loop-index.tree.pairs (λ e event.
+    rw c.into_tree.ensures (complete_of T s k c.loop-index.tree.pairs (λ e event.
     let at = at_from_Contains moments e (c.in_ok-moments.ensures.all e event) in
-    subst (λ (d : ℕ). CompleteAt T k s d c.loop-index.tree.pairs) (at.2 0) (inv.complete at.0 (omega (arith, f)) at.1))
+    subst (λ (d : ℕ). CompleteAt T k s d c.loop-index.tree.pairs) (at.2 0) (inv.complete at.0 (omega (arith, f)) at.1)))
 
 pub returns-clause-short : goal.returns-clause-short
-returns-clause-short g c = short_of c.args.table.now c.args.source (rides_of c.args.scratch.now) c.loop-index.tree.pairs c.loop-index.invariant.earned
+returns-clause-short g c = rw c.into_tree.ensures (short_of c.args.table.now c.args.source (rides_of c.args.scratch.now) c.loop-index.tree.pairs c.loop-index.invariant.earned)
 
 pub add_event-requires-clause-earned : goal.add_event-requires-clause-earned
 add_event-requires-clause-earned g c =
