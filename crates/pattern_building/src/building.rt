@@ -81,7 +81,8 @@ fn add_event<A: Allocator + Clone>(
 }
 
 /// The tree of a source: for each moment and stop, the patterns of the best journeys of at most as many rides as the
-/// scratch has, and no others. It lies in the memory of `alloc`; the moments to leave at lie in that of `global` meanwhile.
+/// scratch has, and no others. It lies in the memory of `alloc`. The moments to leave at, and the pairs that were put in last, lie in that
+/// of `global` meanwhile.
 ///
 /// TooLarge comes only where there are more such patterns and ends than a tree holds. Every other fault is that memory ran
 /// out. The scratch is one of this timetable, and serves further runs, also after a fault.
