@@ -113,22 +113,24 @@ fn read_node<A: Allocator + Clone>(
     if room.nodes == 0 {
         return Err(CodecFault::TooLarge);
     }
-    let board = input.stop(form)?;
-    let alight = input.stop(form)?;
+    let mut rest = Input { bytes: input.bytes };
+    let board = rest.stop(form)?;
+    let alight = rest.stop(form)?;
     if !step_follows(last, board, alight) {
         return Err(CodecFault::NotRising);
     }
-    let count = input.number(form.width)?;
+    let count = rest.number(form.width)?;
     if room.ends < count {
         return Err(CodecFault::TooLarge);
     }
     node.board = board;
     node.alight = alight;
-    read_ends(input, form, count, &mut node.ends)?;
-    let children = input.number(Width::Four)?;
+    read_ends(&mut rest, form, count, &mut node.ends)?;
+    let children = rest.number(Width::Four)?;
     if is_empty(count, children) {
         return Err(CodecFault::EmptyNode);
     }
+    input.bytes = rest.bytes;
     room.nodes -= 1;
     room.ends -= count;
     if children > 0 {
