@@ -1,5 +1,5 @@
-//! Reading a tree. The bytes are from strangers: no more is reserved by a count than a few nodes, or one end for each byte that is
-//! left, and nodes are read no deeper than 8 levels. A node is read where it stays, behind its earlier siblings: it isn't moved.
+//! Reading a tree. The bytes are from strangers: no more is reserved by a count than a few nodes for which there are bytes, or one end for
+//! each byte, and nodes are read no deeper than 8 levels. A node is read where it stays, behind its earlier siblings: it isn't moved.
 
 ghost use Rattle.std.specs.Prelude.{None, ℕ, ◌≡◌, ◌≢◌, ◌<◌, ◌≤◌, ◌++◌, ◌-◌, min, List, [], length, take, IfOk, IfErr, MatchResult};
 ghost use Rattle.pattern_tree.specs.Forest.{forest, none};
@@ -21,6 +21,9 @@ const MOST_LEVELS: u8 = 8;
 
 /// For how many siblings memory is reserved at most before they are read.
 const RESERVED_NODES: usize = 64;
+
+/// A node takes more bytes than these, whatever the width.
+const BELOW_A_NODE: usize = 8;
 
 /// How many nodes and ends may still come.
 #[derive(Drop)]
@@ -154,7 +157,8 @@ fn read_level<A: Allocator + Clone>(
     ensures { Gives (λ _. (forest (branches nodes.new.items), remaining input.new.bytes.now room.new.nodes room.new.ends)) result
         (level_at (byte_count form.width) form.stops levels count None (remaining input.old.bytes.now room.old.nodes room.old.ends)) }
 {
-    nodes.reserve_exact((count as usize).min(RESERVED_NODES))?;
+    let room_for = (input.bytes.len() / BELOW_A_NODE).min(RESERVED_NODES);
+    nodes.reserve_exact((count as usize).min(room_for))?;
     let mut last = None;
     for _ in 0..count {
         if levels == 0 {
