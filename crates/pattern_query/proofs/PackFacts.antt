@@ -3,18 +3,17 @@ use Rattle.std.proofs.Common.{Option, Some, None, ◌≡◌, ◌≢◌, ℕ, zer
 use Rattle.std.proofs.lemmas.List.{append-nil, map-append, length-map}
 use Rattle.std.proofs.lemmas.List.Elements.{All-append, All-weaker, All-map}
 use Rattle.std.proofs.lemmas.Option.{same_Some}
-use Rattle.pattern_tree.specs.Forest.{Branch, Forest, none, forest, Step, Pair, pairs, levels, node_count, step_of}
+use Rattle.pattern_tree.specs.Forest.{Branch, Forest, none, forest, Step, Pair, pairs, node_count, step_of}
 use Rattle.pattern_tree.specs.Branch.{branch, branches}
 use Rattle.pattern_tree.specs.Walks.{after, ending as ending_of}
 use Rattle.pattern_tree.specs.declared.node.Node.{Node}
-use Rattle.pattern_tree.specs.declared.node.Node.TheViews.{out-Node}
-use Rattle.pattern_tree.proofs.NodeFacts.{branch_at, branches_more, next_out, ends_out, step_out}
+use Rattle.pattern_tree.proofs.NodeFacts.{branch_at}
 use Rattle.pattern_tree.proofs.PairFacts.{under, ending as ends_at}
 use Rattle.pattern_tree.proofs.WalkFacts.{pairs_last, after_ends, after_under, after_nil}
 use Rattle.pattern_query.specs.declared.packing.Beginning.{Beginning}
 use Rattle.pattern_query.specs.declared.packing.Pattern.{Pattern}
 use Rattle.pattern_query.proofs.SlotSteps.{none_some}
-use Rattle.pattern_query.specs.Patterns.{ride_of, beginning_at, with_ride, path_to, path_of, pair_of, pairs_of, ending, AreRooted, IsPacked, Packs}
+use Rattle.pattern_query.specs.Patterns.{ride_of, beginning_at, with_ride, path_to, pair_of, pairs_of, ending, AreRooted, IsPacked, Packs}
 
 -- ---- the rides of a beginning
 
@@ -233,6 +232,11 @@ module _ (old : List Beginning) (were : List Pattern) (n : ℕ) (first : IsPacke
             ∙ append_assoc (x ++ u) v w ∙ append_assoc x u (v ++ w)
             ∙ ap (λ (l : List Pair). x ++ l) (sym (after_last path before' node));
       }
+
+-- no nodes have nothing below them
+pub none_of_none : {A : Type 0} (ns : List (Node A)) → length ns ≡ 0 → forest (branches ns) ≡ none
+none_of_none [] e = refl
+none_of_none (n ∷ ns) e = absurd (omega (arith, e))
 
 -- ---- a whole tree
 

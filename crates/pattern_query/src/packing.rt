@@ -99,7 +99,9 @@ pub(crate) fn pack_level<A: Allocator, B: Allocator>(
         })?;
         let last = beginnings.len() as u32;
         pack_ends(&node.ends, last, patterns)?;
-        pack_level(&node.next, last, beginnings, patterns)?;
+        if !node.next.is_empty() {
+            pack_level(&node.next, last, beginnings, patterns)?;
+        }
     }
     Ok(())
 }

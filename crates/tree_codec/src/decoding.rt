@@ -1,8 +1,8 @@
-//! Reading a tree. The bytes are from strangers: no more is reserved by a count than a few nodes, or ends for which there are
-//! bytes, and nodes are read no deeper than 8 levels.
+//! Reading a tree. The bytes are from strangers: no more is reserved by a count than a few nodes for which there are bytes, or one end for
+//! each byte, and nodes are read no deeper than 8 levels. A node is read where it stays, behind its earlier siblings: it isn't moved.
 
-ghost use Rattle.std.specs.Prelude.{None, ℕ, ◌≡◌, ◌≢◌, ◌<◌, ◌≤◌, ◌++◌, ◌-◌, min, List, length, take, IfErr, MatchResult};
-ghost use Rattle.pattern_tree.specs.Forest.{forest};
+ghost use Rattle.std.specs.Prelude.{None, ℕ, ◌≡◌, ◌≢◌, ◌<◌, ◌≤◌, ◌++◌, ◌-◌, min, List, [], length, take, IfOk, IfErr, MatchResult};
+ghost use Rattle.pattern_tree.specs.Forest.{forest, none};
 ghost use Rattle.pattern_tree.specs.Branch.{branch, branches};
 ghost use Rattle.pattern_tree.specs.Content.{Content};
 ghost use Rattle.tree_codec.specs.Text.{TreeText, BeginsNoText};
@@ -13,7 +13,7 @@ use crate::fault::CodecFault;
 use crate::input::Input;
 use crate::width::{StopForm, Width};
 use pattern_tree::{MOST_ENDS, MOST_NODES, Node, PatternTree};
-use std::alloc::Allocator;
+use std::alloc::{AllocError, Allocator};
 use timetable::{MOST_STOPS, StopId};
 
 /// How many levels of nodes a tree has at most.
@@ -22,24 +22,8 @@ const MOST_LEVELS: u8 = 8;
 /// For how many siblings memory is reserved at most before they are read.
 const RESERVED_NODES: usize = 64;
 
-/// How many of `count` items the bytes that are left can hold, if each takes at least `size` bytes.
-fn there(input: &Input, size: usize, count: usize) -> usize
-    requires { 0 < size }
-{
-    // A division is slow, and seldom needed.
-    if count.saturating_mul(size) <= input.bytes.len() {
-        count
-    } else {
-        input.bytes.len() / size
-    }
-}
-
-/// How many siblings memory is reserved for before they are read: no more than there are bytes for. A node has two stops, a number of ends
-/// and a number of children, and at least one end or child.
-fn reserved(input: &Input, form: StopForm, count: u32) -> usize {
-    let size = 4 * form.width.byte_count() + Width::Four.byte_count();
-    there(input, size, (count as usize).min(RESERVED_NODES))
-}
+/// A node takes more bytes than these, whatever the width.
+const BELOW_A_NODE: usize = 8;
 
 /// How many nodes and ends may still come.
 #[derive(Drop)]
@@ -75,18 +59,18 @@ fn is_empty(ends: u32, children: u32) -> bool
     ends == 0 && children == 0
 }
 
-/// Reads so many ends.
-fn ends<A: Allocator>(
-    alloc: A,
+/// Reads so many ends, into an empty list.
+fn read_ends<A: Allocator>(
     input: &mut Input,
     form: StopForm,
     count: u32,
-) -> Result<Vec<StopId, A>, CodecFault>
-    ensures { Gives (λ ends. (ends.items, input.new.bytes.now)) result
+    ends: &mut Vec<StopId, A>,
+) -> Result<(), CodecFault>
+    requires { ends.old.items ≡ [] }
+    ensures { Gives (λ _. (ends.new.items, input.new.bytes.now)) result
         (ends_at (byte_count form.width) form.stops count None input.old.bytes.now) }
 {
-    let room = there(input, form.width.byte_count(), count as usize);
-    let mut ends = Vec::with_capacity(alloc, room)?;
+    ends.reserve_exact((count as usize).min(input.bytes.len()))?;
     let mut last = None;
     for _ in 0..count {
         let end = input.stop(form)?;
@@ -96,76 +80,95 @@ fn ends<A: Allocator>(
         ends.push(end)?;
         last = Some(end);
     }
-    Ok(ends)
+    Ok(())
 }
 
-/// Reads a node with all below it, on at most so many levels.
+/// A node that isn't read yet.
+fn blank<A: Allocator + Clone>(alloc: &A) -> Result<Node<A>, AllocError>
+    ensures { IfOk result (λ node. branch node ≡ record { board = 0; alight = 0; ends = []; next = none }) }
+{
+    Ok(Node {
+        board: StopId::new(0),
+        alight: StopId::new(0),
+        ends: Vec::new(alloc.clone()?),
+        next: Vec::new(alloc.clone()?),
+    })
+}
+
+/// Reads a node with all below it, on at most so many levels, into one that isn't read yet.
 #[cycle(nodes)]
 #[tactic(auto, unfolding(crate::specs::Reading::node_at))]
-fn node<A: Allocator + Clone>(
+fn read_node<A: Allocator + Clone>(
     alloc: &A,
     input: &mut Input,
     room: &mut Room,
     form: StopForm,
     below: u8,
     last: Option<(StopId, StopId)>,
-) -> Result<Node<A>, CodecFault>
-    ensures { Gives (λ node. (branch node, remaining input.new.bytes.now room.new.nodes room.new.ends)) result
+    node: &mut Node<A>,
+) -> Result<(), CodecFault>
+    requires ends { (branch node.old).ends ≡ [] }
+    requires next { (branch node.old).next ≡ none }
+    ensures { Gives (λ _. (branch node.new, remaining input.new.bytes.now room.new.nodes room.new.ends)) result
         (node_at (byte_count form.width) form.stops (children_at (byte_count form.width) form.stops below) last
         (remaining input.old.bytes.now room.old.nodes room.old.ends)) }
 {
     if room.nodes == 0 {
         return Err(CodecFault::TooLarge);
     }
-    let board = input.stop(form)?;
-    let alight = input.stop(form)?;
+    let mut rest = Input { bytes: input.bytes };
+    let board = rest.stop(form)?;
+    let alight = rest.stop(form)?;
     if !step_follows(last, board, alight) {
         return Err(CodecFault::NotRising);
     }
-    let count = input.number(form.width)?;
+    let count = rest.number(form.width)?;
     if room.ends < count {
         return Err(CodecFault::TooLarge);
     }
-    let ends = ends(alloc.clone()?, input, form, count)?;
-    let children = input.number(Width::Four)?;
+    node.board = board;
+    node.alight = alight;
+    read_ends(&mut rest, form, count, &mut node.ends)?;
+    let children = rest.number(Width::Four)?;
     if is_empty(count, children) {
         return Err(CodecFault::EmptyNode);
     }
+    input.bytes = rest.bytes;
     room.nodes -= 1;
     room.ends -= count;
-    let next = level(alloc, input, room, form, below, children)?;
-    Ok(Node {
-        board,
-        alight,
-        ends,
-        next,
-    })
+    if children > 0 {
+        read_level(alloc, input, room, form, below, children, &mut node.next)?;
+    }
+    Ok(())
 }
 
-/// Reads so many siblings with all below them, on at most so many levels.
+/// Reads so many siblings with all below them, on at most so many levels, into an empty list.
 #[cycle(nodes)]
-fn level<A: Allocator + Clone>(
+fn read_level<A: Allocator + Clone>(
     alloc: &A,
     input: &mut Input,
     room: &mut Room,
     form: StopForm,
     levels: u8,
     count: u32,
-) -> Result<Vec<Node<A>, A>, CodecFault>
-    ensures { Gives (λ nodes. (forest (branches nodes.items), remaining input.new.bytes.now room.new.nodes room.new.ends)) result
+    nodes: &mut Vec<Node<A>, A>,
+) -> Result<(), CodecFault>
+    requires { nodes.old.items ≡ [] }
+    ensures { Gives (λ _. (forest (branches nodes.new.items), remaining input.new.bytes.now room.new.nodes room.new.ends)) result
         (level_at (byte_count form.width) form.stops levels count None (remaining input.old.bytes.now room.old.nodes room.old.ends)) }
 {
-    let mut nodes = Vec::with_capacity(alloc.clone()?, reserved(input, form, count))?;
+    let room_for = (input.bytes.len() / BELOW_A_NODE).min(RESERVED_NODES);
+    nodes.reserve_exact((count as usize).min(room_for))?;
     let mut last = None;
     for _ in 0..count {
         if levels == 0 {
             return Err(CodecFault::TooDeep);
         }
-        let node = node(alloc, input, room, form, levels - 1, last)?;
+        let node = nodes.push_mut(blank(alloc)?)?;
+        read_node(alloc, input, room, form, levels - 1, last, node)?;
         last = Some((node.board, node.alight));
-        nodes.push(node)?;
     }
-    Ok(nodes)
+    Ok(())
 }
 
 /// Reads a tree's source and its nodes.
@@ -183,7 +186,8 @@ fn source_and_nodes<A: Allocator + Clone>(
 {
     let source = input.stop(form)?;
     let count = input.number(Width::Four)?;
-    let first = level(alloc, input, room, form, MOST_LEVELS, count)?;
+    let mut first = Vec::new(alloc.clone()?);
+    read_level(alloc, input, room, form, MOST_LEVELS, count, &mut first)?;
     Ok((source, first))
 }
 

@@ -3,7 +3,7 @@ use Rattle.std.proofs.lemmas.Result.{err_from_is_err_and}
 use Rattle.tree_codec.specs.Widths.{byte_count}
 use Rattle.tree_codec.specs.Reading.{ends_at, end_follows}
 use Rattle.tree_codec.proofs.Loops.{ends_go_on, ends_fail, ends_fall, ends_done}
-use Rattle.tree_codec.proofs.decoding.ends.Goals as goal
+use Rattle.tree_codec.proofs.decoding.read_ends.Goals as goal
 
 pub returns-in_err-end : goal.returns-in_err-end
 returns-in_err-end g c =
