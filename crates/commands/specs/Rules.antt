@@ -18,7 +18,7 @@ use Rattle.printing.specs.declared.told.Told.{Told}
 use Rattle.printing.specs.declared.told.Told.TheVariants as tolds
 use Rattle.store_answers.specs.Asked.{IsStoredAnswer, IsStoredRefusal}
 use Rattle.store_answers.specs.Audited.{IsAudited, IsUnaudited}
-use Rattle.store_answers.specs.Builds.{IsBuilt, IsUnbuilt, ReportsBuilt}
+use Rattle.store_building.specs.Builds.{IsBuilt, IsUnbuilt, ReportsBuilt}
 use Rattle.store_answers.specs.Listings.{IsListed, IsUnlisted}
 use Rattle.service_days.specs.Answers.{IsMoment}
 use Rattle.tellers.specs.Tellings.{IsStopsFault, Telling, tells_legs}

@@ -4,7 +4,7 @@ ghost use Rattle.std.specs.Prelude.{◌↔◌, IfErr};
 ghost use Rattle.commands.specs.Rules.{IsTaskDone};
 ghost use Rattle.commands.specs.Stored.{IsOverStore};
 ghost use Rattle.commands.specs.World.{view_of};
-ghost use Rattle.store_answers.specs.Stores.{OnlyFailing};
+ghost use Rattle.store_terms.specs.Stores.{OnlyFailing};
 ghost use Rattle.tellers.specs.Tellings.{telling_of};
 
 use crate::found::{Found, found_answer, found_report};
@@ -14,7 +14,8 @@ use command_line::{Style, Task};
 use faults::Fault;
 use std::alloc::Global;
 use std::io::Write;
-use store_answers::{Building, ask_stored, audit, build, list};
+use store_answers::{ask_stored, audit, list};
+use store_building::{Building, build};
 use streams::Stream;
 use tellers::tells_legs;
 

@@ -21,7 +21,7 @@ use Rattle.feed_basis.specs.Ids.{stop_alone}
 use Rattle.auditing.specs.Audits.{IsFirstDifference}
 use Rattle.auditing.specs.declared.auditing.Difference.{Difference}
 use Rattle.store_answers.specs.Audited.{IsAudited, IsComparedIn, IsIdOf, IsUncomparedFrom, IsUncomparedIn, TellsAudit}
-use Rattle.store_answers.specs.Stores.{OnlyFailing, form_over}
+use Rattle.store_terms.specs.Stores.{OnlyFailing, form_over}
 
 one_of : (o : Option ℕ) (s : ℕ) → option_map (λ x. x ∷ []) o ≡ Some (s ∷ []) → o ≡ Some s
 one_of None s e = cc

@@ -19,7 +19,7 @@ use Rattle.feed_basis.specs.Basis.{BasisData}
 use Rattle.feed_basis.specs.Ids.{stop_alone}
 use Rattle.auditing.specs.Audits.{IsFirstDifference}
 use Rattle.auditing.specs.declared.auditing.Difference.{Difference}
-use Rattle.store_answers.specs.Stores.{IsUnopened, form_over}
+use Rattle.store_terms.specs.Stores.{IsUnopened, form_over}
 
 -- the id is that of this stop
 abbrev pub IsIdOf : BasisData → List ℕ → ℕ → Type 0

@@ -3,7 +3,7 @@
 ghost use Rattle.std.specs.Prelude.{◌≡◌, ◌↔◌, ◌∷◌, ◌<◌, [], IfErr, IfOk, IfSome, MatchResult, Some, ℕ};
 ghost use Rattle.timetable.specs.Table.{stops_of};
 ghost use Rattle.store_answers.specs.Audited.{IsAudited, IsComparedIn, IsUnaudited, IsUncomparedIn, TellsAudit};
-ghost use Rattle.store_answers.specs.Stores.{OnlyFailing};
+ghost use Rattle.store_terms.specs.Stores.{OnlyFailing};
 
 use answer_lines::{Audit, Differing, Report};
 use auditing::{Difference, first_difference};

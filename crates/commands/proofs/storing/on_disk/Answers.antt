@@ -1,6 +1,6 @@
 use Rattle.store_answers.specs.Asked.{IsStoredAnswer, IsStoredRefusal}
 use Rattle.store_answers.specs.Audited.{IsAudited, IsUnaudited}
-use Rattle.store_answers.specs.Builds.{IsBuilt, IsUnbuilt, ReportsBuilt}
+use Rattle.store_building.specs.Builds.{IsBuilt, IsUnbuilt, ReportsBuilt}
 use Rattle.store_answers.specs.Listings.{IsListed, IsUnlisted}
 use Rattle.commands.proofs.FoundFacts.{answer_found, report_found}
 use Rattle.commands.proofs.storing.on_disk.Goals as goal
