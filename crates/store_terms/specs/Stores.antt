@@ -26,6 +26,11 @@ pub record IsUnopened (form : Form) (old new : State) (fault : Fault) : Type 0 w
   pub told : fault ≡ of_store why
   pub opening : IsOpening form old new
 
+-- the store isn't opened, or memory ran out behind that
+abbrev pub IsUntold : BasisData → ℕ → State → State → Fault → Type 0
+IsUntold basis k old new fault =
+    IsUnopened (form_over basis k) old new fault ⊎ ((fault ≡ faults.Memory) × IsOpening (form_over basis k) old new)
+
 -- the fault says that a call of the disk failed: as the store was opened, or at a put
 abbrev pub TellsDevice : Fault → Type 0
 TellsDevice fault = (fault ≡ faults.Store Device) ⊎ (fault ≡ faults.PutFailed)
