@@ -1,6 +1,6 @@
 //! What commands over the file of a store speak of: what a store is for, why one isn't opened, and the ids of its stops.
 #![tactic(auto)]
 
-mod ids;
+mod naming;
 
-pub use ids::ids;
+pub use naming::ids;
