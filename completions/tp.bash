@@ -37,7 +37,7 @@ _tp() {
                     choices+=" --days --zone --rides --default-walk --help"
                     ;;
                 serve) choices="--feed --date --store --workers --format --days --zone --rides --default-walk --help" ;;
-                audit) choices="--feed --date --store --from --days --zone --rides --default-walk --help" ;;
+                audit) choices="--feed --date --store --from --all --workers --progress --days --zone --rides --default-walk --help" ;;
                 help) choices="check stops direct scan build list ask serve audit help" ;;
             esac
             ;;

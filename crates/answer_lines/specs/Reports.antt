@@ -3,7 +3,7 @@ use Rattle.std.specs.Prelude.{ℕ, List, [], ◌∷◌, ◌++◌, codes}
 use Rattle.std.specs.Fmt.{decimal}
 use Rattle.std.specs.List.{flat_map}
 use Rattle.shown_ids.specs.Shown.{shown}
-use Rattle.answer_lines.specs.Audits.{audit_status, audit_text}
+use Rattle.answer_lines.specs.Audits.{audit_line, audit_status, audits_status}
 use Rattle.answer_lines.specs.declared.report.Built.{Built}
 use Rattle.answer_lines.specs.declared.report.Report.{Report}
 use Rattle.answer_lines.specs.declared.report.Report.TheVariants as reports
@@ -21,7 +21,8 @@ abbrev pub report_text : Report → List ℕ
 report_text (reports.Stored ids) = flat_map (λ id. id_line [] id.now) ids.items
 report_text (reports.Built built) =
     count_line built.stored built.of ++ flat_map (λ id. id_line (codes "missing ") id.now) built.missing.items
-report_text (reports.Audited audit) = audit_text audit ++ 10 ∷ []
+report_text (reports.Audited audit) = audit_line audit
+report_text (reports.AuditedAll audits) = flat_map audit_line audits.items
 
 -- 3 if some stop has no tree
 abbrev pub status_by : {X : Type 0} → List X → ℕ
@@ -35,3 +36,4 @@ abbrev pub report_status : Report → ℕ
 report_status (reports.Stored ids) = 0
 report_status (reports.Built built) = built_status built
 report_status (reports.Audited audit) = audit_status audit
+report_status (reports.AuditedAll audits) = audits_status audits.items

@@ -3,11 +3,12 @@
 ghost use Rattle.std.specs.Prelude.{◌≡◌, Some};
 ghost use Rattle.std.specs.Fmt.{WritesOnOk};
 ghost use Rattle.std.specs.List.{flat_map};
+ghost use Rattle.answer_lines.specs.Audits.{audit_line, has_difference};
 ghost use Rattle.answer_lines.specs.Reports.{built_status, id_line, report_status, report_text};
 
 use crate::audit::Audit;
 use shown_ids::Shown;
-use std::{fmt, slice};
+use std::fmt;
 
 /// What a build came to.
 #[derive(Debug, Drop)]
@@ -29,6 +30,8 @@ pub enum Report<'a> {
     Built(Built<'a>),
     /// What an audit of a stored tree came to, on one line.
     Audited(Audit<'a>),
+    /// What the audits of all stored trees came to, in the order in which the trees were stored: one a line.
+    AuditedAll(Vec<Audit<'a>>),
 }
 
 impl Built<'_> {
@@ -41,12 +44,12 @@ impl Built<'_> {
 }
 
 impl<'a> Report<'a> {
-    /// The ids of the stops that the report is about.
+    /// The ids that the report lists: an audit is no list of ids.
     pub fn stops(&self) -> &[&'a str] {
         match self {
             Report::Stored(ids) => ids.as_slice(),
             Report::Built(built) => built.missing.as_slice(),
-            Report::Audited(audit) => slice::from_ref(&audit.from),
+            Report::Audited(_) | Report::AuditedAll(_) => &[],
         }
     }
 
@@ -58,6 +61,7 @@ impl<'a> Report<'a> {
             Report::Stored(_) => 0,
             Report::Built(built) => built.status(),
             Report::Audited(audit) => audit.status(),
+            Report::AuditedAll(audits) => { if has_difference(audits) { 5 } else { 0 } }
         }
     }
 }
@@ -79,8 +83,26 @@ impl fmt::Display for Report<'_> {
                 write_ids(f, "missing ", missing)
             }
             Report::Audited(audit) => writeln!(f, "{audit}"),
+            Report::AuditedAll(audits) => write_audits(f, audits),
         }
     }
+}
+
+// Whether one of the audits found a difference.
+fn has_difference(audits: &[Audit<'_>]) -> bool
+    ensures { result ≡ has_difference audits.now }
+{
+    audits.iter().any(|audit| audit.differing.is_some())
+}
+
+// A line for each audit.
+fn write_audits<W: fmt::Write>(f: &mut fmt::Formatter<W>, audits: &[Audit<'_>]) -> fmt::Result
+    ensures { WritesOnOk W.write_str_gives f.old result (flat_map audit_line audits.now) f.new }
+{
+    for audit in audits {
+        writeln!(f, "{audit}")?;
+    }
+    Ok(())
 }
 
 // A line for each id, with this in front.

@@ -5,8 +5,9 @@ ghost use Rattle.clap.specs.Words.{app_of, rule_of, kind_of, subcommand_of, subc
 ghost use Rattle.clap.specs.declared.error.kind.ErrorKind.TheVariants.{OutOfMemory};
 ghost use Rattle.clap.specs.declared.builder.command.Command.TheViews.{out-Command as fields_of};
 ghost use Rattle.command_grammar.specs.CommandLine.{ask_app, audit_app, build_app, building_app, check_app, journey_app, list_app, program_app};
-ghost use Rattle.command_grammar.specs.CommandLine.{scan_app, serve_app, stops_app, store_app, text_rule};
+ghost use Rattle.command_grammar.specs.CommandLine.{ranged_rule, scan_app, serve_app, stops_app, store_app, text_rule};
 
+use clap::builder::ValueParser;
 use clap::{Arg, ArgMatches, Command, Error};
 use options::{common, flag, number, optional, required};
 use std::alloc::Global;
@@ -135,16 +136,29 @@ const ON: &str = "The covered day to leave on, if it isn't the first";
 
 const LEGS: &str = "Print the rides and walks of each journey below its line";
 
-const AUDIT: &str = "Whether the stored tree of a stop answers as the timetable does";
+const AUDIT: &str = "Whether stored trees answer as the timetable does";
 
 const AUDIT_MORE: &str = "\
-It compares the stored tree with the timetable: at each moment worth leaving the stop at, and to each
-stop, the best journeys of one ride or more. It prints `audit ID ok`, or `audit ID differs TARGET DATE
-TIME` for the first moment and there the first stop whose answers differ; the status is 5 then.
+It compares the stored tree of a stop with the timetable: at each moment worth leaving the stop at, and
+to each stop, the best journeys of one ride or more. It prints `audit ID ok`, or `audit ID differs
+TARGET DATE TIME` for the first moment and there the first stop whose answers differ; the status is 5
+then. With --all it prints the line of each stored stop, in the order of storing, and the status is 5
+if one differs. Meanwhile it reports on standard error how far it is, if that is a terminal. It may be
+stopped at any moment, as nothing is written.
 
 Example: tp audit --feed demo/feed-m --date 20240102 --store demo.store --from A";
 
+const AUDIT_USAGE: &str = "\
+tp audit [OPTIONS] --feed <DIR> --date <YYYYMMDD> --store <FILE> <--from <STOP>|--all>";
+
 const AUDITED: &str = "The id of the stop whose tree is compared";
+
+const AUDIT_ALL: &str = "Compare the trees of all stored stops";
+
+const AUDITORS: &str = "With --all: how many trees are compared at once, 1 to 64 (2 if not given)";
+
+const AUDIT_PROGRESS: &str =
+    "With --all: report how far it is, also if standard error is no terminal";
 
 const STORE: &str = "The file of the stored trees, which is made if it isn't there";
 
@@ -316,16 +330,34 @@ fn list<'a>(alloc: Global) -> Result<Command<'a>, Error>
     Ok(command)
 }
 
-// The command that compares a stored tree with the timetable.
+// An option whose value is a whole number from `least` to `most`, and which may be left out.
+fn ranged<'a>(
+    alloc: Global,
+    name: &'a str,
+    shown: &'a str,
+    least: u32,
+    most: u32,
+    help: &'a str,
+) -> Arg<'a>
+    ensures rule { rule_of result ≡ ranged_rule name.entry.now least most }
+    ensures local { result.global ≡ false }
+{
+    let parser = ValueParser::Signed(i64::from(least), i64::from(most));
+    optional(alloc, name, shown, help).value_parser(parser)
+}
+
+// The command that compares stored trees with the timetable: that of a stop, or all.
 fn audit<'a>(alloc: Global) -> Result<Command<'a>, Error>
     ensures shape { IfOk result (λ c. app_of c ≡ audit_app) }
     ensures local { IfOk result (λ c. (fields_of c).has_globals ≡ false) }
     ensures err { IfErr result (λ e. kind_of e ≡ OutOfMemory) }
 {
-    let command = store(alloc, "audit", AUDIT, AUDIT_MORE)?.arg(required(
-        alloc, "from", "STOP", AUDITED,
-    ))?;
-    Ok(command)
+    let command = store(alloc, "audit", AUDIT, AUDIT_MORE)?
+        .arg(optional(alloc, "from", "STOP", AUDITED))?
+        .arg(flag(alloc, "all", AUDIT_ALL))?
+        .arg(ranged(alloc, "workers", "N", 1, 64, AUDITORS))?
+        .arg(flag(alloc, "progress", AUDIT_PROGRESS))?;
+    Ok(command.override_usage(AUDIT_USAGE))
 }
 
 // The program with one more command, if that could be made.

@@ -1,6 +1,8 @@
 //! The command line of the journey planner's program: from its words to what it is asked to do, with days and times read.
 #![tactic(auto)]
 
+mod asked_workers;
+mod audited;
 mod format;
 mod job;
 mod question;
@@ -8,6 +10,7 @@ mod unread;
 mod words;
 mod workers;
 
+pub use audited::Audited;
 pub use format::{Format, Style};
 pub use job::{Command, Job, Plan, Search, Task};
 pub use unread::Unread;

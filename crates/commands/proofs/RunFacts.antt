@@ -8,9 +8,9 @@ use Rattle.feed_basis.specs.Basis.{BasisData}
 use Rattle.printing.specs.Finished.{StreamsData}
 use Rattle.printing.specs.declared.fault.Voice.{Voice}
 use Rattle.faults.specs.declared.fault.Fault.{Fault}
-use Rattle.store_answers.specs.Replies.{IsServing}
-use Rattle.store_answers.specs.Stores.{IsUnopened, OnlyFailing, form_over}
-use Rattle.store_answers.specs.declared.served.Served.{Served}
+use Rattle.store_building.specs.Replies.{IsServing}
+use Rattle.store_terms.specs.Stores.{IsUnopened, OnlyFailing, form_over}
+use Rattle.store_building.specs.declared.served.Served.{Served}
 use Rattle.streams.specs.Streams.{StreamData}
 use Rattle.commands.specs.Files.{IsNoticed, IsReady}
 use Rattle.commands.specs.Rules.{IsTaskDone}

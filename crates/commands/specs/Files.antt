@@ -9,7 +9,7 @@ use Rattle.section_store.specs.Sections.{Form, IsFresh}
 use Rattle.faults.specs.declared.fault.Fault.{Fault}
 use Rattle.faults.specs.declared.fault.Fault.TheVariants as faults
 use Rattle.shown_ids.specs.Shown.{shown}
-use Rattle.store_answers.specs.Stores.{OnlyFailing}
+use Rattle.store_terms.specs.Stores.{OnlyFailing}
 use Rattle.streams.specs.Streams.{IsSaid, StreamData}
 use Rattle.commands.specs.World.{SystemView}
 

@@ -17,11 +17,14 @@ use Rattle.answering.specs.Refusals.{IsUnanswered, NoneMissing}
 use Rattle.printing.specs.declared.told.Told.{Told}
 use Rattle.printing.specs.declared.told.Told.TheVariants as tolds
 use Rattle.store_answers.specs.Asked.{IsStoredAnswer, IsStoredRefusal}
-use Rattle.store_answers.specs.Audited.{IsAudited, IsUnaudited}
-use Rattle.store_answers.specs.Builds.{IsBuilt, IsUnbuilt, ReportsBuilt}
-use Rattle.store_answers.specs.Listings.{IsListed, IsUnlisted}
+use Rattle.store_answers.specs.Audited.{IsAllAudited, IsAudited, IsUnaudited}
+use Rattle.store_building.specs.Builds.{IsBuilt, IsUnbuilt, ReportsBuilt}
+use Rattle.store_answers.specs.Listings.{IsListed}
 use Rattle.service_days.specs.Answers.{IsMoment}
 use Rattle.tellers.specs.Tellings.{IsStopsFault, Telling, tells_legs}
+use Rattle.store_terms.specs.Stores.{IsUntold}
+use Rattle.command_line.specs.declared.audited.Audited.{Audited}
+use Rattle.command_line.specs.declared.audited.Audited.TheVariants as audits
 use Rattle.command_line.specs.declared.format.Style.{Style}
 use Rattle.command_line.specs.declared.job.Task.{Task}
 use Rattle.command_line.specs.declared.job.Task.TheVariants as tasks
@@ -44,6 +47,13 @@ IsStopAnswer basis question Right found =
     × MatchResult found (FindsAnswer (IsAnswered (stop_alone basis.names) Right basis.timetable moment question))
     (IsUnanswered (stop_alone basis.names) NoneMissing basis.timetable moment question)
 
+-- what an audit of a stored tree, or of all of them, may find
+abbrev pub IsAuditDone : BasisData → ℕ → Audited → State → State → Result Found Fault → Type 0
+IsAuditDone basis k (audits.Stop from) old new found =
+    MatchResult found (FindsReport (IsAudited basis k from.now old new)) (IsUnaudited basis k from.now old new)
+IsAuditDone basis k (audits.All workers progress) old new found =
+    MatchResult found (FindsReport (IsAllAudited basis k old new)) (IsUntold basis k old new)
+
 -- What a task may find over the file of a store, by the states of its disk before and after, or which fault. The style says whether rides
 -- and walks are found without being asked for.
 abbrev pub IsTaskDone : Style → BasisData → ℕ → Task → State → State → Result Found Fault → Type 0
@@ -51,9 +61,8 @@ IsTaskDone style basis k (tasks.Ask question legs) old new found =
     (moment : Option ℕ) × IsMoment basis.cover question.day question.seconds moment
     × MatchResult found (FindsAnswer (IsStoredAnswer basis k moment question (tells_legs style legs) old new))
     (IsStoredRefusal basis k moment question old new)
-IsTaskDone style basis k tasks.List old new found = MatchResult found (FindsReport (IsListed basis k old new)) (IsUnlisted basis k old new)
-IsTaskDone style basis k (tasks.Audit from) old new found =
-    MatchResult found (FindsReport (IsAudited basis k from.now old new)) (IsUnaudited basis k from.now old new)
+IsTaskDone style basis k tasks.List old new found = MatchResult found (FindsReport (IsListed basis k old new)) (IsUntold basis k old new)
+IsTaskDone style basis k (tasks.Audit whose) old new found = IsAuditDone basis k whose old new found
 IsTaskDone style basis k (tasks.Build workers progress) old new found =
     MatchResult found (FindsReport (ReportsBuilt (IsBuilt basis k old new))) (IsUnbuilt basis k old new)
 

@@ -18,9 +18,9 @@ use Rattle.section_store.specs.Sections.{Form, IsFresh}
 use Rattle.serving.specs.Tellings.{Telling as ReplyTelling}
 use Rattle.serving.specs.declared.serving.End.{End}
 use Rattle.serving.specs.declared.serving.End.TheVariants as ends
-use Rattle.store_answers.specs.Replies.{IsServing}
-use Rattle.store_answers.specs.Stores.{IsUnopened, OnlyFailing, form_over}
-use Rattle.store_answers.specs.declared.served.Served.{Served}
+use Rattle.store_building.specs.Replies.{IsServing}
+use Rattle.store_terms.specs.Stores.{IsUnopened, OnlyFailing, form_over}
+use Rattle.store_building.specs.declared.served.Served.{Served}
 use Rattle.streams.specs.Streams.{IsSaid, StreamData}
 use Rattle.tellers.specs.Tellings.{Telling}
 use Rattle.commands.specs.Files.{IsKeptOut, IsNoticed}

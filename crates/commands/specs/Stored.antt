@@ -7,7 +7,7 @@ use Rattle.command_line.specs.Jobs.{only_reads}
 use Rattle.command_line.specs.declared.job.Task.{Task}
 use Rattle.faults.specs.declared.fault.Fault.{Fault}
 use Rattle.feed_basis.specs.Basis.{BasisData}
-use Rattle.store_answers.specs.Stores.{OnlyFailing, form_over}
+use Rattle.store_terms.specs.Stores.{OnlyFailing, form_over}
 use Rattle.streams.specs.Streams.{StreamData}
 use Rattle.commands.specs.Files.{IsKeptOut, IsNoticed}
 use Rattle.commands.specs.Rules.{IsTaskDone}

@@ -3,7 +3,7 @@
 ghost use Rattle.std.specs.Prelude.{◌≡◌, IfOk, IfErr};
 ghost use Rattle.commands.specs.Files.{IsKeptOut, IsNoticed, IsReady, of_file};
 ghost use Rattle.commands.specs.World.{view_of};
-ghost use Rattle.store_answers.specs.Stores.{form_over};
+ghost use Rattle.store_terms.specs.Stores.{form_over};
 ghost use Rattle.tellers.specs.Tellings.{telling_of};
 
 use crate::system::System;

@@ -18,7 +18,7 @@ use printing::{Streams, Voice, tell_fault};
 use serving::{Lines, ReplyTeller};
 use std::alloc::Global;
 use std::io::{BufRead, Write};
-use store_answers::{Building, serve};
+use store_building::{Building, serve};
 use tellers::Teller;
 
 /// A store that is served: its file, and how many workers build what it lacks.

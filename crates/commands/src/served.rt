@@ -11,7 +11,7 @@ use printing::{NO_MEMORY, UNWRITTEN, Voice, tell_fault};
 use serving::End;
 use std::alloc::Global;
 use std::io::Write;
-use store_answers::Served;
+use store_building::Served;
 use streams::Stream;
 use tellers::Teller;
 

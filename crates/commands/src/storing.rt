@@ -1,22 +1,53 @@
 //! What is done over the file of a store. It is opened in one place.
 
 ghost use Rattle.std.specs.Prelude.{◌↔◌, IfErr};
-ghost use Rattle.commands.specs.Rules.{IsTaskDone};
+ghost use Rattle.commands.specs.Rules.{IsAuditDone, IsTaskDone};
 ghost use Rattle.commands.specs.Stored.{IsOverStore};
 ghost use Rattle.commands.specs.World.{view_of};
-ghost use Rattle.store_answers.specs.Stores.{OnlyFailing};
+ghost use Rattle.store_terms.specs.Stores.{OnlyFailing};
 ghost use Rattle.tellers.specs.Tellings.{telling_of};
 
 use crate::found::{Found, found_answer, found_report};
 use crate::opening::{Ready, StoreFile, open_ready, say_new};
 use crate::system::System;
-use command_line::{Style, Task};
+use command_line::{Audited, Style, Task};
 use faults::Fault;
 use std::alloc::Global;
 use std::io::Write;
-use store_answers::{Building, ask_stored, audit, build, list};
+use store_answers::{ask_stored, audit, audit_all, list};
+use store_building::{Building, build};
 use streams::Stream;
 use tellers::tells_legs;
+
+// Audits the tree of a stop, or all trees, that the disk of the file has; the disk comes back.
+fn audit_on<'a, S: System>(
+    alloc: Global,
+    system: &S,
+    file: &StoreFile<'a>,
+    disk: S::Store,
+    whose: &Audited<'a>,
+) -> (Result<Found<'a>, Fault<'a>>, S::Store)
+    ensures found { S.Store.honest disk
+        → IsAuditDone file.now.basis.now file.now.rides whose.now (S.Store.state disk) (S.Store.state result.1) result.0 }
+    ensures device { IfErr result.0 (OnlyFailing (S.Store.failures disk) (S.Store.failures result.1)) }
+    ensures honest { S.Store.honest disk ↔ S.Store.honest result.1 }
+{
+    let StoreFile { basis, rides, .. } = *file;
+    match whose {
+        Audited::Stop(from) => {
+            let (report, disk) = audit(alloc, basis, rides, disk, from);
+            (found_report(report), disk)
+        }
+        Audited::All { workers, progress } => {
+            let mut meter = system.meter(*progress);
+            let threads = system.threads();
+            let (report, disk) = audit_all(
+                alloc, threads, basis, rides, *workers, disk, &mut meter,
+            );
+            (found_report(report), disk)
+        }
+    }
+}
 
 // Does the task over the disk of the file, which comes back.
 fn on_disk<'a, S: System>(
@@ -44,10 +75,7 @@ fn on_disk<'a, S: System>(
             let (report, disk) = list(alloc, basis, rides, disk);
             (found_report(report), disk)
         }
-        Task::Audit { from } => {
-            let (report, disk) = audit(alloc, basis, rides, disk, from);
-            (found_report(report), disk)
-        }
+        Task::Audit { whose } => audit_on(alloc, system, file, disk, whose),
         Task::Build { workers, progress } => {
             let mut meter = system.meter(*progress);
             let building = Building {

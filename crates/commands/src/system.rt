@@ -13,10 +13,11 @@ use std::io;
 use std::io::Read;
 use std::sync::Wait;
 use std::thread::Threads;
+use store_audit::AuditProgress;
 use tellers::Teller;
 
 /// What the program finds on its system: folders of feeds, files of stores, threads and randomness; and who makes texts in formats, and who
-/// is told how far a build is. A call is made at its turn, or not at all.
+/// is told how far a build is, or the audits of all trees. A call is made at its turn, or not at all.
 pub trait System {
     /// Reads a file of a feed.
     type Reader: Read + Drop;
@@ -27,8 +28,8 @@ pub trait System {
     /// In which workers build.
     type Threads: Threads + Wait + Sync;
 
-    /// Is told how far a build is.
-    type Meter: Progress + Drop;
+    /// Is told how far a build is, or the audits of all trees.
+    type Meter: Progress + AuditProgress + Drop;
 
     /// Makes the texts of formats.
     type Teller: Teller;
@@ -40,7 +41,7 @@ pub trait System {
 
     fn teller(&self) -> Self::Teller;
 
-    /// Who is told how far a build is, by whether the words ask that it is shown.
+    /// Who is told how far a build is, or the audits, by whether the words ask that it is shown.
     fn meter(&self, shown: bool) -> Self::Meter;
 
     /// Keys under which ids are looked up; none if the system gives no randomness.

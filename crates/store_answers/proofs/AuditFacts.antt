@@ -1,6 +1,7 @@
 -- The audit of a stored tree.
 use Rattle.std.proofs.Common.{◌≡◌, ◌⊎◌, ◌<◌, ◌≤◌, ◌∙◌, ℕ, List, [], ◌∷◌, Option, None, Some, IfSome, Contains, arith, refl, sym, subst, inl, inr}
 use Rattle.std.specs.Option.{option_map}
+use Rattle.std.proofs.lemmas.List.Sorted.{IsPermutation-sym}
 use Rattle.disk_model.specs.Disk.{State}
 use Rattle.timetable.specs.Table.{Table, stops_of}
 use Rattle.pattern_tree.specs.Content.{Content, longest}
@@ -18,10 +19,10 @@ use Rattle.faults.specs.declared.fault.Fault.{Fault}
 use Rattle.faults.specs.declared.fault.Fault.TheVariants as faults
 use Rattle.feed_basis.specs.Basis.{BasisData}
 use Rattle.feed_basis.specs.Ids.{stop_alone}
-use Rattle.auditing.specs.Audits.{IsFirstDifference}
+use Rattle.store_audit.proofs.SameTrees.{first_still}
 use Rattle.auditing.specs.declared.auditing.Difference.{Difference}
 use Rattle.store_answers.specs.Audited.{IsAudited, IsComparedIn, IsIdOf, IsUncomparedFrom, IsUncomparedIn, TellsAudit}
-use Rattle.store_answers.specs.Stores.{OnlyFailing, form_over}
+use Rattle.store_terms.specs.Stores.{OnlyFailing, form_over}
 
 one_of : (o : Option ℕ) (s : ℕ) → option_map (λ x. x ∷ []) o ≡ Some (s ∷ []) → o ≡ Some s
 one_of None s e = cc
@@ -90,14 +91,18 @@ module _ (basis : BasisData) (k : ℕ) (old new : State) (from : List ℕ) (list
         stands = is.whole.stands;
         stop = h.stop;
         named = h.named;
-        tree = h.tree;
-        stored = stored;
-        of = h.of;
-        difference = difference;
-        first = h.first (shallow_one (form_over basis k) old.read is.whole.trees h.tree is.whole.stands stored);
+        tree = stored.one;
+        stored = stored.among;
+        of = sym stored.source ∙ h.of;
         audit = audit;
         is = refl;
-        told = told;
+        told = record {
+          difference = difference;
+          first = first_still basis.timetable h.tree stored.one k difference stored.source
+              (IsPermutation-sym stored.one.pairs h.tree.pairs stored.pairs)
+              (h.first (shallow_one (form_over basis k) old.read is.whole.trees h.tree is.whole.stands stored));
+          told = told;
+        };
         opening = is.opening;
       }
 

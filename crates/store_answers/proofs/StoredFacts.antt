@@ -14,6 +14,7 @@ use Rattle.pattern_query.specs.Answer.{TreeReaches}
 use Rattle.pattern_query.specs.Questions.{AskedReaches, IsStored, tree_at}
 use Rattle.section_store.specs.Sections.{AreApart, Form, Stands, sources}
 use Rattle.store_excerpt.specs.Board.{AreOf}
+use Rattle.store_audit.proofs.SameTrees.{reaches_same}
 use Rattle.store_excerpt.proofs.BoardFacts.{new_lacks}
 use Rattle.answer_lines.specs.declared.answer.Answer.{Answer}
 use Rattle.answer_lines.specs.declared.answer.Answer.TheVariants as answers
@@ -58,21 +59,6 @@ stands_one : (form : Form) (bytes : List ℕ) (trees : List Content) (a b : Cont
     → a.source ≡ b.source → a ≡ b
 stands_one form bytes trees a b (inl fresh) has_a has_b same = absurd (none_in a (subst (λ (l : List Content). Contains l a) fresh.1 has_a))
 stands_one form bytes trees a b (inr are) has_a has_b same = apart_one [] trees a b are.apart has_a has_b same
-
--- trees of the same source and pairs reach the same
-reaches_same : (table : Table) (a b : Content) (t d : ℕ) (n : Numbers) → a.source ≡ b.source → IsPermutation a.pairs b.pairs
-    → TreeReaches table a t d n → TreeReaches table b t d n
-reaches_same table a b t d n source pairs h = (
-  h.0,
-  (
-    subst (λ (s : ℕ). Journey table s d h.0 t n.arrival) source h.1.0,
-    elim h.1.1 [
-      | inl on_foot ↦ inl on_foot
-      | inr has ↦ inr (Contains-permutation a.pairs b.pairs (pattern table h.0, t) pairs has)
-    ],
-  ),
-  h.2,
-)
 
 -- the best of a set are the best of a set that has the same numbers
 best_same : (P Q : Numbers → Type 0) (front : List Numbers) → ((n : Numbers) → P n → Q n) → ((n : Numbers) → Q n → P n) → AreBest P front

@@ -1,12 +1,13 @@
 -- What the program says of the answers from a stored tree.
 use Rattle.std.specs.Prelude.{◌≡◌, ◌⊎◌, ◌≤◌, ⊤, ℕ, List, [], ◌∷◌, Option, None, Some, slice_index_or}
+use Rattle.std.specs.Global.{Vec}
+use Rattle.std.specs.List.{AllZip, Contains}
 use denote.Ref.{Bor}
 use Rattle.disk_model.specs.Disk.{State}
 use Rattle.pattern_tree.specs.Content.{Content, longest}
 use Rattle.pattern_query.specs.Questions.{Held}
 use Rattle.pattern_query.specs.declared.refusal.Refusal.TheVariants as refusals
 use Rattle.section_store.specs.Sections.{IsNew, Stands}
-use Rattle.store_excerpt.specs.Board.{IsOneOf}
 use Rattle.recovery.specs.Opening.{IsOpening, StandsForSources}
 use Rattle.answer_lines.specs.Moments.{TellsMoment}
 use Rattle.answer_lines.specs.declared.audit.Audit.{Audit}
@@ -19,7 +20,7 @@ use Rattle.feed_basis.specs.Basis.{BasisData}
 use Rattle.feed_basis.specs.Ids.{stop_alone}
 use Rattle.auditing.specs.Audits.{IsFirstDifference}
 use Rattle.auditing.specs.declared.auditing.Difference.{Difference}
-use Rattle.store_answers.specs.Stores.{IsUnopened, form_over}
+use Rattle.store_terms.specs.Stores.{IsUnopened, form_over}
 
 -- the id is that of this stop
 abbrev pub IsIdOf : BasisData → List ℕ → ℕ → Type 0
@@ -70,21 +71,38 @@ IsUncompared basis Lacks from fault = IsNoStop basis from fault ⊎ (IsNoTree ba
 abbrev pub IsUncomparedIn : BasisData → Held → List ℕ → Fault → Type 0
 IsUncomparedIn basis held from fault = IsUncompared basis (λ s. held s ≡ None) from fault
 
--- The tree of the id's stop that the file has was compared: this is the first difference of its answers from those of the timetable, or
--- there is none. And nothing was done but to open the file.
+-- the first difference of the answers from that tree from those of the timetable, or that there is none, told of a stop by this id
+pub record TellsTree (basis : BasisData) (k : ℕ) (tree : Content) (from : List ℕ) (audit : Audit) : Type 0 where
+  pub difference : Option Difference
+  pub first : IsFirstDifference basis.timetable tree k difference
+  pub told : TellsAudit basis from difference audit
+
+-- told of the tree's own stop by its id
+abbrev pub TellsStored : BasisData → ℕ → Content → Audit → Type 0
+TellsStored basis k tree audit = TellsTree basis k tree (slice_index_or basis.names.stops tree.source []) audit
+
+-- The tree of the id's stop that the file has was compared, and that is told. Nothing was done but to open the file.
 pub record IsAudited (basis : BasisData) (k : ℕ) (from : List ℕ) (old new : State) (report : Report) : Type 0 where
   pub trees : List Content
   pub stands : Stands (form_over basis k) old.read trees
   pub stop : ℕ
   pub named : IsIdOf basis from stop
   pub tree : Content
-  pub stored : IsOneOf trees tree
+  pub stored : Contains trees tree
   pub of : tree.source ≡ stop
-  pub difference : Option Difference
-  pub first : IsFirstDifference basis.timetable tree k difference
   pub audit : Audit
   pub is : report ≡ reports.Audited audit
-  pub told : TellsAudit basis from difference audit
+  pub told : TellsTree basis k tree from audit
+  pub opening : IsOpening (form_over basis k) old new
+
+-- Each tree that the file has was compared, and the same is told of each, in the order in which they were stored. Nothing was done but to
+-- open the file.
+pub record IsAllAudited (basis : BasisData) (k : ℕ) (old new : State) (report : Report) : Type 0 where
+  pub trees : List Content
+  pub stands : Stands (form_over basis k) old.read trees
+  pub audits : Vec Audit
+  pub is : report ≡ reports.AuditedAll audits
+  pub told : AllZip (TellsStored basis k) trees audits.items
   pub opening : IsOpening (form_over basis k) old new
 
 -- the store is open, and there is nothing to compare

@@ -3,7 +3,7 @@
 ghost use Rattle.std.specs.Prelude.{◌≡◌, ◌↔◌, ◌∷◌, ◌<◌, [], IfErr, IfOk, IfSome, MatchResult, Some, ℕ};
 ghost use Rattle.timetable.specs.Table.{stops_of};
 ghost use Rattle.store_answers.specs.Audited.{IsAudited, IsComparedIn, IsUnaudited, IsUncomparedIn, TellsAudit};
-ghost use Rattle.store_answers.specs.Stores.{OnlyFailing};
+ghost use Rattle.store_terms.specs.Stores.{OnlyFailing};
 
 use answer_lines::{Audit, Differing, Report};
 use auditing::{Difference, first_difference};
@@ -26,8 +26,8 @@ fn stops_of_one<'a>(stop: &'a Option<StopId>) -> &'a [StopId]
     }
 }
 
-// What an audit of a stop's tree came to, with the ids of stops and by the days of the basis.
-fn told<'a>(basis: &'a Basis, from: &'a str, difference: Option<Difference>) -> Audit<'a>
+/// What an audit of a stop's tree came to, with the ids of stops and by the days of the basis.
+pub(crate) fn told<'a>(basis: &'a Basis, from: &'a str, difference: Option<Difference>) -> Audit<'a>
     requires { IfSome difference (λ d. d.to < stops_of basis.now.timetable) }
     ensures { TellsAudit basis.now from.now difference result }
 {

@@ -5,13 +5,30 @@ use super::teller::Saying;
 use commands::System;
 use disk_model::{FileFault, MemDisk};
 use gtfs_tables::Files;
-use precomputing::Silent;
+use precomputing::Progress;
 use std::alloc::Global;
 use std::cell::Cell;
 use std::hash::RandomState;
 use std::io;
 use std::sync::Wait;
 use std::thread::Threads;
+use store_audit::AuditProgress;
+
+/// Is told how far a build is, or the audits, and does nothing.
+#[derive(Clone, Copy, Debug)]
+pub struct Deaf;
+
+impl Progress for Deaf {
+    fn stored(&mut self, _stored: usize, _of: usize) {}
+
+    fn ended(&mut self) {}
+}
+
+impl AuditProgress for Deaf {
+    fn audited(&mut self, _audited: usize, _of: usize) {}
+
+    fn ended(&mut self) {}
+}
 
 /// One feed in each folder, and one store, whose disk is handed out once.
 #[derive(Drop)]
@@ -33,7 +50,7 @@ impl<'t, T: Threads + Wait + Sync> System for FakeSystem<'t, T> {
 
     type Threads = T;
 
-    type Meter = Silent;
+    type Meter = Deaf;
 
     type Teller = Saying;
 
@@ -52,8 +69,8 @@ impl<'t, T: Threads + Wait + Sync> System for FakeSystem<'t, T> {
         self.teller
     }
 
-    fn meter(&self, _shown: bool) -> Silent {
-        Silent
+    fn meter(&self, _shown: bool) -> Deaf {
+        Deaf
     }
 
     fn hash_keys(&self) -> Option<RandomState> {

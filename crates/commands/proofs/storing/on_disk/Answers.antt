@@ -1,7 +1,7 @@
 use Rattle.store_answers.specs.Asked.{IsStoredAnswer, IsStoredRefusal}
-use Rattle.store_answers.specs.Audited.{IsAudited, IsUnaudited}
-use Rattle.store_answers.specs.Builds.{IsBuilt, IsUnbuilt, ReportsBuilt}
-use Rattle.store_answers.specs.Listings.{IsListed, IsUnlisted}
+use Rattle.store_building.specs.Builds.{IsBuilt, IsUnbuilt, ReportsBuilt}
+use Rattle.store_answers.specs.Listings.{IsListed}
+use Rattle.store_terms.specs.Stores.{IsUntold}
 use Rattle.commands.proofs.FoundFacts.{answer_found, report_found}
 use Rattle.commands.proofs.storing.on_disk.Goals as goal
 
@@ -25,18 +25,8 @@ returns-in-List-clause-found g c = λ honest.
     let k = c.args.file.now.rides in
     let old = g.S.Store.Disk.state c.args.disk in
     let new = g.S.Store.Disk.state c.list-report.result.1 in
-    rw c.in-List.is (report_found c.list-report.result.0 c.found_report.result (IsListed basis k old new) (IsUnlisted basis k old new)
+    rw c.in-List.is (report_found c.list-report.result.0 c.found_report.result (IsListed basis k old new) (IsUntold basis k old new)
     c.found_report.ensures (c.list-report.ensures.listed honest))
-
-pub returns-in-Audit-clause-found : goal.returns-in-Audit-clause-found
-returns-in-Audit-clause-found g c = λ honest.
-    let basis = c.args.file.now.basis.now in
-    let k = c.args.file.now.rides in
-    let from = c.in-Audit.from.now in
-    let old = g.S.Store.Disk.state c.args.disk in
-    let new = g.S.Store.Disk.state c.audit-report.result.1 in
-    rw c.in-Audit.is (report_found c.audit-report.result.0 c.found_report-in-Audit.result (IsAudited basis k from old new) (IsUnaudited basis k from old new)
-    c.found_report-in-Audit.ensures (c.audit-report.ensures.audited honest))
 
 pub returns-in-Build-clause-found : goal.returns-in-Build-clause-found
 returns-in-Build-clause-found g c = λ honest.
@@ -46,3 +36,6 @@ returns-in-Build-clause-found g c = λ honest.
     let new = g.S.Store.Disk.state c.build-report.result.1 in
     rw c.in-Build.is (report_found c.build-report.result.0 c.found_report-in-Build.result (ReportsBuilt (IsBuilt basis k old new)) (IsUnbuilt basis k old new)
     c.found_report-in-Build.ensures (c.build-report.ensures.built honest))
+
+pub returns-in-Audit-clause-found : goal.returns-in-Audit-clause-found
+returns-in-Audit-clause-found g c = λ honest. rw c.in-Audit.is (c.audit_on.ensures.found honest)

@@ -1,0 +1,48 @@
+//! Which stored trees are audited.
+
+ghost use Rattle.std.specs.Prelude.{IfNone, IfSome};
+ghost use Rattle.clap.specs.Words.{rows_of, found_of};
+ghost use Rattle.command_line.specs.AuditWords.{AuditsOf};
+ghost use Rattle.command_line.specs.declared.audited.Audited.{Audited as AuditedData};
+
+use crate::asked_workers::auditors_of;
+use crate::workers::Workers;
+use clap::ArgMatches;
+use options::{flag_of, text_of};
+
+/// Which stored trees are audited.
+#[derive(Clone, Copy, Debug, PartialEq, Eq)]
+pub enum Audited<'a> {
+    /// The tree of a stop, by the stop's id.
+    Stop(&'a str),
+    /// All trees.
+    All {
+        workers: Workers,
+        /// Whether it is told how far the audits are, also where standard error is no terminal.
+        progress: bool,
+    },
+}
+
+/// The trees that the words of an audit mean: none where they name no stop and don't say all, or both, or have a word for all beside a stop.
+pub(crate) fn audited_of<'a>(found: &ArgMatches<'a>) -> Option<Audited<'a>>
+    ensures audited { IfSome result (AuditsOf (rows_of (found_of found.now))) }
+    ensures none { IfNone result ((audited : AuditedData) → ¬ AuditsOf (rows_of (found_of found.now)) audited) }
+{
+    let all = flag_of(found, "all");
+    let progress = flag_of(found, "progress");
+    match text_of(found, "from") {
+        Some(from) => {
+            if all || progress || text_of(found, "workers").is_some() {
+                return None;
+            }
+            Some(Audited::Stop(from))
+        }
+        None => {
+            if !all {
+                return None;
+            }
+            let workers = auditors_of(found)?;
+            Some(Audited::All { workers, progress })
+        }
+    }
+}

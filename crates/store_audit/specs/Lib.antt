@@ -1,0 +1,2 @@
+pub mod TreeAudits
+pub mod Hands

@@ -1,0 +1,4 @@
+pub mod OpenedFacts
+pub mod MissingFacts
+pub mod BuildFacts
+pub mod ServedFacts

@@ -1,0 +1,3 @@
+pub mod Openings
+pub mod Builds
+pub mod Replies
