@@ -1,5 +1,5 @@
 -- The audits of all stored trees, told in their order.
-use Rattle.std.proofs.Common.{◌≡◌, ℕ, List, [], ◌∷◌, slice_index_or, subst}
+use Rattle.std.proofs.Common.{ℕ, List, [], ◌∷◌, slice_index_or, subst}
 use Rattle.std.specs.List.{AllZip}
 use Rattle.pattern_tree.specs.Content.{Content}
 use Rattle.answer_lines.specs.declared.audit.Audit.{Audit}

@@ -1,9 +1,9 @@
 -- The audit of a stored tree.
-use Rattle.std.proofs.Common.{◌≡◌, ◌⊎◌, ◌<◌, ◌≤◌, ◌∙◌, ℕ, List, [], ◌∷◌, Option, None, Some, IfSome, Contains, arith, refl, sym, subst, inl, inr}
+use Rattle.std.proofs.Common.{◌≡◌, ◌<◌, ◌≤◌, ◌∙◌, ℕ, List, [], ◌∷◌, Option, None, Some, IfSome, Contains, arith, refl, sym, subst, inl, inr}
 use Rattle.std.specs.Option.{option_map}
 use Rattle.std.proofs.lemmas.List.Sorted.{IsPermutation-sym}
 use Rattle.disk_model.specs.Disk.{State}
-use Rattle.timetable.specs.Table.{Table, stops_of}
+use Rattle.timetable.specs.Table.{stops_of}
 use Rattle.pattern_tree.specs.Content.{Content, longest}
 use Rattle.pattern_tree.specs.Paths.{IsIn}
 use Rattle.pattern_tree.proofs.PairFacts.{contains_in}
@@ -16,7 +16,6 @@ use Rattle.recovery.specs.Opening.{IsOpening, StandsForSources}
 use Rattle.answer_lines.specs.declared.audit.Audit.{Audit}
 use Rattle.answer_lines.specs.declared.report.Report.TheVariants as reports
 use Rattle.faults.specs.declared.fault.Fault.{Fault}
-use Rattle.faults.specs.declared.fault.Fault.TheVariants as faults
 use Rattle.feed_basis.specs.Basis.{BasisData}
 use Rattle.feed_basis.specs.Ids.{stop_alone}
 use Rattle.store_audit.proofs.SameTrees.{first_still}

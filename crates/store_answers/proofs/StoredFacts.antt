@@ -6,11 +6,10 @@ use Rattle.std.proofs.lemmas.List.Elements.{All-contains, Contains-append_cases,
 use Rattle.std.proofs.lemmas.List.Sorted.{Contains-permutation, IsPermutation-sym}
 use Rattle.timetable.specs.declared.parts.Leg.{Leg}
 use Rattle.timetable.specs.declared.parts.Numbers.{Numbers}
-use Rattle.timetable.specs.Journeys.{Journey, pattern}
+use Rattle.timetable.specs.Journeys.{pattern}
 use Rattle.timetable.specs.Table.{Table}
 use Rattle.pattern_tree.specs.Content.{Content}
 use Rattle.timetable.specs.Front.{AreBest}
-use Rattle.pattern_query.specs.Answer.{TreeReaches}
 use Rattle.pattern_query.specs.Questions.{AskedReaches, IsStored, tree_at}
 use Rattle.section_store.specs.Sections.{AreApart, Form, Stands, sources}
 use Rattle.store_excerpt.specs.Board.{AreOf}

@@ -16,6 +16,7 @@ use faults::Fault;
 use feed_basis::Basis;
 use section_store::going_laws::goes_on;
 use std::alloc::{AllocError, Global};
+use std::slice;
 use std::thread::Threads;
 use store_audit::{AuditProgress, Crew, TreeAudit, audit_store};
 use timetable::Rides;
@@ -32,7 +33,8 @@ fn all_told<'a>(
     let mut all = Vec::with_capacity(alloc, audits.len())?;
     for audit in audits {
         let from = basis.names().stop(audit.source);
-        all.push(told(basis, from, audit.difference))?;
+        let line = told(basis, from, audit.difference);
+        all.extend_from_slice(slice::from_ref(&line))?;
     }
     Ok(all)
 }

@@ -1,4 +1,4 @@
-use Rattle.std.proofs.Common.{◌≡◌, ◌∙◌, ◌∷◌, [], ap, sym, subst, inl, inr}
+use Rattle.std.proofs.Common.{◌∙◌, ap, sym, subst, inl, inr}
 use Rattle.std.specs.Arc.{arc_value}
 use Rattle.timetable.specs.Table.{Table, stops_of}
 use Rattle.section_store.specs.Sections.{Form, form_of}
@@ -6,7 +6,7 @@ use Rattle.pattern_query.specs.Questions.{tree_at}
 use Rattle.store_excerpt.specs.Board.{ShowsAmong}
 use Rattle.store_excerpt.specs.Excerpt.{ShowsWhole}
 use Rattle.recovery.specs.Opening.{IsOpening, StandsForSources}
-use Rattle.store_terms.specs.Stores.{OnlyFailing, form_over}
+use Rattle.store_terms.specs.Stores.{form_over}
 use Rattle.store_answers.proofs.AuditFacts.{ShowsOne, audited, uncompared_fails, uncompared_from}
 use Rattle.store_terms.proofs.OpeningFacts.{over_basis, unopened, unopened_fails}
 use Rattle.store_answers.proofs.audited.audit.Goals.{in-Ok-compared, in-Err-compared}
