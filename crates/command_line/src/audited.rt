@@ -23,7 +23,7 @@ pub enum Audited<'a> {
     },
 }
 
-/// The trees that the words of an audit mean: none where they name no stop and don't say all, or both, or have a word for all beside a stop.
+/// The trees that the words of an audit mean. None if they name no stop and don't say all, or both, or have a word for all beside a stop.
 pub(crate) fn audited_of<'a>(found: &ArgMatches<'a>) -> Option<Audited<'a>>
     ensures audited { IfSome result (AuditsOf (rows_of (found_of found.now))) }
     ensures none { IfNone result ((audited : AuditedData) → ¬ AuditsOf (rows_of (found_of found.now)) audited) }

@@ -41,8 +41,8 @@ impl Time {
     }
 }
 
-/// What the zone's clock shows, with seconds if there are some: `2024-01-03 01:10`. Past the years that jiff knows it is the service day and
-/// its time.
+/// What the zone's clock shows, with seconds if there are some: `2024-01-03 01:10`. Past the years that jiff knows it is the service day
+/// and its time.
 impl fmt::Display for Time {
     fn fmt<W: fmt::Write>(&self, f: &mut fmt::Formatter<W>) -> fmt::Result {
         let Some(shown) = self.shown else {

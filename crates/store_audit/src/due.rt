@@ -26,7 +26,7 @@ pub(crate) struct Due {
     pub(crate) difference: Option<Difference>,
 }
 
-// Where the answers from the patterns of a source differ first. A source that the timetable doesn't have has no event, and so no difference.
+// Where the answers from the patterns of a source differ first. A source that the timetable doesn't have has no event, so no difference.
 // It fails only if memory runs out.
 fn difference_of(
     alloc: Global,
