@@ -2,7 +2,7 @@
 
 use answer_lines::DayTime;
 use itinerary_texts::{Shown, Time};
-use jiff::civil::DateTime;
+use jiff::civil::{Date, DateTime};
 use jiff::tz::TimeZone;
 use jiff::{Error, SignedDuration};
 
@@ -22,18 +22,15 @@ impl Clock {
 
     /// A time of a service day, which the clock shows too.
     pub fn time(&self, told: DayTime) -> Time {
-        Time {
-            told,
-            shown: self.shown(told).ok(),
-        }
+        let shown = self.shown(told.date, told.seconds).ok();
+        Time { told, shown }
     }
 
     // Noon of the service day by the zone's clock, twelve hours back, and the seconds on (GTFS Schedule reference, "Field types", Time).
-    fn shown(&self, told: DayTime) -> Result<Shown, Error> {
-        let day = told.date;
+    fn shown(&self, day: Date, seconds: u32) -> Result<Shown, Error> {
         let noon = DateTime::new(day.year(), day.month(), day.day(), 12, 0, 0, 0)?;
         let noon = noon.to_zoned(self.zone)?.timestamp();
-        let moment = noon.checked_add(SignedDuration::from_secs(i64::from(told.seconds) - 43_200))?;
+        let moment = noon.checked_add(SignedDuration::from_secs(i64::from(seconds) - 43_200))?;
         Ok(Shown {
             moment,
             offset: self.zone.to_offset(moment),
