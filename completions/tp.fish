@@ -33,4 +33,4 @@ complete -c tp -n '__fish_seen_subcommand_from build audit' -l progress -d 'Repo
 complete -c tp -n '__fish_seen_subcommand_from scan ask' -l legs -d 'Print rides and walks'
 complete -c tp -n '__fish_seen_subcommand_from scan ask' -l names -d 'Print names, for people'
 complete -c tp -n '__fish_seen_subcommand_from direct scan list ask serve' -l format -xa 'lines json geojson' -d 'The format of the answer'
-complete -c tp -n '__fish_seen_subcommand_from stops' -l all -d 'Print all stops'
+complete -c tp -n '__fish_seen_subcommand_from stops audit' -l all -d 'Print all stops, or audit all stored trees'
