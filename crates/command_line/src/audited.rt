@@ -18,7 +18,7 @@ pub enum Audited<'a> {
     /// All trees.
     All {
         workers: Workers,
-        /// Whether it is told how far the audits are, also where standard error is no terminal.
+        /// Whether progress is reported, even if standard error is no terminal.
         progress: bool,
     },
 }

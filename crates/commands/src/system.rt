@@ -16,8 +16,8 @@ use std::thread::Threads;
 use store_audit::AuditProgress;
 use tellers::Teller;
 
-/// What the program finds on its system: folders of feeds, files of stores, threads and randomness; and who makes texts in formats, and who
-/// is told how far a build is, or the audits of all trees. A call is made at its turn, or not at all.
+/// What the program finds on its system: folders of feeds, files of stores, threads and randomness. It also has who makes texts in formats,
+/// and who reports the progress of a build or of the audits of all trees. A call is made at its turn, or not at all.
 pub trait System {
     /// Reads a file of a feed.
     type Reader: Read + Drop;
@@ -28,7 +28,7 @@ pub trait System {
     /// In which workers build.
     type Threads: Threads + Wait + Sync;
 
-    /// Is told how far a build is, or the audits of all trees.
+    /// Reports the progress of a build, or of the audits of all trees.
     type Meter: Progress + AuditProgress + Drop;
 
     /// Makes the texts of formats.
@@ -41,7 +41,7 @@ pub trait System {
 
     fn teller(&self) -> Self::Teller;
 
-    /// Who is told how far a build is, or the audits, by whether the words ask that it is shown.
+    /// Who reports progress; `shown` is whether the words ask for that.
     fn meter(&self, shown: bool) -> Self::Meter;
 
     /// Keys under which ids are looked up; none if the system gives no randomness.

@@ -10,7 +10,8 @@ use timetable::Rides;
 // How many trees of a batch are each worker's.
 const SHARE: usize = 16;
 
-/// Who audits trees: so many workers, each in a thread of its own, by the network of a timetable and for journeys of at most `rides` rides.
+/// Who audits trees: `workers` workers, each in a thread of its own. They audit by the network of a timetable, for journeys of at most
+/// `rides` rides.
 #[derive(Drop)]
 pub struct Crew<'a, R: Threads> {
     pub alloc: Global,
