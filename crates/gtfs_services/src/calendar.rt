@@ -1,6 +1,6 @@
 //! calendar.txt.
 
-ghost use Rattle.std.specs.Prelude.{◌≡◌, ◌<◌, length, map, is_some, Option, List, ℕ};
+ghost use Rattle.std.specs.Prelude.{◌≡◌, ◌<◌, [], length, map, is_some, Option, List, ℕ};
 ghost use Rattle.std.specs.List.{list_all, flat_map};
 ghost use Rattle.gtfs_rows.specs.declared.fault.FeedFile.TheVariants as files;
 ghost use Rattle.gtfs_rows.specs.Faults.{Answers};
@@ -111,6 +111,26 @@ fn read_row(
     })
 }
 
+// The rows, where each passes its tests. Their services join `services`.
+fn keep_rows<'a>(
+    alloc: Global,
+    sheet: &'a Sheet,
+    columns: CalendarColumns,
+    services: &mut Texts<'a>,
+) -> Result<Vec<CalendarRow>, FeedFault>
+    requires columns { AreCalendarColumns sheet.now columns }
+    requires empty { services.old.keys ≡ [] }
+    ensures { Answers (λ rows. rows.items) result (flat_map (calendar_row_tests sheet.now) (rows_of sheet.now))
+        (calendar_values sheet.now) }
+{
+    let mut rows = Vec::new(alloc);
+    for row in filled_rows(sheet) {
+        let is_new = services.insert(text_under(sheet, columns.service, row))?;
+        rows.push(read_row(alloc, sheet, columns, is_new, row)?)?;
+    }
+    Ok(rows)
+}
+
 // The rows, where each passes its tests.
 fn read_rows(
     alloc: Global,
@@ -122,14 +142,8 @@ fn read_rows(
     ensures { Answers (λ rows. rows.items) result (flat_map (calendar_row_tests sheet.now) (rows_of sheet.now))
         (calendar_values sheet.now) }
 {
-    let mut services: Texts<'_> = IndexSet::with_hasher(alloc, hash_keys);
-    let mut rows = Vec::new(alloc);
-    for row in filled_rows(sheet) {
-        let is_new = services.insert(text_under(sheet, columns.service, row))?;
-        let value = read_row(alloc, sheet, columns, is_new, row)?;
-        rows.push(value)?;
-    }
-    Ok(rows)
+    let mut services = IndexSet::with_hasher(alloc, hash_keys);
+    keep_rows(alloc, sheet, columns, &mut services)
 }
 
 // The rows of the file, where each of its tests holds.

@@ -1,6 +1,6 @@
 //! calendar_dates.txt.
 
-ghost use Rattle.std.specs.Prelude.{◌≡◌, ◌<◌, length, Option, List, ℕ, pos};
+ghost use Rattle.std.specs.Prelude.{◌≡◌, ◌<◌, [], length, Option, List, ℕ, pos};
 ghost use Rattle.std.specs.List.{flat_map};
 ghost use Rattle.gtfs_rows.specs.declared.fault.FeedFile.TheVariants as files;
 ghost use Rattle.gtfs_rows.specs.Faults.{Answers};
@@ -87,18 +87,18 @@ fn read_row(
     })
 }
 
-// The rows, where each passes its tests.
-fn read_rows(
+// The rows, where each passes its tests. Their services and days join `dates`.
+fn keep_rows<'a>(
     alloc: Global,
-    hash_keys: RandomState,
-    sheet: &Sheet,
+    sheet: &'a Sheet,
     columns: DateColumns,
+    dates: &mut IndexSet<ServiceDate<'a>, RandomState>,
 ) -> Result<Vec<CalendarDate>, FeedFault>
-    requires { AreDateColumns sheet.now columns }
+    requires columns { AreDateColumns sheet.now columns }
+    requires empty { dates.old.keys ≡ [] }
     ensures { Answers (λ rows. rows.items) result (flat_map (calendar_date_tests sheet.now) (rows_of sheet.now))
         (calendar_date_values sheet.now) }
 {
-    let mut dates: IndexSet<ServiceDate<'_>, RandomState> = IndexSet::with_hasher(alloc, hash_keys);
     let mut rows = Vec::new(alloc);
     for row in filled_rows(sheet) {
         let value = read_row(alloc, sheet, columns, row)?;
@@ -110,6 +110,21 @@ fn read_rows(
         rows.push(value)?;
     }
     Ok(rows)
+}
+
+// The rows, where each passes its tests.
+fn read_rows(
+    alloc: Global,
+    hash_keys: RandomState,
+    sheet: &Sheet,
+    columns: DateColumns,
+) -> Result<Vec<CalendarDate>, FeedFault>
+    requires { AreDateColumns sheet.now columns }
+    ensures { Answers (λ rows. rows.items) result (flat_map (calendar_date_tests sheet.now) (rows_of sheet.now))
+        (calendar_date_values sheet.now) }
+{
+    let mut dates = IndexSet::with_hasher(alloc, hash_keys);
+    keep_rows(alloc, sheet, columns, &mut dates)
 }
 
 // The rows of the file, where each of its tests holds.

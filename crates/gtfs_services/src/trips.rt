@@ -60,25 +60,31 @@ fn row_fault(sheet: &Sheet, columns: TripColumns, is_new: bool, row: usize) -> O
     }
 }
 
-// Tests each row, and gives the ids.
+// Tests the columns, each row and how many there are. The ids of the rows join `ids`.
 fn test_rows<'a>(
-    alloc: Global,
-    hash_keys: RandomState,
     sheet: &'a Sheet,
     columns: TripColumns,
-) -> Result<Texts<'a>, FeedFault>
-    requires { AreTripColumns sheet.now columns }
-    ensures tests { Passes result (flat_map (trip_tests sheet.now) (rows_of sheet.now)) }
-    ensures ids { IfOk result (λ ids. texts_in ids.keys ≡ trip_ids sheet.now) }
+    ids: &mut Texts<'a>,
+) -> Result<(), FeedFault>
+    requires columns { AreTripColumns sheet.now columns }
+    requires empty { ids.old.keys ≡ [] }
+    ensures tests { Passes result (trips_tests sheet.now) }
+    ensures ids { OnOk result (texts_in ids.new.keys ≡ trip_ids sheet.now) }
+    ensures few { OnOk result (row_count sheet.now ≤ 999_999_999) }
 {
-    let mut ids = IndexSet::with_hasher(alloc, hash_keys);
+    if columns.id.is_none() || columns.service.is_none() {
+        return Err(FeedFault::new(FaultKind::MissingColumn, FeedFile::Trips, 0));
+    }
     for row in filled_rows(sheet) {
         let is_new = ids.insert(text_under(sheet, columns.id, row))?;
         if let Some(kind) = row_fault(sheet, columns, is_new, row) {
             return Err(FeedFault::new(kind, FeedFile::Trips, row));
         }
     }
-    Ok(ids)
+    if sheet.rows() > ROW_LIMIT {
+        return Err(FeedFault::new(FaultKind::TooMany, FeedFile::Trips, 0));
+    }
+    Ok(())
 }
 
 // The trips. The texts of services join `services`, where a service's number is its index.
@@ -117,6 +123,23 @@ fn keep_services(alloc: Global, services: &Texts<'_>) -> Result<Vec<Id>, AllocEr
     Ok(ids)
 }
 
+// The trips, and their services.
+fn keep_rows(
+    alloc: Global,
+    hash_keys: RandomState,
+    sheet: &Sheet,
+    columns: TripColumns,
+) -> Result<(Vec<Trip>, Vec<Id>), AllocError>
+    requires columns { AreTripColumns sheet.now columns }
+    requires few { row_count sheet.now ≤ 999_999_999 }
+    ensures trips { IfOk result (λ rows. rows.0.items ≡ trip_values sheet.now) }
+    ensures services { IfOk result (λ rows. rows.1.items ≡ service_values sheet.now) }
+{
+    let mut services = IndexSet::with_hasher(alloc, hash_keys);
+    let trips = keep_trips(alloc, sheet, columns, &mut services)?;
+    Ok((trips, keep_services(alloc, &services)?))
+}
+
 /// Reads trips.txt (GTFS Schedule reference, trips.txt): each row that isn't blank is a trip. Rows are counted from 1.
 ///
 /// The error is the first of these, with its row: `MissingColumn`, row 0, where there is no column `trip_id` or no
@@ -136,16 +159,9 @@ pub fn read_trips(
     ensures known { IfOk result (λ rows. All (λ trip. trip.service < length rows.services.items) rows.trips.items) }
 {
     let columns = trip_columns(sheet);
-    if columns.id.is_none() || columns.service.is_none() {
-        return Err(FeedFault::new(FaultKind::MissingColumn, FeedFile::Trips, 0));
-    }
-    let ids = test_rows(alloc, hash_keys, sheet, columns)?;
-    if sheet.rows() > ROW_LIMIT {
-        return Err(FeedFault::new(FaultKind::TooMany, FeedFile::Trips, 0));
-    }
-    let mut services = IndexSet::with_hasher(alloc, hash_keys);
-    let trips = keep_trips(alloc, sheet, columns, &mut services)?;
-    let services = keep_services(alloc, &services)?;
+    let mut ids = IndexSet::with_hasher(alloc, hash_keys);
+    test_rows(sheet, columns, &mut ids)?;
+    let (trips, services) = keep_rows(alloc, hash_keys, sheet, columns)?;
     Ok(TripRows {
         trips,
         services,

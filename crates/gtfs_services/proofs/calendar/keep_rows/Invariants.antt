@@ -3,7 +3,7 @@ use Rattle.std.specs.List.{flat_map}
 use Rattle.gtfs_rows.specs.Faults.{first_fault}
 use Rattle.gtfs_rows.specs.Rows.{texts_in}
 use Rattle.gtfs_services.specs.Calendar.{service_id, calendar_row_tests, calendar_row_value}
-use Rattle.gtfs_services.proofs.calendar.read_rows.Given as goal
+use Rattle.gtfs_services.proofs.calendar.keep_rows.Given as goal
 
 abbrev pub invariant-loop-row : goal.invariant-loop-row
 invariant-loop-row l = record {

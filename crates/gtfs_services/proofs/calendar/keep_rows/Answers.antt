@@ -9,7 +9,7 @@ use Rattle.gtfs_services.specs.Calendar.{service_id, calendar_row_tests, calenda
 use Rattle.gtfs_rows.proofs.FilledFacts.{turn, turns_end, turn_decides, turn_is_new, turn_joins}
 use Rattle.gtfs_rows.proofs.RowFacts.{explained, row_passes}
 use Rattle.gtfs_services.proofs.CalendarFacts.{is_new}
-use Rattle.gtfs_services.proofs.calendar.read_rows.Goals as goal
+use Rattle.gtfs_services.proofs.calendar.keep_rows.Goals as goal
 
 pub text_under-requires : goal.text_under-requires
 text_under-requires c = (turn (c.into_iter-row-iterator.ensures.into_iter_gives ∙ c.filled_rows-row-items.ensures) _ _ c.loop-row.yielded_by c.in-Some.is c.next.ensures.steps).there
@@ -23,17 +23,17 @@ read_row-requires-clause-is_new c =
     let row = c.in-Some.row in
     let here = turn (c.into_iter-row-iterator.ensures.into_iter_gives ∙ c.filled_rows-row-items.ensures) _ _ c.loop-row.yielded_by c.in-Some.is c.next.ensures.steps in
     c.in_ok-is_new.ensures.added ∙ turn_is_new table (service_id table) c.loop-row.yielded row c.loop-row.services.keys c.text_under.result here c.loop-row.invariant.services
-    (c.text_under.ensures ∙ ap (λ (column : Option ℕ). text_under table column row) c.requires.service)
+    (c.text_under.ensures ∙ ap (λ (column : Option ℕ). text_under table column row) c.requires.columns.service)
 
-pub returns-in_err-value : goal.returns-in_err-value
-returns-in_err-value c =
+pub returns-in_err-read_row : goal.returns-in_err-read_row
+returns-in_err-read_row c =
     let table = c.args.sheet.now in
     let row = c.in-Some.row in
     let here = turn (c.into_iter-row-iterator.ensures.into_iter_gives ∙ c.filled_rows-row-items.ensures) _ _ c.loop-row.yielded_by c.in-Some.is c.next.ensures.steps in
-    let p = err_from_is_err_and c.from_residual-in_err-value.result c.from_residual-in_err-value.ensures.1 in
-    let f = c.in_err-value.field-0.0 in
+    let p = err_from_is_err_and c.from_residual-in_err-read_row.result c.from_residual-in_err-read_row.ensures.1 in
+    let f = c.in_err-read_row.field-0.0 in
     rw (p.1, p.2) (explained f.kind (first_fault (calendar_row_tests table row)) (first_fault (flat_map (calendar_row_tests table) (rows_of table))) f
-    (turn_decides table (calendar_row_tests table) c.loop-row.yielded row f here c.loop-row.invariant.passed) c.in_err-value.ensures)
+    (turn_decides table (calendar_row_tests table) c.loop-row.yielded row f here c.loop-row.invariant.passed) c.in_err-read_row.ensures)
 
 pub loop-row-preserved : goal.loop-row-preserved
 loop-row-preserved c =
@@ -41,13 +41,13 @@ loop-row-preserved c =
     let given = c.loop-row.yielded in
     let row = c.in-Some.row in
     let here = turn (c.into_iter-row-iterator.ensures.into_iter_gives ∙ c.filled_rows-row-items.ensures) _ _ c.loop-row.yielded_by c.in-Some.is c.next.ensures.steps in
-    let passes = c.in_ok-value.ensures.0 in
-    let id = c.text_under.ensures ∙ ap (λ (column : Option ℕ). text_under table column row) c.requires.service in
+    let passes = c.in_ok-read_row.ensures.0 in
+    let id = c.text_under.ensures ∙ ap (λ (column : Option ℕ). text_under table column row) c.requires.columns.service in
     record {
       services = rw c.in_ok-is_new.ensures.keys (turn_joins table (service_id table) given row c.loop-row.services.keys c.text_under.result here c.loop-row.invariant.services id (is_new table row passes));
       passed = row_passes (calendar_row_tests table) given row c.loop-row.invariant.passed passes;
       rows = rw (c.in_ok-push.ensures.items, c.loop-row.invariant.rows)
-          (ap (λ (value : CalendarRow). map (calendar_row_value table) given ++ value ∷ []) c.in_ok-value.ensures.1 ∙ sym (map_push (calendar_row_value table) given row));
+          (ap (λ (value : CalendarRow). map (calendar_row_value table) given ++ value ∷ []) c.in_ok-read_row.ensures.1 ∙ sym (map_push (calendar_row_value table) given row));
     }
 
 pub returns : goal.returns

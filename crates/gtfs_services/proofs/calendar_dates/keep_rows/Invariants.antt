@@ -3,7 +3,7 @@ use Rattle.std.specs.List.{flat_map}
 use Rattle.gtfs_rows.specs.Faults.{first_fault}
 use Rattle.gtfs_services.specs.CalendarDates.{calendar_date_tests, calendar_date_value}
 use Rattle.gtfs_services.proofs.CalendarDateFacts.{parts_in, row_parts}
-use Rattle.gtfs_services.proofs.calendar_dates.read_rows.Given as goal
+use Rattle.gtfs_services.proofs.calendar_dates.keep_rows.Given as goal
 
 abbrev pub invariant-loop-row : goal.invariant-loop-row
 invariant-loop-row l = record {

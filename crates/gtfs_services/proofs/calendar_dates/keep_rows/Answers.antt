@@ -11,7 +11,7 @@ use Rattle.gtfs_services.specs.CalendarDates.{field_tests, calendar_date_tests, 
 use Rattle.gtfs_rows.proofs.FilledFacts.{turn, turns_end, turn_decides}
 use Rattle.gtfs_rows.proofs.RowFacts.{explained, explains, sooner, row_passes}
 use Rattle.gtfs_services.proofs.CalendarDateFacts.{Parts, row_parts, key_is, key_is_new, key_joins, last_test}
-use Rattle.gtfs_services.proofs.calendar_dates.read_rows.Goals as goal
+use Rattle.gtfs_services.proofs.calendar_dates.keep_rows.Goals as goal
 
 pub read_row-requires-clause-row : goal.read_row-requires-clause-row
 read_row-requires-clause-row c = (turn (c.into_iter-row-iterator.ensures.into_iter_gives ∙ c.filled_rows-row-items.ensures) _ _ c.loop-row.yielded_by c.in-Some.is c.next.ensures.steps).there
@@ -36,7 +36,7 @@ returns-then-not-is_new c =
     let given = c.loop-row.yielded in
     let row = c.in-Some.row in
     let here = turn (c.into_iter-row-iterator.ensures.into_iter_gives ∙ c.filled_rows-row-items.ensures) _ _ c.loop-row.yielded_by c.in-Some.is c.next.ensures.steps in
-    let service = c.text_under-service.ensures ∙ ap (λ (column : Option ℕ). text_under table column row) c.requires.service in
+    let service = c.text_under-service.ensures ∙ ap (λ (column : Option ℕ). text_under table column row) c.requires.columns.service in
     let key : ◌≡◌ {A = Parts} (c.service_date.result.0.now, c.service_date.result.1, c.service_date.result.2, c.service_date.result.3) (row_parts table row) =
     key_is table row c.service_date.result.0.now c.service_date.result.1 c.service_date.result.2 c.service_date.result.3 c.text_under-service.result.now c.in_ok-value.value
     c.service_date.ensures.service service c.service_date.ensures.year c.service_date.ensures.month c.service_date.ensures.day c.in_ok-value.ensures.1 in
@@ -51,7 +51,7 @@ loop-row-preserved c =
     let given = c.loop-row.yielded in
     let row = c.in-Some.row in
     let here = turn (c.into_iter-row-iterator.ensures.into_iter_gives ∙ c.filled_rows-row-items.ensures) _ _ c.loop-row.yielded_by c.in-Some.is c.next.ensures.steps in
-    let service = c.text_under-service.ensures ∙ ap (λ (column : Option ℕ). text_under table column row) c.requires.service in
+    let service = c.text_under-service.ensures ∙ ap (λ (column : Option ℕ). text_under table column row) c.requires.columns.service in
     let key : ◌≡◌ {A = Parts} (c.service_date.result.0.now, c.service_date.result.1, c.service_date.result.2, c.service_date.result.3) (row_parts table row) =
     key_is table row c.service_date.result.0.now c.service_date.result.1 c.service_date.result.2 c.service_date.result.3 c.text_under-service.result.now c.in_ok-value.value
     c.service_date.ensures.service service c.service_date.ensures.year c.service_date.ensures.month c.service_date.ensures.day c.in_ok-value.ensures.1 in
