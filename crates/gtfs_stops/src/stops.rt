@@ -1,6 +1,6 @@
 //! stops.txt.
 
-ghost use Rattle.std.specs.Prelude.{◌≡◌, ◌<◌, ◌≤◌, length, map, option_map, IfOk, OnOk};
+ghost use Rattle.std.specs.Prelude.{◌≡◌, ◌<◌, ◌≤◌, [], length, map, option_map, IfOk, OnOk};
 ghost use Rattle.std.specs.Option.{IfSome};
 ghost use Rattle.std.specs.List.{flat_map, All};
 ghost use Rattle.gtfs_rows.specs.declared.fault.FeedFile.TheVariants as files;
@@ -77,24 +77,23 @@ fn means(kind: RowKind, text: &str) -> bool
     }
 }
 
-// The ids of the rows of a kind, in the whole file, each once.
-fn ids_of<'a>(
-    alloc: Global,
-    hash_keys: RandomState,
+// Adds the ids of the rows of a kind, in the whole file, each once.
+fn add_ids_of<'a>(
     sheet: &'a Sheet,
     columns: StopColumns,
     kind: RowKind,
-) -> Result<Texts<'a>, AllocError>
-    requires { AreStopColumns sheet.now columns }
-    ensures { IfOk result (λ ids. texts_in ids.keys ≡ distinct (ids_of_kind kind sheet.now)) }
+    ids: &mut Texts<'a>,
+) -> Result<(), AllocError>
+    requires columns { AreStopColumns sheet.now columns }
+    requires empty { ids.old.keys ≡ [] }
+    ensures { OnOk result (texts_in ids.new.keys ≡ distinct (ids_of_kind kind sheet.now)) }
 {
-    let mut ids = IndexSet::with_hasher(alloc, hash_keys);
     for row in filled_rows(sheet) {
         if means(kind, text_under(sheet, columns.location_type, row)) {
             ids.insert(text_under(sheet, columns.id, row))?;
         }
     }
-    Ok(ids)
+    Ok(())
 }
 
 // Whether a parent_station is one that a row may name.
@@ -130,28 +129,27 @@ fn row_fault(
     }
 }
 
-// Tests each row, and gives the ids.
+// Tests each row. The ids of the rows join `ids`.
 fn test_rows<'a>(
-    alloc: Global,
-    hash_keys: RandomState,
     sheet: &'a Sheet,
     columns: StopColumns,
     stations: &Texts<'a>,
-) -> Result<Texts<'a>, FeedFault>
+    ids: &mut Texts<'a>,
+) -> Result<(), FeedFault>
     requires columns { AreStopColumns sheet.now columns }
     requires stations { texts_in stations.now.keys ≡ distinct (ids_of_kind row_kinds.Station sheet.now) }
+    requires empty { ids.old.keys ≡ [] }
     ensures tests { Passes result (flat_map (stop_tests sheet.now) (rows_of sheet.now)) }
-    ensures ids { IfOk result (λ ids. texts_in ids.keys ≡ map (stop_id sheet.now) (rows_of sheet.now)) }
+    ensures ids { OnOk result (texts_in ids.new.keys ≡ map (stop_id sheet.now) (rows_of sheet.now)) }
     ensures apart { OnOk result (AreApart (stop_id sheet.now) (rows_of sheet.now)) }
 {
-    let mut ids = IndexSet::with_hasher(alloc, hash_keys);
     for row in filled_rows(sheet) {
         let is_new = ids.insert(text_under(sheet, columns.id, row))?;
         if let Some(kind) = row_fault(sheet, columns, stations, is_new, row) {
             return Err(FeedFault::new(kind, FeedFile::Stops, row));
         }
     }
-    Ok(ids)
+    Ok(())
 }
 
 // The stops. A station's number is its index among the ids of stations.
@@ -200,36 +198,56 @@ fn keep_stations(alloc: Global, ids: &Texts<'_>) -> Result<Vec<Station>, AllocEr
     Ok(stations)
 }
 
-// The ids of the file, where each of its tests holds.
-fn read_ids<'a>(
-    alloc: Global,
-    hash_keys: RandomState,
+// Adds the ids of the file, where each of its tests holds.
+fn add_ids<'a>(
     sheet: &'a Sheet,
     columns: StopColumns,
-) -> Result<StopIds<'a>, FeedFault>
-    requires { AreStopColumns sheet.now columns }
+    ids: &mut StopIds<'a>,
+) -> Result<(), FeedFault>
+    requires columns { AreStopColumns sheet.now columns }
+    requires all { ids.old.all.keys ≡ [] }
+    requires stops { ids.old.stops.keys ≡ [] }
+    requires stations { ids.old.stations.keys ≡ [] }
     ensures tests { Passes result (stops_tests sheet.now) }
-    ensures ids { IfOk result (AreStopIds sheet.now) }
-    ensures few { IfOk result (λ ids. length ids.stops.keys ≤ 65_534) }
-    ensures few_stations { IfOk result (λ ids. length ids.stations.keys ≤ 999_999_999) }
+    ensures ids { OnOk result (AreStopIds sheet.now ids.new) }
+    ensures few { OnOk result (length ids.new.stops.keys ≤ 65_534) }
+    ensures few_stations { OnOk result (length ids.new.stations.keys ≤ 999_999_999) }
 {
     if columns.id.is_none() {
         return Err(FeedFault::new(FaultKind::MissingColumn, FeedFile::Stops, 0));
     }
-    let stations = ids_of(alloc, hash_keys, sheet, columns, RowKind::Station)?;
-    let all = test_rows(alloc, hash_keys, sheet, columns, &stations)?;
+    add_ids_of(sheet, columns, RowKind::Station, &mut ids.stations)?;
+    test_rows(sheet, columns, &ids.stations, &mut ids.all)?;
     if sheet.rows() > ROW_LIMIT {
         return Err(FeedFault::new(FaultKind::TooMany, FeedFile::Stops, 0));
     }
-    let stops = ids_of(alloc, hash_keys, sheet, columns, RowKind::Stop)?;
-    if stops.len() > STOP_LIMIT {
+    add_ids_of(sheet, columns, RowKind::Stop, &mut ids.stops)?;
+    if ids.stops.len() > STOP_LIMIT {
         return Err(FeedFault::new(FaultKind::TooMany, FeedFile::Stops, 0));
     }
-    Ok(StopIds {
-        all,
-        stops,
-        stations,
-    })
+    Ok(())
+}
+
+// The stops and the stations of the file, where each of its tests holds. Its ids join `ids`.
+fn read_rows<'a>(
+    alloc: Global,
+    sheet: &'a Sheet,
+    columns: StopColumns,
+    ids: &mut StopIds<'a>,
+) -> Result<(Vec<Stop>, Vec<Station>), FeedFault>
+    requires columns { AreStopColumns sheet.now columns }
+    requires all { ids.old.all.keys ≡ [] }
+    requires stops { ids.old.stops.keys ≡ [] }
+    requires stations { ids.old.stations.keys ≡ [] }
+    ensures stops { Answers (λ rows. rows.0.items) result (stops_tests sheet.now) (stop_values sheet.now) }
+    ensures stations { IfOk result (λ rows. rows.1.items ≡ station_values sheet.now) }
+    ensures ids { OnOk result (AreStopIds sheet.now ids.new) }
+    ensures few { OnOk result (length ids.new.stops.keys ≤ 65_534) }
+    ensures few_stations { OnOk result (length ids.new.stations.keys ≤ 999_999_999) }
+{
+    add_ids(sheet, columns, ids)?;
+    let stops = keep_stops(alloc, sheet, columns, &ids.stations)?;
+    Ok((stops, keep_stations(alloc, &ids.stations)?))
 }
 
 /// The rows of stops.txt, where each of its tests holds.
@@ -248,9 +266,12 @@ pub fn read_stops(
     ensures linked { IfOk result (λ rows. All (λ stop. IfSome stop.station (λ n. n < length rows.stations.items)) rows.stops.items) }
 {
     let columns = stop_columns(sheet);
-    let ids = read_ids(alloc, hash_keys, sheet, columns)?;
-    let stops = keep_stops(alloc, sheet, columns, &ids.stations)?;
-    let stations = keep_stations(alloc, &ids.stations)?;
+    let mut ids = StopIds {
+        all: IndexSet::with_hasher(alloc, hash_keys),
+        stops: IndexSet::with_hasher(alloc, hash_keys),
+        stations: IndexSet::with_hasher(alloc, hash_keys),
+    };
+    let (stops, stations) = read_rows(alloc, sheet, columns, &mut ids)?;
     Ok(StopRows {
         stops,
         stations,

@@ -13,7 +13,7 @@ use Rattle.gtfs_rows.specs.Rows.{distinct, AreApart, rows_of, texts_in}
 use Rattle.gtfs_stops.specs.Stops.{stop_id, stop_tests, has_few_stops, ids_of_kind, rows_of_kind, means, location_type}
 use Rattle.gtfs_rows.proofs.RowFacts.{is_there, table_rest, table_row_fault, too_many, few_and, not_few, is_few, length-filter_rows}
 use Rattle.gtfs_rows.proofs.TextFacts.{distinct_apart, length-texts_in}
-use Rattle.gtfs_stops.proofs.stops.read_ids.Goals as goal
+use Rattle.gtfs_stops.proofs.stops.add_ids.Goals as goal
 
 columns : (table : Table) → is_some (column_of table (codes "stop_id")) ≡ true → list_all (λ name. is_some (column_of table name)) (codes "stop_id" ∷ []) ≡ true
 columns table h = rw h refl
@@ -23,18 +23,18 @@ ids_are : (table : Table) (kind : RowKind) (texts : List (List ℕ)) → AreApar
 ids_are table kind texts apart held = held ∙ distinct_apart (stop_id table) (rows_of_kind kind table)
     (AllPairs-filter (λ (a b : ℕ). bytes_eq (stop_id table b) (stop_id table a) ≡ false) (λ (row : ℕ). means kind (location_type table row)) (rows_of table) apart)
 
-pub returns-in_err-all-clause-tests : goal.returns-in_err-all-clause-tests
-returns-in_err-all-clause-tests c =
-    let p = err_from_is_err_and c.from_residual-in_err-all.result c.from_residual-in_err-all.ensures.1 in
-    let there = columns c.args.sheet.now (is_there c.args.columns.id (column_of c.args.sheet.now (codes "stop_id")) c.is_none.result c.requires.id c.is_none.ensures c.if-is_none.false) in
-    let f = c.in_err-all.field-0.0 in
-    rw (p.1, p.2) (table_row_fault files.Stops (codes "stop_id" ∷ []) stop_tests has_few_stops c.args.sheet.now f.kind f there c.in_err-all.ensures.tests)
+pub returns-in_err-test_rows-clause-tests : goal.returns-in_err-test_rows-clause-tests
+returns-in_err-test_rows-clause-tests c =
+    let p = err_from_is_err_and c.from_residual-in_err-test_rows.result c.from_residual-in_err-test_rows.ensures.1 in
+    let there = columns c.args.sheet.now (is_there c.args.columns.id (column_of c.args.sheet.now (codes "stop_id")) c.is_none.result c.requires.columns.id c.is_none.ensures c.if-is_none.false) in
+    let f = c.in_err-test_rows.field-0.0 in
+    rw (p.1, p.2) (table_row_fault files.Stops (codes "stop_id" ∷ []) stop_tests has_few_stops c.args.sheet.now f.kind f there c.in_err-test_rows.ensures.tests)
 
 pub returns-then-rows-gt-ROW_LIMIT-clause-tests : goal.returns-then-rows-gt-ROW_LIMIT-clause-tests
 returns-then-rows-gt-ROW_LIMIT-clause-tests c =
-    let there = columns c.args.sheet.now (is_there c.args.columns.id (column_of c.args.sheet.now (codes "stop_id")) c.is_none.result c.requires.id c.is_none.ensures c.if-is_none.false) in
+    let there = columns c.args.sheet.now (is_there c.args.columns.id (column_of c.args.sheet.now (codes "stop_id")) c.is_none.result c.requires.columns.id c.is_none.ensures c.if-is_none.false) in
     let small = too_many (row_count c.args.sheet.now) 999_999_999 (has_few_stops c.args.sheet.now) (omega (arith, c.rows.ensures, c.if-rows-gt-ROW_LIMIT.true)) in
-    rw c.new-then-rows-gt-ROW_LIMIT.ensures (table_rest files.Stops (codes "stop_id" ∷ []) stop_tests has_few_stops c.args.sheet.now false there c.in_ok-all.ensures.tests small)
+    rw c.new-then-rows-gt-ROW_LIMIT.ensures (table_rest files.Stops (codes "stop_id" ∷ []) stop_tests has_few_stops c.args.sheet.now false there c.in_ok-test_rows.ensures.tests small)
 
 -- how many stops there are
 stop_count : (table : Table) (keys : List (Bor (List ℕ))) (n : ℕ) → texts_in keys ≡ ids_of_kind row_kinds.Stop table → n ≡ length keys → length (ids_of_kind row_kinds.Stop table) ≡ n
@@ -43,12 +43,12 @@ stop_count table keys n held len = ap length (sym held) ∙ length-texts_in keys
 pub returns-then-len-gt-STOP_LIMIT-clause-tests : goal.returns-then-len-gt-STOP_LIMIT-clause-tests
 returns-then-len-gt-STOP_LIMIT-clause-tests c =
     let table = c.args.sheet.now in
-    let there = columns table (is_there c.args.columns.id (column_of table (codes "stop_id")) c.is_none.result c.requires.id c.is_none.ensures c.if-is_none.false) in
-    let count = stop_count table c.in_ok-stops.stops.keys c.len.result (ids_are table row_kinds.Stop (texts_in c.in_ok-stops.stops.keys) c.in_ok-all.ensures.apart c.in_ok-stops.ensures) c.len.ensures.len in
+    let there = columns table (is_there c.args.columns.id (column_of table (codes "stop_id")) c.is_none.result c.requires.columns.id c.is_none.ensures c.if-is_none.false) in
+    let count = stop_count table c.add_ids_of-2.new.ids.keys c.len.result (ids_are table row_kinds.Stop (texts_in c.add_ids_of-2.new.ids.keys) c.in_ok-test_rows.ensures.apart c.in_ok-add_ids_of-2.ensures) c.len.ensures.len in
     let small : (nat_le (row_count table) 999_999_999 && has_few_stops table) ≡ false =
     few_and (row_count table) 999_999_999 (has_few_stops table) (omega (arith, c.rows.ensures, c.if-rows-gt-ROW_LIMIT.false))
     ∙ not_few (length (ids_of_kind row_kinds.Stop table)) 65_534 (omega (arith, count, c.if-len-gt-STOP_LIMIT.true)) in
-    rw c.new-then-len-gt-STOP_LIMIT.ensures (table_rest files.Stops (codes "stop_id" ∷ []) stop_tests has_few_stops table false there c.in_ok-all.ensures.tests small)
+    rw c.new-then-len-gt-STOP_LIMIT.ensures (table_rest files.Stops (codes "stop_id" ∷ []) stop_tests has_few_stops table false there c.in_ok-test_rows.ensures.tests small)
 
 -- how many stations there are
 station_count : (table : Table) (keys : List (Bor (List ℕ))) → texts_in keys ≡ ids_of_kind row_kinds.Station table → length keys ≤ row_count table
@@ -60,20 +60,20 @@ station_count table keys held =
 pub returns-clause-tests : goal.returns-clause-tests
 returns-clause-tests c =
     let table = c.args.sheet.now in
-    let there = columns table (is_there c.args.columns.id (column_of table (codes "stop_id")) c.is_none.result c.requires.id c.is_none.ensures c.if-is_none.false) in
-    let count = stop_count table c.in_ok-stops.stops.keys c.len.result (ids_are table row_kinds.Stop (texts_in c.in_ok-stops.stops.keys) c.in_ok-all.ensures.apart c.in_ok-stops.ensures) c.len.ensures.len in
+    let there = columns table (is_there c.args.columns.id (column_of table (codes "stop_id")) c.is_none.result c.requires.columns.id c.is_none.ensures c.if-is_none.false) in
+    let count = stop_count table c.add_ids_of-2.new.ids.keys c.len.result (ids_are table row_kinds.Stop (texts_in c.add_ids_of-2.new.ids.keys) c.in_ok-test_rows.ensures.apart c.in_ok-add_ids_of-2.ensures) c.len.ensures.len in
     let small : (nat_le (row_count table) 999_999_999 && has_few_stops table) ≡ true =
     few_and (row_count table) 999_999_999 (has_few_stops table) (omega (arith, c.rows.ensures, c.if-rows-gt-ROW_LIMIT.false))
     ∙ is_few (length (ids_of_kind row_kinds.Stop table)) 65_534 (omega (arith, count, c.if-len-gt-STOP_LIMIT.false)) in
-    table_rest files.Stops (codes "stop_id" ∷ []) stop_tests has_few_stops table true there c.in_ok-all.ensures.tests small
+    table_rest files.Stops (codes "stop_id" ∷ []) stop_tests has_few_stops table true there c.in_ok-test_rows.ensures.tests small
 
 pub returns-clause-ids : goal.returns-clause-ids
 returns-clause-ids c =
     let table = c.args.sheet.now in
     record {
-      all = c.in_ok-all.ensures.ids;
-      stops = ids_are table row_kinds.Stop (texts_in c.in_ok-stops.stops.keys) c.in_ok-all.ensures.apart c.in_ok-stops.ensures;
-      stations = ids_are table row_kinds.Station (texts_in c.in_ok-stations.stations.keys) c.in_ok-all.ensures.apart c.in_ok-stations.ensures;
+      all = c.in_ok-test_rows.ensures.ids;
+      stops = ids_are table row_kinds.Stop (texts_in c.add_ids_of-2.new.ids.keys) c.in_ok-test_rows.ensures.apart c.in_ok-add_ids_of-2.ensures;
+      stations = ids_are table row_kinds.Station (texts_in c.add_ids_of.new.ids.keys) c.in_ok-test_rows.ensures.apart c.in_ok-add_ids_of.ensures;
     }
 
 pub returns-clause-few : goal.returns-clause-few
@@ -82,5 +82,5 @@ returns-clause-few c = omega (arith, c.len.ensures.len, c.if-len-gt-STOP_LIMIT.f
 pub returns-clause-few_stations : goal.returns-clause-few_stations
 returns-clause-few_stations c =
     let table = c.args.sheet.now in
-    let count = station_count table c.in_ok-stations.stations.keys (ids_are table row_kinds.Station (texts_in c.in_ok-stations.stations.keys) c.in_ok-all.ensures.apart c.in_ok-stations.ensures) in
+    let count = station_count table c.add_ids_of.new.ids.keys (ids_are table row_kinds.Station (texts_in c.add_ids_of.new.ids.keys) c.in_ok-test_rows.ensures.apart c.in_ok-add_ids_of.ensures) in
     omega (arith, count, c.rows.ensures, c.if-rows-gt-ROW_LIMIT.false)

@@ -5,7 +5,7 @@ use Rattle.gtfs_stops.specs.Stops.{means, stop_id, location_type}
 use Rattle.gtfs_rows.proofs.FilledFacts.{turn, turns_end}
 use Rattle.gtfs_rows.proofs.RowFacts.{filtered_in, filtered_out}
 use Rattle.gtfs_rows.proofs.TextFacts.{inserted, distinct-push}
-use Rattle.gtfs_stops.proofs.stops.ids_of.Goals as goal
+use Rattle.gtfs_stops.proofs.stops.add_ids_of.Goals as goal
 
 pub text_under-requires : goal.text_under-requires
 text_under-requires c = (turn (c.into_iter-row-iterator.ensures.into_iter_gives ∙ c.filled_rows-row-items.ensures) _ _ c.loop-row.yielded_by c.in-Some.is c.next.ensures.steps).there
@@ -19,9 +19,9 @@ loop-row-preserved-in_ok-insert c =
     let given = c.loop-row.yielded in
     let row = c.in-Some.row in
     let is = λ (row : ℕ). means c.args.kind (location_type table row) in
-    let kind = ap (means c.args.kind) (sym (c.text_under.ensures ∙ ap (λ (column : Option ℕ). text_under table column row) c.requires.location_type)) ∙ sym c.means.ensures ∙ c.if-means.true in
+    let kind = ap (means c.args.kind) (sym (c.text_under.ensures ∙ ap (λ (column : Option ℕ). text_under table column row) c.requires.columns.location_type)) ∙ sym c.means.ensures ∙ c.if-means.true in
     let all : filter is (given ++ row ∷ []) ≡ filter is given ++ row ∷ [] = filtered_in is given row kind in
-    let id = c.text_under-then-means.ensures ∙ ap (λ (column : Option ℕ). text_under table column row) c.requires.id in
+    let id = c.text_under-then-means.ensures ∙ ap (λ (column : Option ℕ). text_under table column row) c.requires.columns.id in
     rw c.in_ok-insert.ensures.keys (inserted c.loop-row.ids.keys c.text_under-then-means.result
     ∙ ap (λ texts. with_text texts c.text_under-then-means.result.now) c.loop-row.invariant
     ∙ ap (with_text (distinct (map (stop_id table) (filter is given)))) id
@@ -33,7 +33,7 @@ loop-row-preserved c =
     let given = c.loop-row.yielded in
     let row = c.in-Some.row in
     let is = λ (row : ℕ). means c.args.kind (location_type table row) in
-    let kind = ap (means c.args.kind) (sym (c.text_under.ensures ∙ ap (λ (column : Option ℕ). text_under table column row) c.requires.location_type)) ∙ sym c.means.ensures ∙ c.if-means.false in
+    let kind = ap (means c.args.kind) (sym (c.text_under.ensures ∙ ap (λ (column : Option ℕ). text_under table column row) c.requires.columns.location_type)) ∙ sym c.means.ensures ∙ c.if-means.false in
     let all : filter is (given ++ row ∷ []) ≡ filter is given = filtered_out is given row kind in
     c.loop-row.invariant ∙ ap (λ rows. distinct (map (stop_id table) rows)) (sym all)
 

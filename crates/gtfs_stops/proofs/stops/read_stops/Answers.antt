@@ -3,69 +3,46 @@ use Rattle.std.specs.List.{All}
 use Rattle.std.specs.Option.{IfSome}
 use Rattle.std.proofs.lemmas.List.{length-map}
 use Rattle.std.proofs.lemmas.List.Elements.{All-map, All-from_get_or}
-use Rattle.gtfs_rows.specs.declared.values.Stop.{Stop}
-use Rattle.gtfs_rows.specs.declared.values.Station.{Station}
 use Rattle.std.proofs.lemmas.Result.{err_from_is_err_and}
 use Rattle.gtfs_text.specs.Sheets.{Table}
-use Rattle.gtfs_stops.specs.declared.stops.RowKind.TheVariants as row_kinds
+use Rattle.gtfs_rows.specs.declared.values.Stop.{Stop}
+use Rattle.gtfs_rows.specs.declared.values.Station.{Station}
 use Rattle.gtfs_rows.specs.Rows.{texts_in, number_in}
-use Rattle.gtfs_stops.specs.Stops.{stop_id, ids_of_kind, rows_of_kind, stop_among, station_of, parent_station}
 use Rattle.gtfs_rows.proofs.TextFacts.{length-texts_in, number_below}
+use Rattle.gtfs_stops.specs.declared.stops.RowKind.TheVariants as row_kinds
+use Rattle.gtfs_stops.specs.Stops.{stop_id, ids_of_kind, rows_of_kind, stop_among, station_of, stop_values, station_values, parent_station}
 use Rattle.gtfs_stops.proofs.stops.read_stops.Goals as goal
-
-pub returns-in_err-ids-clause-stops : goal.returns-in_err-ids-clause-stops
-returns-in_err-ids-clause-stops c =
-    let p = err_from_is_err_and c.from_residual.result c.from_residual.ensures.1 in
-    rw (p.1, p.2) c.in_err-ids.ensures.tests
-
-pub keep_stops-requires-clause-few : goal.keep_stops-requires-clause-few
-keep_stops-requires-clause-few c = c.in_ok-ids.ensures.few_stations
 
 pub returns-in_err-stops-clause-stops : goal.returns-in_err-stops-clause-stops
 returns-in_err-stops-clause-stops c =
-    let p = err_from_is_err_and c.from_residual-in_err-stops.result c.from_residual-in_err-stops.ensures.1 in
-    rw (p.1, p.2) tt
-
-pub returns-in_err-stations-clause-stops : goal.returns-in_err-stations-clause-stops
-returns-in_err-stations-clause-stops c =
-    let p = err_from_is_err_and c.from_residual-in_err-stations.result c.from_residual-in_err-stations.ensures.1 in
-    rw (p.1, p.2) tt
-
-pub returns-clause-stops : goal.returns-clause-stops
-returns-clause-stops c =
-    (c.in_ok-ids.ensures.tests, c.in_ok-stops.ensures ∙ ap (λ (texts : List (List ℕ)). map (stop_among texts c.args.sheet.now) (rows_of_kind row_kinds.Stop c.args.sheet.now)) c.in_ok-ids.ensures.ids.stations)
-
-pub returns-clause-stations : goal.returns-clause-stations
-returns-clause-stations c = c.in_ok-stations.ensures ∙ ap (map station_of) c.in_ok-ids.ensures.ids.stations
-
-pub returns-clause-ids : goal.returns-clause-ids
-returns-clause-ids c = c.in_ok-ids.ensures.ids
+    let p = err_from_is_err_and c.from_residual.result c.from_residual.ensures.1 in
+    rw (p.1, p.2) c.in_err-stops.ensures.stops
 
 -- as many stops as ids of stops, and as many stations as ids of stations
-as_many_stops : (table : Table) (keys : List (Bor (List ℕ))) (stations : List (List ℕ)) (stops : List Stop) → texts_in keys ≡ ids_of_kind row_kinds.Stop table
-    → stops ≡ map (stop_among stations table) (rows_of_kind row_kinds.Stop table) → length keys ≡ length stops
-as_many_stops table keys stations stops held are =
+as_many_stops : (table : Table) (keys : List (Bor (List ℕ))) (stops : List Stop) → texts_in keys ≡ ids_of_kind row_kinds.Stop table → stops ≡ stop_values table → length keys ≡ length stops
+as_many_stops table keys stops held are =
     sym (length-texts_in keys) ∙ ap length held ∙ length-map (rows_of_kind row_kinds.Stop table) (stop_id table)
-    ∙ sym (ap length are ∙ length-map (rows_of_kind row_kinds.Stop table) (stop_among stations table))
+    ∙ sym (ap length are ∙ length-map (rows_of_kind row_kinds.Stop table) (stop_among (ids_of_kind row_kinds.Station table) table))
 
-as_many_stations : (keys : List (Bor (List ℕ))) (stations : List Station) → stations ≡ map station_of (texts_in keys) → length keys ≡ length stations
-as_many_stations keys stations are = sym (length-texts_in keys) ∙ sym (ap length are ∙ length-map (texts_in keys) station_of)
+as_many_stations : (table : Table) (keys : List (Bor (List ℕ))) (stations : List Station) → texts_in keys ≡ ids_of_kind row_kinds.Station table → stations ≡ station_values table → length keys ≡ length stations
+as_many_stations table keys stations held are =
+    sym (length-texts_in keys) ∙ ap length held ∙ sym (ap length are ∙ length-map (ids_of_kind row_kinds.Station table) station_of)
 
 pub returns-clause-stop_ids : goal.returns-clause-stop_ids
-returns-clause-stop_ids c =
-    as_many_stops c.args.sheet.now c.in_ok-ids.ids.stops.keys (texts_in c.in_ok-ids.ids.stations.keys) c.in_ok-stops.stops.items c.in_ok-ids.ensures.ids.stops c.in_ok-stops.ensures
+returns-clause-stop_ids c = as_many_stops c.args.sheet.now c.read_rows.new.ids.stops.keys c.in_ok-stops.stops.items c.in_ok-stops.ensures.ids.stops c.in_ok-stops.ensures.stops.1
 
 pub returns-clause-few : goal.returns-clause-few
 returns-clause-few c =
-    rw (← as_many_stops c.args.sheet.now c.in_ok-ids.ids.stops.keys (texts_in c.in_ok-ids.ids.stations.keys) c.in_ok-stops.stops.items c.in_ok-ids.ensures.ids.stops c.in_ok-stops.ensures)
-    c.in_ok-ids.ensures.few
+    rw (← as_many_stops c.args.sheet.now c.read_rows.new.ids.stops.keys c.in_ok-stops.stops.items c.in_ok-stops.ensures.ids.stops c.in_ok-stops.ensures.stops.1) c.in_ok-stops.ensures.few
 
 pub returns-clause-station_ids : goal.returns-clause-station_ids
-returns-clause-station_ids c = as_many_stations c.in_ok-ids.ids.stations.keys c.in_ok-stations.stations.items c.in_ok-stations.ensures
+returns-clause-station_ids c =
+    as_many_stations c.args.sheet.now c.read_rows.new.ids.stations.keys c.in_ok-stops.stations.items c.in_ok-stops.ensures.ids.stations c.in_ok-stops.ensures.stations
 
 pub returns-clause-few_stations : goal.returns-clause-few_stations
 returns-clause-few_stations c =
-    rw (← as_many_stations c.in_ok-ids.ids.stations.keys c.in_ok-stations.stations.items c.in_ok-stations.ensures) c.in_ok-ids.ensures.few_stations
+    rw (← as_many_stations c.args.sheet.now c.read_rows.new.ids.stations.keys c.in_ok-stops.stations.items c.in_ok-stops.ensures.ids.stations c.in_ok-stops.ensures.stations)
+    c.in_ok-stops.ensures.few_stations
 
 -- each station's number is below how many there are
 linked : (texts : List (List ℕ)) (table : Table) (rows : List ℕ) (n : ℕ) → n ≡ length texts → All (λ stop. IfSome stop.station (λ m. m < n)) (map (stop_among texts table) rows)
@@ -75,6 +52,6 @@ linked texts table rows n e =
 
 pub returns-clause-linked : goal.returns-clause-linked
 returns-clause-linked c =
-    let texts = texts_in c.in_ok-ids.ids.stations.keys in
-    let count : length c.in_ok-stations.stations.items ≡ length texts = ap length c.in_ok-stations.ensures ∙ length-map texts station_of in
-    rw c.in_ok-stops.ensures (linked texts c.args.sheet.now (rows_of_kind row_kinds.Stop c.args.sheet.now) (length c.in_ok-stations.stations.items) count)
+    let texts = ids_of_kind row_kinds.Station c.args.sheet.now in
+    let count : length c.in_ok-stops.stations.items ≡ length texts = ap length c.in_ok-stops.ensures.stations ∙ length-map texts station_of in
+    rw c.in_ok-stops.ensures.stops.1 (linked texts c.args.sheet.now (rows_of_kind row_kinds.Stop c.args.sheet.now) (length c.in_ok-stops.stations.items) count)
