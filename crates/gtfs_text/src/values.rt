@@ -3,7 +3,7 @@
 ghost use Rattle.std.specs.Prelude.{◌≡◌, ◌<◌, ◌≤◌, ◌^◌, ◌&&◌, true, None, Some, length, drop, nat_le, if◌then◌else◌, option_map};
 ghost use Rattle.std.specs.List.{list_all};
 ghost use Rattle.std.specs.Char.{is_ascii_digit};
-ghost use Rattle.gtfs_text.specs.Values.{date_of, day_of, ymd, decimal, is_digits, whole_of, time_of, is_sixtieth};
+ghost use Rattle.gtfs_text.specs.Values.{date_of, day_of, ymd, decimal, is_digits, whole_of, time_of, is_time, is_sixtieth, seconds_of};
 
 use jiff::civil::Date;
 
@@ -72,18 +72,26 @@ fn sixtieth(text: &[u8]) -> Option<u32>
     if number <= 59 { Some(number) } else { None }
 }
 
+// The seconds of the hours, minutes and seconds that these texts spell.
+fn seconds_of(hours_text: &[u8], minutes_text: &[u8], seconds_text: &[u8]) -> Option<u32>
+    ensures { result ≡ (if is_time hours_text.now minutes_text.now seconds_text.now
+        then Some (seconds_of hours_text.now minutes_text.now seconds_text.now) else None) }
+{
+    let hours = hours(hours_text)?;
+    let minutes = sixtieth(minutes_text)?;
+    let seconds = sixtieth(seconds_text)?;
+    Some(3600 * hours + 60 * minutes + seconds)
+}
+
 /// The seconds that a "Time" counts from noon minus 12 hours of its service day; None where the text is no time.
 /// A time is one to three digits of hours, at most 167, then `:MM:SS`.
 pub fn time(text: &str) -> Option<u32>
     ensures { result ≡ time_of text.now }
 {
     let bytes = text.as_bytes();
-    let (hours_text, rest) = bytes.split_at(bytes.len().saturating_sub(6));
-    let (minutes_text, seconds_text) = rest.split_at(rest.len().min(3));
-    let hours = hours(hours_text)?;
-    let minutes = sixtieth(minutes_text)?;
-    let seconds = sixtieth(seconds_text)?;
-    Some(3600 * hours + 60 * minutes + seconds)
+    let (hours, rest) = bytes.split_at(bytes.len().saturating_sub(6));
+    let (minutes, seconds) = rest.split_at(rest.len().min(3));
+    seconds_of(hours, minutes, seconds)
 }
 
 // The day of the calendar whose year, month and day these digits spell.
