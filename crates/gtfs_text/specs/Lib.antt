@@ -1,5 +1,6 @@
-pub mod Sheets
 pub mod Faults
-pub mod Packed
-pub mod Values
 pub mod Laws
+pub mod Packed
+pub mod Reading
+pub mod Sheets
+pub mod Values

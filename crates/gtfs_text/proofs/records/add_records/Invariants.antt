@@ -5,9 +5,10 @@ use Rattle.csv.specs.Records.{fields_of, partial_of}
 use Rattle.csv.specs.declared.parser.State.TheVariants as st
 use Rattle.csv.specs.declared.reader.Trim.TheVariants as trim
 use Rattle.gtfs_text.specs.Packed.{unpacked}
-use Rattle.gtfs_text.specs.Sheets.{without_marks, table_of, is_text}
+use Rattle.gtfs_text.specs.Reading.{text_left}
+use Rattle.gtfs_text.specs.Sheets.{table_of, is_text}
 use Rattle.gtfs_text.specs.declared.commas.UpToCommas.{UpToCommas}
-use Rattle.gtfs_text.proofs.records.packed_records.Given as goal
+use Rattle.gtfs_text.proofs.records.add_records.Given as goal
 
 abbrev pub invariant-records : goal.invariant-records
 invariant-records l = record {
@@ -18,10 +19,10 @@ invariant-records l = record {
   partial : partial_of l.records ≡ [];
   packed_text : list_all is_text (map unpacked (fields_of l.records)) ≡ true;
   reached : (y : List ℕ) × (rows : List (List (List ℕ))) × (source_of (λ (r : UpToCommas). Some r.bytes.now) l.reader ≡ Some y)
-      × Reached default_config st.StartRecord (without_marks l.bytes) rows l.reader.state y
+      × Reached default_config st.StartRecord (text_left l.fn.reader) rows l.reader.state y
       × (map unpacked (fields_of l.records) ≡ table_of rows)
       × (list_all is_text rows ≡ true);
 }
 
 abbrev pub decreases-records : goal.decreases-records
-decreases-records l = length (without_marks l.bytes) - length (fields_of l.records)
+decreases-records l = length (text_left l.fn.reader) - length (fields_of l.records)
