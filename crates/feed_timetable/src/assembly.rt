@@ -1,25 +1,27 @@
 //! The timetable of a feed's tables.
 
-ghost use Rattle.std.specs.Prelude.{◌≡◌, ℕ, ◌≤◌, IfOk, IfErr};
+ghost use Rattle.std.specs.Prelude.{◌≡◌, ℕ, ◌≤◌, IfOk, IfErr, length};
+ghost use Rattle.std.specs.List.{All};
+ghost use Rattle.timetable.specs.Table.{IsRun};
 ghost use Rattle.gtfs_tables.specs.Tables.{AreTables};
 ghost use Rattle.feed_timetable.specs.Answers.{IsTimetable, IsFault};
 ghost use Rattle.feed_timetable.specs.Index.{IsIndex};
 ghost use Rattle.feed_timetable.specs.Limits.{IsFewInstances, AreFewWays, IsWaysFault};
 ghost use Rattle.feed_timetable.specs.Departures.{AreRepeats};
-ghost use Rattle.feed_timetable.specs.Running.{AreRunning};
+ghost use Rattle.feed_timetable.specs.Running.{AreRunning, listed_all};
 ghost use Rattle.gtfs_rows.specs.declared.fault.FaultKind.TheVariants.{TooMany};
 
 use crate::before::list_before;
 use crate::before_counts::count_before;
 use crate::departures::repeats_of;
-use crate::instances::{count_instances, list_instances};
+use crate::instances::{Room, count_instances, list_instances};
 use crate::transfers::TransferIndex;
 use crate::walks::{Ways, count_walks, list_walks};
 use feed_ids::Groups;
 use gtfs_tables::{FaultKind, FeedFault, FeedFile, Frequency, Tables};
 use service_days::{Cover, Days};
-use std::alloc::Global;
-use timetable::Timetable;
+use std::alloc::{AllocError, Global};
+use timetable::{Instance, Timetable};
 
 /// How many calls its instances have at most.
 pub const MOST_CALLS: usize = 20_000_000;
@@ -96,6 +98,51 @@ fn few_ways(alloc: Global, tables: &Tables, default_walk: u32) -> Result<Ways, F
     few_ways_by(alloc, tables, &index, default_walk)
 }
 
+// The instances of all days. How many there are is known, as `count`.
+fn list_all(
+    alloc: Global,
+    tables: &Tables,
+    cover: &Cover,
+    running: &[Days],
+    repeats: &Groups<Frequency>,
+    count: usize,
+) -> Result<Vec<Instance>, AllocError>
+    requires running { AreRunning tables.now cover.now running.now }
+    requires repeats { AreRepeats tables.now repeats.now }
+    ensures listed { IfOk result (λ instances. instances.items ≡ listed_all tables.now cover.now running.now) }
+    ensures runs { IfOk result (λ instances. All (IsRun (length tables.now.stops)) instances.items) }
+{
+    let mut room = Room {
+        times: Vec::new(alloc),
+        departures: Vec::new(alloc),
+    };
+    let before = list_before(alloc, tables, cover, running, repeats, count, &mut room)?;
+    list_instances(alloc, tables, cover, running, repeats, before, &mut room)
+}
+
+// The timetable, by the days on which each service runs and the rows that repeat each trip.
+fn assemble_by(
+    alloc: Global,
+    tables: &Tables,
+    cover: &Cover,
+    running: &[Days],
+    repeats: &Groups<Frequency>,
+    default_walk: u32,
+) -> Result<Timetable, FeedFault>
+    requires valid { AreTables tables.now }
+    requires running { AreRunning tables.now cover.now running.now }
+    requires repeats { AreRepeats tables.now repeats.now }
+    requires short { default_walk ≤ 86_400 }
+    ensures ok { IfOk result (IsTimetable tables.now cover.now default_walk) }
+    ensures fault { IfErr result (IsFault tables.now cover.now default_walk) }
+{
+    let count = few_instances(alloc, tables, cover, running, repeats)?;
+    let ways = few_ways(alloc, tables, default_walk)?;
+    let instances = list_all(alloc, tables, cover, running, repeats, count)?;
+    let horizon = cover.day_start(cover.days() - 1) + LONGEST_TIME;
+    Ok(Timetable::new(horizon, ways.changes, ways.walks, instances))
+}
+
 /// The timetable of the tables over the covered days. A transfer without a written time takes `default_walk` seconds.
 ///
 /// It fails with `TooMany`, row 0, if there are too many instances (of trips.txt), calls (of stop_times.txt) or walks (of transfers.txt),
@@ -112,10 +159,5 @@ pub fn assemble(
 {
     let running = cover.running_days(alloc, tables)?;
     let repeats = repeats_of(alloc, tables)?;
-    let count = few_instances(alloc, tables, cover, &running, &repeats)?;
-    let ways = few_ways(alloc, tables, default_walk)?;
-    let before = list_before(alloc, tables, cover, &running, &repeats, count)?;
-    let instances = list_instances(alloc, tables, cover, &running, &repeats, before)?;
-    let horizon = cover.day_start(cover.days() - 1) + LONGEST_TIME;
-    Ok(Timetable::new(horizon, ways.changes, ways.walks, instances))
+    assemble_by(alloc, tables, cover, &running, &repeats, default_walk)
 }

@@ -161,6 +161,7 @@ pub fn list_before(
     running: &[Days],
     repeats: &Groups<Frequency>,
     count: usize,
+    room: &mut Room,
 ) -> Result<Vec<Instance>, AllocError>
     requires running { AreRunning tables.now cover.now running.now }
     requires repeats { AreRepeats tables.now repeats.now }
@@ -169,14 +170,10 @@ pub fn list_before(
     ensures runs { IfOk result (λ instances. All (IsRun (length tables.now.stops)) instances.items) }
 {
     let mut instances = Vec::with_capacity(alloc, count)?;
-    let mut room = Room {
-        times: Vec::new(alloc),
-        departures: Vec::new(alloc),
-    };
     for trip in 0..tables.trips().len() {
         if is_due(tables, running, 0, trip) {
             let rows = repeats.of(trip);
-            list_trip(alloc, tables, cover, rows, trip, &mut room, &mut instances)?;
+            list_trip(alloc, tables, cover, rows, trip, room, &mut instances)?;
         }
     }
     Ok(instances)

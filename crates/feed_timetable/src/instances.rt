@@ -179,6 +179,7 @@ pub fn list_instances(
     running: &[Days],
     repeats: &Groups<Frequency>,
     before: Vec<Instance>,
+    room: &mut Room,
 ) -> Result<Vec<Instance>, AllocError>
     requires running { AreRunning tables.now cover.now running.now }
     requires repeats { AreRepeats tables.now repeats.now }
@@ -188,17 +189,13 @@ pub fn list_instances(
     ensures runs { IfOk result (λ instances. All (IsRun (length tables.now.stops)) instances.items) }
 {
     let mut instances = before;
-    let mut room = Room {
-        times: Vec::new(alloc),
-        departures: Vec::new(alloc),
-    };
     for number in 0..cover.days() {
         let start = cover.day_start(number);
         let day = Day { number, start };
         for trip in 0..tables.trips().len() {
             if is_due(tables, running, number + 1, trip) {
                 let rows = repeats.of(trip);
-                list_trip(alloc, tables, rows, trip, day, &mut room, &mut instances)?;
+                list_trip(alloc, tables, rows, trip, day, room, &mut instances)?;
             }
         }
     }
