@@ -7,6 +7,7 @@ ghost use Rattle.pattern_tree.specs.Forest.{Step};
 ghost use Rattle.pattern_query.specs.Patterns.{IsFirstOther, paths_of};
 
 use crate::packing::{Beginning, Pattern, pack_level, rides_of};
+use crate::sorting::sorted;
 use pattern_tree::PatternTree;
 use std::alloc::{AllocError, Allocator, Global};
 use std::marker::Model;
@@ -101,13 +102,12 @@ impl<A: Allocator + Clone> Patterns<A> {
         ensures pairs { IfOk result (λ patterns. IsPermutation tree.now.pairs patterns.pairs) }
     {
         let mut beginnings = Vec::with_capacity(alloc.clone()?, tree.nodes() as usize)?;
-        let mut by_end = Vec::with_capacity(alloc, tree.ends() as usize)?;
-        pack_level(tree.first(), 0, &mut beginnings, &mut by_end)?;
-        by_end.sort_unstable_by_key(|pattern| pattern.end);
+        let mut patterns = Vec::with_capacity(alloc, tree.ends() as usize)?;
+        pack_level(tree.first(), 0, &mut beginnings, &mut patterns)?;
         Ok(Patterns {
             source: tree.source(),
             beginnings,
-            by_end,
+            by_end: sorted(patterns)?,
         })
     }
 }
