@@ -14,7 +14,11 @@ pub(crate) fn depth_of<A: Allocator>(level: &[Node<A>]) -> usize
 {
     let mut deepest = 0;
     for node in level {
-        deepest = deepest.max(depth_of(&node.next) + 1);
+        let mut below = 0;
+        if !node.next.is_empty() {
+            below = depth_of(&node.next);
+        }
+        deepest = deepest.max(below + 1);
     }
     deepest
 }
