@@ -97,7 +97,7 @@ pub(crate) fn first_stop(
     ensures within { IfOk result (λ found. IfSome found (λ to. to < stops_of network.now)) }
 {
     for number in 0..network.timetable().stops() {
-        let stop = StopId::new(number as u16);
+        let stop = StopId::new(number as u32);
         if is_marked(marks, number)
             && !agree(alloc, network, patterns, rides, view, depart, stop)?
         {

@@ -40,7 +40,7 @@ impl Model for Names {
 
     ghost view = { λ a. record { stops = a.stops; stations = a.stations; trips = map string_bytes a.trips.items; children = a.children } };
 
-    ghost invariant = { λ a. (length a.stops ≤ 65_534) × AreBelow (length a.stops) a.children };
+    ghost invariant = { λ a. (length a.stops ≤ 1_000_000) × AreBelow (length a.stops) a.children };
 }
 
 impl Names {
@@ -54,7 +54,7 @@ impl Names {
         trips: Vec<String>,
         children: Groups<StopId>,
     ) -> Result<Names, AllocError>
-        requires few { length stops.items ≤ 65_534 }
+        requires few { length stops.items ≤ 1_000_000 }
         requires known { AreBelow (length stops.items) children }
         ensures stops { IfOk result (λ names. names.stops ≡ map string_bytes stops.items) }
         ensures stations { IfOk result (λ names. names.stations ≡ map string_bytes stations.items) }
@@ -93,7 +93,7 @@ impl Names {
         ensures known { IfSome result (λ stop. stop < length self.now.stops) }
     {
         match self.stops.number(id) {
-            Some(number) => Some(StopId::new(number as u16)),
+            Some(number) => Some(StopId::new(number as u32)),
             None => None,
         }
     }

@@ -57,7 +57,7 @@ pub struct StopTime {
     /// The number of the trip.
     pub trip: u32,
     /// The number of the stop.
-    pub stop: u16,
+    pub stop: u32,
     /// Where the call stands among those of its trip: they rise, and may leave numbers out.
     pub sequence: u32,
     pub arrival: Option<u32>,
@@ -72,7 +72,7 @@ pub struct StopTime {
 #[derive(Clone, Copy, Debug, PartialEq, Eq)]
 pub enum Place {
     /// The stop of this number.
-    Stop(u16),
+    Stop(u32),
     /// The station of this number.
     Station(u32),
 }

@@ -72,9 +72,9 @@ station_of id = record { id = id }
 abbrev pub station_values : Table → List Station
 station_values table = map station_of (ids_of_kind row_kinds.Station table)
 
--- at most 65,534 stops
+-- at most 1,000,000 stops
 abbrev pub has_few_stops : Table → Bool
-has_few_stops table = nat_le (length (ids_of_kind row_kinds.Stop table)) 65_534
+has_few_stops table = nat_le (length (ids_of_kind row_kinds.Stop table)) 1_000_000
 
 abbrev pub stops_tests : Table → List Test
 stops_tests table = table_tests files.Stops (codes "stop_id" ∷ []) stop_tests has_few_stops table

@@ -18,7 +18,7 @@ use std::alloc::{AllocError, Global};
 use std::hash::RandomState;
 
 /// The most stops that a feed may have.
-const STOP_LIMIT: usize = 65_534;
+const STOP_LIMIT: usize = 1_000_000;
 
 /// The rows of stops.txt that are kept, and what its ids name.
 #[derive(Drop)]
@@ -210,7 +210,7 @@ fn add_ids<'a>(
     requires stations { ids.old.stations.keys ≡ [] }
     ensures tests { Passes result (stops_tests sheet.now) }
     ensures ids { OnOk result (AreStopIds sheet.now ids.new) }
-    ensures few { OnOk result (length ids.new.stops.keys ≤ 65_534) }
+    ensures few { OnOk result (length ids.new.stops.keys ≤ 1_000_000) }
     ensures few_stations { OnOk result (length ids.new.stations.keys ≤ 999_999_999) }
 {
     if columns.id.is_none() {
@@ -242,7 +242,7 @@ fn read_rows<'a>(
     ensures stops { Answers (λ rows. rows.0.items) result (stops_tests sheet.now) (stop_values sheet.now) }
     ensures stations { IfOk result (λ rows. rows.1.items ≡ station_values sheet.now) }
     ensures ids { OnOk result (AreStopIds sheet.now ids.new) }
-    ensures few { OnOk result (length ids.new.stops.keys ≤ 65_534) }
+    ensures few { OnOk result (length ids.new.stops.keys ≤ 1_000_000) }
     ensures few_stations { OnOk result (length ids.new.stations.keys ≤ 999_999_999) }
 {
     add_ids(sheet, columns, ids)?;
@@ -259,7 +259,7 @@ pub fn read_stops(
     ensures stops { Answers (λ rows. rows.stops.items) result (stops_tests sheet.now) (stop_values sheet.now) }
     ensures stations { IfOk result (λ rows. rows.stations.items ≡ station_values sheet.now) }
     ensures ids { IfOk result (λ rows. AreStopIds sheet.now rows.ids) }
-    ensures few { IfOk result (λ rows. length rows.stops.items ≤ 65_534) }
+    ensures few { IfOk result (λ rows. length rows.stops.items ≤ 1_000_000) }
     ensures stop_ids { IfOk result (λ rows. length rows.ids.stops.keys ≡ length rows.stops.items) }
     ensures station_ids { IfOk result (λ rows. length rows.ids.stations.keys ≡ length rows.stations.items) }
     ensures few_stations { IfOk result (λ rows. length rows.stations.items ≤ 999_999_999) }

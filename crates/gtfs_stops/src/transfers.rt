@@ -104,13 +104,13 @@ fn type_between_places(sheet: &Sheet, columns: TransferColumns, row: usize) -> O
 
 // The stop or the station of an id.
 fn place_of(ids: &StopIds<'_>, id: &str) -> Option<Place>
-    requires stops { length ids.now.stops.keys ≤ 65_534 }
+    requires stops { length ids.now.stops.keys ≤ 1_000_000 }
     requires stations { length ids.now.stations.keys ≤ 999_999_999 }
     ensures value { result ≡ place_of (lists_in ids.now) id.now }
     ensures known { IfSome result (IsPlace (length ids.now.stops.keys) (length ids.now.stations.keys)) }
 {
     if let Some(number) = ids.stops.get_index_of(id) {
-        return Some(Place::Stop(number as u16));
+        return Some(Place::Stop(number as u32));
     }
     match ids.stations.get_index_of(id) {
         Some(number) => Some(Place::Station(number as u32)),
@@ -143,7 +143,7 @@ fn is_short_or_empty(text: &str) -> bool
 
 // Whether both ids name a stop or a station.
 fn joins_places(ids: &StopIds<'_>, from: &str, to: &str) -> bool
-    requires stops { length ids.now.stops.keys ≤ 65_534 }
+    requires stops { length ids.now.stops.keys ≤ 1_000_000 }
     requires stations { length ids.now.stations.keys ≤ 999_999_999 }
     ensures { result ≡ (is_some (place_of (lists_in ids.now) from.now) && is_some (place_of (lists_in ids.now) to.now)) }
 {
@@ -180,7 +180,7 @@ fn place_fault(
 ) -> Option<FaultKind>
     requires row { row < length sheet.now }
     requires columns { AreTransferColumns sheet.now columns }
-    requires stops { length ids.now.stops.keys ≤ 65_534 }
+    requires stops { length ids.now.stops.keys ≤ 1_000_000 }
     requires stations { length ids.now.stations.keys ≤ 999_999_999 }
     ensures { option_map (λ kind. fault_at kind files.Transfers row) result ≡ first_fault (place_tests (lists_in ids.now) sheet.now row) }
 {
@@ -200,7 +200,7 @@ fn row_fault(
 ) -> Option<FaultKind>
     requires row { row < length sheet.now }
     requires columns { AreTransferColumns sheet.now columns }
-    requires stops { length ids.now.stops.keys ≤ 65_534 }
+    requires stops { length ids.now.stops.keys ≤ 1_000_000 }
     requires stations { length ids.now.stations.keys ≤ 999_999_999 }
     ensures { option_map (λ kind. fault_at kind files.Transfers row) result
         ≡ first_fault (transfer_tests (lists_in ids.now) sheet.now row) }
@@ -247,7 +247,7 @@ fn kept_row(
 ) -> Option<Transfer>
     requires row { row < length sheet.now }
     requires columns { AreTransferColumns sheet.now columns }
-    requires stops { length ids.now.stops.keys ≤ 65_534 }
+    requires stops { length ids.now.stops.keys ≤ 1_000_000 }
     requires stations { length ids.now.stations.keys ≤ 999_999_999 }
     ensures value { result ≡ kept_transfer (lists_in ids.now) sheet.now row }
     ensures valid { IfSome result (IsTransfer (length ids.now.stops.keys) (length ids.now.stations.keys)) }
@@ -269,7 +269,7 @@ fn read_rows(
     ids: &StopIds<'_>,
 ) -> Result<TransferRows, FeedFault>
     requires columns { AreTransferColumns sheet.now columns }
-    requires stops { length ids.now.stops.keys ≤ 65_534 }
+    requires stops { length ids.now.stops.keys ≤ 1_000_000 }
     requires stations { length ids.now.stations.keys ≤ 999_999_999 }
     ensures transfers { Answers (λ rows. rows.transfers.items) result
         (flat_map (transfer_tests (lists_in ids.now) sheet.now) (rows_of sheet.now)) (transfer_values (lists_in ids.now) sheet.now) }
@@ -296,7 +296,7 @@ pub fn read_transfers(
     sheet: &Sheet,
     ids: &StopIds<'_>,
 ) -> Result<TransferRows, FeedFault>
-    requires stops { length ids.now.stops.keys ≤ 65_534 }
+    requires stops { length ids.now.stops.keys ≤ 1_000_000 }
     requires stations { length ids.now.stations.keys ≤ 999_999_999 }
     ensures transfers { Answers (λ rows. rows.transfers.items) result (transfers_tests (lists_in ids.now) sheet.now)
         (transfer_values (lists_in ids.now) sheet.now) }

@@ -49,7 +49,7 @@ fn read_optional_transfers<R: Read + Drop>(
     reader: Option<R>,
     ids: &StopIds<'_>,
 ) -> Result<TransferRows, FeedFault>
-    requires stops { length ids.now.stops.keys ≤ 65_534 }
+    requires stops { length ids.now.stops.keys ≤ 1_000_000 }
     requires stations { length ids.now.stations.keys ≤ 999_999_999 }
     ensures transfers { (bytes : Option (List ℕ)) → IsContent R.remaining reader bytes
         → Answers (λ rows. rows.transfers.items) result (optional_tests files.Transfers (transfers_tests (lists_in ids.now)) bytes)
@@ -120,7 +120,7 @@ fn read_times<R: Read + Drop>(
     stops: &Texts<'_>,
     trips: &Texts<'_>,
 ) -> Result<Times, FeedFault>
-    requires stops { length stops.now.keys ≤ 65_534 }
+    requires stops { length stops.now.keys ≤ 1_000_000 }
     requires trips { length trips.now.keys ≤ 999_999_999 }
     ensures times { (bytes : TimeBytes) → IsContent R.remaining calendar bytes.calendar
         → IsContent R.remaining calendar_dates bytes.calendar_dates → IsContent R.remaining stop_times bytes.stop_times
@@ -149,7 +149,7 @@ fn read_links<R: Read + Drop>(
     ids: &StopIds<'_>,
     trips: &Texts<'_>,
 ) -> Result<Links, FeedFault>
-    requires stops { length ids.now.stops.keys ≤ 65_534 }
+    requires stops { length ids.now.stops.keys ≤ 1_000_000 }
     requires stations { length ids.now.stations.keys ≤ 999_999_999 }
     requires trips { length trips.now.keys ≤ 999_999_999 }
     ensures links { (bytes : LinkBytes) → IsContent R.remaining transfers bytes.transfers
@@ -191,7 +191,7 @@ fn read_connections<R: Read + Drop>(
     ids: &StopIds<'_>,
     trips: &Texts<'_>,
 ) -> Result<Connections, FeedFault>
-    requires stops { length ids.now.stops.keys ≤ 65_534 }
+    requires stops { length ids.now.stops.keys ≤ 1_000_000 }
     requires stations { length ids.now.stations.keys ≤ 999_999_999 }
     requires trips { length trips.now.keys ≤ 999_999_999 }
     ensures connections { (bytes : ConnectionBytes) → AreConnectionReaders R.remaining files bytes
@@ -241,7 +241,7 @@ fn read_schedule<R: Read + Drop>(
     files: ScheduleFiles<R>,
     ids: &StopIds<'_>,
 ) -> Result<Schedule, FeedFault>
-    requires stops { length ids.now.stops.keys ≤ 65_534 }
+    requires stops { length ids.now.stops.keys ≤ 1_000_000 }
     requires stations { length ids.now.stations.keys ≤ 999_999_999 }
     ensures schedule { (bytes : ScheduleBytes) → AreScheduleReaders R.remaining files bytes
         → Answers schedule_in result (schedule_tests (lists_in ids.now) bytes) (schedule_values (lists_in ids.now) bytes) }
@@ -264,7 +264,7 @@ fn schedule_of<R: Read + Drop>(
     files: ScheduleFiles<R>,
     ids: StopIds<'_>,
 ) -> Result<Schedule, FeedFault>
-    requires stops { length ids.stops.keys ≤ 65_534 }
+    requires stops { length ids.stops.keys ≤ 1_000_000 }
     requires stations { length ids.stations.keys ≤ 999_999_999 }
     ensures schedule { (bytes : ScheduleBytes) → AreScheduleReaders R.remaining files bytes
         → Answers schedule_in result (schedule_tests (lists_in ids.entry) bytes) (schedule_values (lists_in ids.entry) bytes) }

@@ -11,8 +11,10 @@ mod parts;
 mod rides;
 mod sameness;
 mod table;
+mod width;
 
 pub use direct::plain_direct;
 pub use parts::{Call, LATEST_MOMENT, Leg, MOST_INSTANCES, MOST_STOPS, Numbers, StopId, Walk};
 pub use rides::Rides;
 pub use table::{Instance, Timetable, Walks};
+pub use width::Width;

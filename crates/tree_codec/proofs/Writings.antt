@@ -10,10 +10,10 @@ use Rattle.pattern_tree.specs.Content.{Content}
 use Rattle.pattern_tree.specs.declared.node.Node.{Node}
 use Rattle.pattern_tree.specs.declared.node.Node.TheViews.{out-Node}
 use Rattle.pattern_tree.proofs.NodeFacts.{branch_out, branch_at, branches_more, next_out}
-use Rattle.tree_codec.specs.declared.width.Width.{Width}
-use Rattle.tree_codec.specs.declared.width.Width.TheVariants.{Two, Four}
+use Rattle.timetable.specs.declared.width.Width.{Width}
+use Rattle.timetable.specs.declared.width.Width.TheVariants.{Two, Four}
 use Rattle.tree_codec.specs.Text.{numbers_text, siblings, nodes_text, tree_text, AreBelow, StopsBelow, IsLawful, AppendsText}
-use Rattle.tree_codec.specs.Widths.{byte_count}
+use Rattle.timetable.specs.Widths.{byte_count}
 use Rattle.tree_codec.specs.Writing.{head_text, HeadBelow}
 
 -- ---- numbers

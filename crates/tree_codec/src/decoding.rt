@@ -6,15 +6,15 @@ ghost use Rattle.pattern_tree.specs.Forest.{forest, none};
 ghost use Rattle.pattern_tree.specs.Branch.{branch, branches};
 ghost use Rattle.pattern_tree.specs.Content.{Content};
 ghost use Rattle.tree_codec.specs.Text.{TreeText, BeginsNoText};
-ghost use Rattle.tree_codec.specs.Widths.{byte_count};
+ghost use Rattle.timetable.specs.Widths.{byte_count, most_stops};
 ghost use Rattle.tree_codec.specs.Reading.{Fails, Gives, remaining, end_follows, step_follows, lacks_items, ends_at, node_at, children_at, level_at, tree_at};
 
 use crate::fault::CodecFault;
 use crate::input::Input;
-use crate::width::{StopForm, Width};
+use crate::width::StopForm;
 use pattern_tree::{MOST_ENDS, MOST_NODES, Node, PatternTree};
 use std::alloc::{AllocError, Allocator};
-use timetable::{MOST_STOPS, StopId};
+use timetable::{StopId, Width};
 
 /// How many levels of nodes a tree has at most.
 const MOST_LEVELS: u8 = 8;
@@ -214,10 +214,41 @@ fn tree<A: Allocator + Clone>(
     Ok((PatternTree::from_nodes(source, nodes, ends, first), used))
 }
 
-/// The tree whose text the bytes begin with, and how many bytes the text takes. Each stop's number is below `n_stops`;
-/// no tree has a stop from 65,534 on. What follows the text isn't looked at. A fault other than want of memory comes only
-/// where the bytes begin with no text, and is the first that is met from left to right.
+/// The tree whose text the bytes begin with, its stops in this width, and how many bytes the text takes. Each stop's number is below
+/// `n_stops`, and below the number of stops that the width can tell. What follows the text isn't looked at. A fault other than want of
+/// memory comes only if the bytes begin with no text, and is the first that is met from left to right.
+pub fn decode_as<A: Allocator + Clone>(
+    alloc: A,
+    bytes: &[u8],
+    width: Width,
+    n_stops: usize,
+) -> Result<(PatternTree<A>, usize), CodecFault>
+    ensures read { MatchResult result
+        (λ read. (read.1 ≤ length bytes.now) × TreeText (byte_count width) (min n_stops (most_stops width)) (take read.1 bytes.now) read.0)
+        (λ fault. fault ≢ CodecFault.Memory → BeginsNoText (byte_count width) (min n_stops (most_stops width)) bytes.now) }
+    ensures fault { IfErr result (λ fault. Fails fault (tree_at (byte_count width) (min n_stops (most_stops width)) bytes.now)) }
+{
+    let stops = n_stops.min(width.most_stops() as usize) as u32;
+    let form = StopForm { width, stops };
+    tree(alloc, bytes, form)
+}
+
+/// The same of a text in which the number of a stop takes four bytes.
 pub fn decode<A: Allocator + Clone>(
+    alloc: A,
+    bytes: &[u8],
+    n_stops: usize,
+) -> Result<(PatternTree<A>, usize), CodecFault>
+    ensures read { MatchResult result
+        (λ read. (read.1 ≤ length bytes.now) × TreeText 4 (min n_stops 1000000) (take read.1 bytes.now) read.0)
+        (λ fault. fault ≢ CodecFault.Memory → BeginsNoText 4 (min n_stops 1000000) bytes.now) }
+    ensures fault { IfErr result (λ fault. Fails fault (tree_at 4 (min n_stops 1000000) bytes.now)) }
+{
+    decode_as(alloc, bytes, Width::Four, n_stops)
+}
+
+/// The same of a text in which it takes two bytes, as in the first version of a store.
+pub fn decode_v1<A: Allocator + Clone>(
     alloc: A,
     bytes: &[u8],
     n_stops: usize,
@@ -227,10 +258,5 @@ pub fn decode<A: Allocator + Clone>(
         (λ fault. fault ≢ CodecFault.Memory → BeginsNoText 2 (min n_stops 65534) bytes.now) }
     ensures fault { IfErr result (λ fault. Fails fault (tree_at 2 (min n_stops 65534) bytes.now)) }
 {
-    let stops = n_stops.min(MOST_STOPS as usize) as u16;
-    let form = StopForm {
-        width: Width::Two,
-        stops,
-    };
-    tree(alloc, bytes, form)
+    decode_as(alloc, bytes, Width::Two, n_stops)
 }

@@ -6,13 +6,12 @@ ghost use Rattle.timetable.specs.Writing.{Grown};
 ghost use Rattle.pattern_tree.specs.Forest.{forest};
 ghost use Rattle.pattern_tree.specs.Branch.{branch, branches};
 ghost use Rattle.tree_codec.specs.Text.{numbers_text, nodes_text, StopsBelow, AreBelow, AppendsText};
-ghost use Rattle.tree_codec.specs.Widths.{byte_count};
+ghost use Rattle.timetable.specs.Widths.{byte_count};
 ghost use Rattle.tree_codec.specs.Writing.{head_text, HeadBelow};
 
-use crate::width::Width;
 use pattern_tree::{Node, PatternTree};
 use std::alloc::{AllocError, Allocator};
-use timetable::StopId;
+use timetable::{StopId, Width};
 
 /// Writes a number, by its lowest bytes.
 fn put_number(out: &mut Vec<u8>, width: Width, number: usize) -> Result<(), AllocError>
@@ -27,7 +26,7 @@ fn put_number(out: &mut Vec<u8>, width: Width, number: usize) -> Result<(), Allo
 fn put_stop(out: &mut Vec<u8>, width: Width, stop: StopId) -> Result<(), AllocError>
     ensures ok { OnOk result (out.new.items ≡ out.old.items ++ big_bytes (byte_count width) stop) }
     ensures err { OnErr result (Grown out.old.items out.new.items) }
-    ensures below { stop < 65534 }
+    ensures below { stop < 1000000 }
 {
     put_number(out, width, stop.number())
 }
@@ -35,7 +34,7 @@ fn put_stop(out: &mut Vec<u8>, width: Width, stop: StopId) -> Result<(), AllocEr
 /// Writes the ends of a node.
 fn put_ends(out: &mut Vec<u8>, width: Width, ends: &[StopId]) -> Result<(), AllocError>
     ensures ok { OnOk result (out.new.items ≡ out.old.items ++ numbers_text (byte_count width) ends.now) }
-    ensures below { OnOk result (AreBelow 65534 ends.now) }
+    ensures below { OnOk result (AreBelow 1000000 ends.now) }
     ensures err { OnErr result (Grown out.old.items out.new.items) }
 {
     for end in ends {
@@ -47,7 +46,7 @@ fn put_ends(out: &mut Vec<u8>, width: Width, ends: &[StopId]) -> Result<(), Allo
 /// Writes a node up to the number of its children.
 fn put_node<A: Allocator>(out: &mut Vec<u8>, width: Width, node: &Node<A>) -> Result<(), AllocError>
     ensures ok { OnOk result (out.new.items ≡ out.old.items ++ head_text (byte_count width) (branch node.now)) }
-    ensures below { OnOk result (HeadBelow 65534 (branch node.now)) }
+    ensures below { OnOk result (HeadBelow 1000000 (branch node.now)) }
     ensures err { OnErr result (Grown out.old.items out.new.items) }
 {
     let ends = node.ends.as_slice();
@@ -66,7 +65,7 @@ fn put_level<A: Allocator>(
     level: &[Node<A>],
 ) -> Result<(), AllocError>
     ensures ok { OnOk result (out.new.items ≡ out.old.items ++ nodes_text (byte_count width) (forest (branches level.now))) }
-    ensures below { OnOk result (StopsBelow 65534 (forest (branches level.now))) }
+    ensures below { OnOk result (StopsBelow 1000000 (forest (branches level.now))) }
     ensures err { OnErr result (Grown out.old.items out.new.items) }
 {
     for node in level {
@@ -77,27 +76,23 @@ fn put_level<A: Allocator>(
 }
 
 /// Writes the text of a tree.
-fn put_tree<A: Allocator>(
-    tree: &PatternTree<A>,
-    width: Width,
-    out: &mut Vec<u8>,
-) -> Result<(), AllocError>
-    ensures ok { OnOk result (AppendsText (byte_count width) 65534 out.old.items out.new.items tree.now) }
+fn put_tree<A: Allocator>(tree: &PatternTree<A>, out: &mut Vec<u8>) -> Result<(), AllocError>
+    ensures ok { OnOk result (AppendsText 4 1000000 out.old.items out.new.items tree.now) }
     ensures err { OnErr result (Grown out.old.items out.new.items) }
 {
-    put_stop(out, width, tree.source())?;
+    put_stop(out, Width::Four, tree.source())?;
     let first = tree.first();
     put_number(out, Width::Four, first.len())?;
-    put_level(out, width, first)
+    put_level(out, Width::Four, first)
 }
 
 /// Writes the text of a tree at the end. Where memory runs out, the vector is as before.
 pub fn encode<A: Allocator>(tree: &PatternTree<A>, out: &mut Vec<u8>) -> Result<(), AllocError>
-    ensures ok { OnOk result (AppendsText 2 65534 out.old.items out.new.items tree.now) }
+    ensures ok { OnOk result (AppendsText 4 1000000 out.old.items out.new.items tree.now) }
     ensures err { OnErr result (out.new.items ≡ out.old.items) }
 {
     let before = out.len();
-    let written = put_tree(tree, Width::Two, out);
+    let written = put_tree(tree, out);
     if written.is_err() {
         out.truncate(before);
     }

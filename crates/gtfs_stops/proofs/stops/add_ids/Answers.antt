@@ -47,7 +47,7 @@ returns-then-len-gt-STOP_LIMIT-clause-tests c =
     let count = stop_count table c.add_ids_of-2.new.ids.keys c.len.result (ids_are table row_kinds.Stop (texts_in c.add_ids_of-2.new.ids.keys) c.in_ok-test_rows.ensures.apart c.in_ok-add_ids_of-2.ensures) c.len.ensures.len in
     let small : (nat_le (row_count table) 999_999_999 && has_few_stops table) ≡ false =
     few_and (row_count table) 999_999_999 (has_few_stops table) (omega (arith, c.rows.ensures, c.if-rows-gt-ROW_LIMIT.false))
-    ∙ not_few (length (ids_of_kind row_kinds.Stop table)) 65_534 (omega (arith, count, c.if-len-gt-STOP_LIMIT.true)) in
+    ∙ not_few (length (ids_of_kind row_kinds.Stop table)) 1_000_000 (omega (arith, count, c.if-len-gt-STOP_LIMIT.true)) in
     rw c.new-then-len-gt-STOP_LIMIT.ensures (table_rest files.Stops (codes "stop_id" ∷ []) stop_tests has_few_stops table false there c.in_ok-test_rows.ensures.tests small)
 
 -- how many stations there are
@@ -64,7 +64,7 @@ returns-clause-tests c =
     let count = stop_count table c.add_ids_of-2.new.ids.keys c.len.result (ids_are table row_kinds.Stop (texts_in c.add_ids_of-2.new.ids.keys) c.in_ok-test_rows.ensures.apart c.in_ok-add_ids_of-2.ensures) c.len.ensures.len in
     let small : (nat_le (row_count table) 999_999_999 && has_few_stops table) ≡ true =
     few_and (row_count table) 999_999_999 (has_few_stops table) (omega (arith, c.rows.ensures, c.if-rows-gt-ROW_LIMIT.false))
-    ∙ is_few (length (ids_of_kind row_kinds.Stop table)) 65_534 (omega (arith, count, c.if-len-gt-STOP_LIMIT.false)) in
+    ∙ is_few (length (ids_of_kind row_kinds.Stop table)) 1_000_000 (omega (arith, count, c.if-len-gt-STOP_LIMIT.false)) in
     table_rest files.Stops (codes "stop_id" ∷ []) stop_tests has_few_stops table true there c.in_ok-test_rows.ensures.tests small
 
 pub returns-clause-ids : goal.returns-clause-ids

@@ -1,10 +1,10 @@
-use Rattle.std.proofs.Common.{Option, ◌≡◌, ℕ, ◌+◌, ◌<◌, ◌⊎◌, inl, inr, arith, refl, sym, ◌∙◌, ap, subst, List, None, IsSome, true≢false, Err}
+use Rattle.std.proofs.Common.{Option, ◌≡◌, ℕ, ◌+◌, ◌<◌, ◌⊎◌, inl, inr, arith, refl, sym, ◌∙◌, ap, subst, None, IsSome, true≢false, Err}
 use Rattle.timetable.specs.Front.{IsSooner}
 use Rattle.rounds.specs.Mark.{arrival_in, moment_in}
 use Rattle.rounds.specs.Scratch.{rounds_of, before_of}
 use Rattle.rounds.proofs.LayerSteps.{seen_all}
 use Rattle.pattern_tree.specs.declared.fault.TreeFault.{TreeFault}
-use Rattle.pattern_tree.specs.Forest.{Step, Pair}
+use Rattle.pattern_tree.specs.Forest.{Pair}
 use Rattle.pattern_tree.specs.Content.{Content, IsTooLarge}
 use Rattle.pattern_building.specs.RoundPairs.{Gives, InRound, AddsGiven, Keeps}
 use Rattle.pattern_building.proofs.GivenFacts.{IsAdded, AtStop, SeenAt, adds_one, has_then, has_one, has_none, has_narrower, next_stop}

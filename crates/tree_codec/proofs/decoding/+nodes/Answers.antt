@@ -5,7 +5,7 @@ use Rattle.pattern_tree.specs.Forest.{Step, none, forest}
 use Rattle.pattern_tree.specs.declared.node.Node.TheViews.{out-Node, out-roll-Node}
 use Rattle.pattern_tree.specs.Branch.{branch, branches}
 use Rattle.pattern_tree.proofs.NodeFacts.{branch_roll, branches_push, next_out, step_out}
-use Rattle.tree_codec.specs.Widths.{byte_count}
+use Rattle.timetable.specs.Widths.{byte_count}
 use Rattle.tree_codec.specs.Reading.{remaining, children_at, level_at, step_follows, lacks_items}
 use Rattle.tree_codec.proofs.Loops.{with_nodes, level_starts, node_given, level_goes_on, level_fails, level_too_deep, level_done, no_children, nothing_next}
 use Rattle.tree_codec.proofs.decoding.+nodes.Goals as goal

@@ -1,6 +1,6 @@
 use Rattle.std.proofs.Common.{◌≡◌, ◌+◌, ◌-◌, ◌*◌, None}
 use Rattle.pattern_tree.specs.Branch.{branches}
-use Rattle.tree_codec.specs.Widths.{byte_count}
+use Rattle.timetable.specs.Widths.{byte_count}
 use Rattle.tree_codec.specs.Reading.{remaining, level_at}
 use Rattle.tree_codec.proofs.Loops.{with_nodes}
 use Rattle.tree_codec.proofs.decoding.+nodes.Given as goal

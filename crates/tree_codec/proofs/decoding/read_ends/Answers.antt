@@ -1,6 +1,6 @@
 use Rattle.std.proofs.Common.{◌≡◌, None, true, false}
 use Rattle.std.proofs.lemmas.Result.{err_from_is_err_and}
-use Rattle.tree_codec.specs.Widths.{byte_count}
+use Rattle.timetable.specs.Widths.{byte_count}
 use Rattle.tree_codec.specs.Reading.{ends_at, end_follows}
 use Rattle.tree_codec.proofs.Loops.{ends_go_on, ends_fail, ends_fall, ends_done}
 use Rattle.tree_codec.proofs.decoding.read_ends.Goals as goal

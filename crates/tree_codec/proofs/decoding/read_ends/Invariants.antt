@@ -1,5 +1,5 @@
 use Rattle.std.proofs.Common.{◌≡◌, ◌-◌, None}
-use Rattle.tree_codec.specs.Widths.{byte_count}
+use Rattle.timetable.specs.Widths.{byte_count}
 use Rattle.tree_codec.specs.Reading.{ends_at}
 use Rattle.tree_codec.proofs.Loops.{with_ends}
 use Rattle.tree_codec.proofs.decoding.read_ends.Given as goal

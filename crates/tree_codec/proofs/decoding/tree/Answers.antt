@@ -3,7 +3,7 @@ use Rattle.std.proofs.lemmas.Result.{err_from_is_err_and}
 use Rattle.pattern_tree.specs.Forest.{forest}
 use Rattle.pattern_tree.specs.Branch.{branches}
 use Rattle.tree_codec.specs.Text.{tree_text}
-use Rattle.tree_codec.specs.Widths.{byte_count}
+use Rattle.timetable.specs.Widths.{byte_count}
 use Rattle.tree_codec.specs.Reading.{remaining}
 use Rattle.tree_codec.proofs.Fields.{each_wide, stops_fit}
 use Rattle.tree_codec.proofs.Trees.{tree_found, is_tree, is_read, refused}

@@ -1,5 +1,5 @@
-use Rattle.std.proofs.Common.{◌≡◌, ◌∙◌, ◌↔◌, ◌⊎◌, sym, ap, subst, inl, inr, refl, get_or, List, Option, Some, None}
-use Rattle.std.specs.List.{Contains, All}
+use Rattle.std.proofs.Common.{◌≡◌, ◌↔◌, ◌⊎◌, subst, inl, inr, refl, get_or, List, Option, Some, None}
+use Rattle.std.specs.List.{Contains}
 use Rattle.std.specs.Option.{IfSome}
 use Rattle.pattern_tree.specs.Forest.{Step, Pair}
 use Rattle.pattern_building.specs.Latest.{AreIn}

@@ -1,4 +1,4 @@
-use Rattle.std.proofs.Common.{◌≡◌, ◌∙◌, ◌<◌, arith, sym, ap, ap₂, subst, get_or, List, Option, Some, length, true, Bool}
+use Rattle.std.proofs.Common.{◌∙◌, ◌<◌, sym, ap, ap₂, subst, get_or, List, Option, length}
 use Rattle.std.proofs.lemmas.Bool.{and_parts, eqb-true, ltb-true}
 use Rattle.std.specs.List.{Contains}
 use Rattle.std.specs.Option.{IfSome}
