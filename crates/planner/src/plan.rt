@@ -57,7 +57,8 @@ impl Planner {
 
     /// The most rides of a journey.
     pub fn k(&self) -> Rides
-        ensures { result ≡ self.now.form.rides }
+        ensures value { result ≡ self.now.form.rides }
+        ensures own { form_of self.now.form.table result ≡ self.now.form }
     {
         self.rides
     }

@@ -40,6 +40,7 @@ pub rest_leaves : (form : Form) (trees : List Content) (place : ℕ) (disk : Sta
 rest_leaves form trees place disk rest = λ bytes left.
     let read : bytes ≡ disk.read = only_settled disk.read bytes (subst (λ (image : Image). IsOutcome image bytes) rest.durable left) in
     record {
+      fits = rest.begins.fits;
       texts = rest.begins.texts;
       gate = rest.gate;
       free = rest.free;

@@ -59,7 +59,8 @@ impl Tools {
 
     /// The timetable.
     pub(crate) fn table(&self) -> &Arc<Timetable>
-        ensures { arc_value result.now ≡ self.now.form.table }
+        ensures value { arc_value result.now ≡ self.now.form.table }
+        ensures own { form_of (arc_value result.now) self.now.form.rides ≡ self.now.form }
     {
         self.network.shared()
     }

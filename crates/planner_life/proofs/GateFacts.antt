@@ -6,7 +6,7 @@ use Rattle.disk_model.specs.Disk.{State}
 use Rattle.timetable.specs.Table.{stops_of}
 use Rattle.pattern_tree.specs.Content.{Content}
 use Rattle.tree_codec.specs.Text.{OneText, TreeText}
-use Rattle.section_store.specs.Sections.{Form, AreTexts, header, sections, sized}
+use Rattle.section_store.specs.Sections.{Form, AreTexts, header, sections, sized, stop_width}
 use Rattle.section_store.specs.Store.{Holds}
 use Rattle.section_store.specs.Lasting.{IsExact}
 use Rattle.planner_life.specs.Gates.{AreBehind, GateAt, IsBehind}
@@ -29,7 +29,7 @@ gate_here honest form first start list place since are behind here same = record
 -- the text of a tree, whose section is all that the others have beyond the texts
 record LastText (form : Form) (texts others : List (List ℕ)) (tree : Content) : Type 0 where
   pub text : List ℕ
-  pub is_text : TreeText 2 (stops_of form.table) text tree
+  pub is_text : TreeText (stop_width form) (stops_of form.table) text tree
   pub longer : length (sections others) ≡ length (sections texts) + 5 + length text
 
 last_text : OneText → (form : Form) (texts others : List (List ℕ)) (trees : List Content) (tree : Content)
@@ -45,7 +45,7 @@ last_text one form [] others (t ∷ trees) tree are too = absurd are
 last_text one form (x ∷ texts) others [] tree are too = absurd are
 last_text one form (x ∷ texts) [] (t ∷ trees) tree are too = absurd too
 last_text one form (x ∷ texts) (y ∷ others) (t ∷ trees) tree are too =
-    let same : x ≡ y = one 2 (stops_of form.table) (stops_of form.table) x y t are.0.is_text too.0.is_text in
+    let same : x ≡ y = one (stop_width form) (stops_of form.table) (stops_of form.table) x y t are.0.is_text too.0.is_text in
     let rest = last_text one form texts others trees tree are.1 too.1 in
     let grown = rest.longer in
     let here = length-append (sized x) (sections texts) in

@@ -4,7 +4,7 @@ use Rattle.timetable.specs.Table.{stops_of}
 use Rattle.pattern_tree.specs.Content.{Content}
 use Rattle.pattern_tree.specs.Completeness.{IsTreeOf}
 use Rattle.tree_codec.specs.Text.{TreeText}
-use Rattle.section_store.specs.Sections.{Form, Stands, AreTexts, header, sections, sources}
+use Rattle.section_store.specs.Sections.{Form, Stands, AreTexts, header, sections, sources, stop_width}
 
 -- the bytes stand for trees of these sources, and the header and their sections end at the place
 pub record EndsAt (form : Form) (bytes list : List ℕ) (place : ℕ) : Type 0 where
@@ -20,7 +20,7 @@ pub record IsBehind (form : Form) (s place next : ℕ) : Type 0 where
   pub tree : Content
   pub right : IsTreeOf form.table form.rides s tree
   pub text : List ℕ
-  pub is_text : TreeText 2 (stops_of form.table) text tree
+  pub is_text : TreeText (stop_width form) (stops_of form.table) text tree
   pub there : next ≡ place + 5 + length text
 
 -- the sections of these sources' trees, one behind the other from the place on, end at the next one

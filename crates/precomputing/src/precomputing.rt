@@ -63,7 +63,7 @@ fn prepare<D: Disk>(
 fn left(set: StopSet, stored: &[StopId], before: usize, stops: usize, room: Vec<StopId>) -> Outcome
     requires before { before ≤ length stored.now }
     requires set { IsSetOf stops set (take before stored.now) }
-    requires few { stops ≤ 65_534 }
+    requires few { stops ≤ 1_000_000 }
     requires bare { room.items ≡ [] }
     requires room { stops ≤ vec_capacity room }
     ensures { IsLeft stops stored.now result }

@@ -1,10 +1,10 @@
 -- The trees that a keeper is given, and those that are kept of a list.
 use Rattle.std.proofs.Common.{◌≡◌, ◌<◌, ◌++◌, [], ◌∷◌, ℕ, List, All, length, refl, sym, ◌∙◌, ap, subst, append_assoc, append-nil}
 use Rattle.std.proofs.lemmas.List.{map-append, length-map}
-use Rattle.std.proofs.lemmas.List.Elements.{All-map, All-nil, All-push, filter-append}
+use Rattle.std.proofs.lemmas.List.Elements.{All-map, All-nil, All-push, All-weaker, filter-append}
 use Rattle.timetable.specs.Table.{stops_of}
 use Rattle.pattern_tree.specs.Content.{Content}
-use Rattle.section_store.specs.Sections.{Form, sources}
+use Rattle.section_store.specs.Sections.{Form, MayStand, sources}
 use Rattle.section_store.specs.Sources.{is_among}
 use Rattle.recovery.specs.Keeping.{GivenAll}
 use Rattle.recovery.specs.Reading.{IsRead, KeepsWanted, those}
@@ -43,17 +43,17 @@ kept_all old new (tree ∷ trees) given =
 pub read_nothing : {K : Type 0} (form : Form) (Takes : K → Content → K → Type 0) (old new : K) (Known : List Content → Type 0) → new ≡ old → Known []
     → IsRead form Takes old new [] Known
 read_nothing form Takes old new Known same known =
-    record { trees = []; given = same; stored_are = refl; stops = All-nil (λ (t : Content). t.source < stops_of form.table); known = known }
+    record { trees = []; given = same; stored_are = refl; stand = All-nil (MayStand form); known = known }
 
 -- one tree more is read
 pub read_more : {K : Type 0} (form : Form) (Takes : K → Content → K → Type 0) (old mid new : K) (stored stored' : List ℕ) (Known Known' : List Content → Type 0)
     (tree : Content) → (read : IsRead form Takes old mid stored Known) → Takes mid tree new → stored' ≡ stored ++ tree.source ∷ []
-    → tree.source < stops_of form.table → (Known read.trees → Known' (read.trees ++ tree ∷ [])) → IsRead form Takes old new stored' Known'
-read_more form Takes old mid new stored stored' Known Known' tree read taken stored_is below known = record {
+    → MayStand form tree → (Known read.trees → Known' (read.trees ++ tree ∷ [])) → IsRead form Takes old new stored' Known'
+read_more form Takes old mid new stored stored' Known Known' tree read taken stored_is may known = record {
   trees = read.trees ++ tree ∷ [];
   given = given_more Takes old mid new read.trees tree read.given taken;
   stored_are = stored_is ∙ ap (λ (l : List ℕ). l ++ tree.source ∷ []) read.stored_are ∙ sym (map-append (λ (t : Content). t.source) read.trees (tree ∷ []));
-  stops = All-push (λ (t : Content). t.source < stops_of form.table) read.trees tree read.stops below;
+  stand = All-push (MayStand form) read.trees tree read.stand may;
   known = known read.known;
 }
 
@@ -64,7 +64,7 @@ read_knows form Takes old new stored Known Known' read known = record {
   trees = read.trees;
   given = read.given;
   stored_are = read.stored_are;
-  stops = read.stops;
+  stand = read.stand;
   known = known;
 }
 
@@ -77,3 +77,7 @@ pub sources_below : (stops : ℕ) (trees : List Content) (stored : List ℕ) →
     → All (λ s. s < stops) stored
 sources_below stops trees stored is below =
     subst (All (λ s. s < stops)) (sym is) (All-map (λ s. s < stops) (λ (t : Content). t.source) trees below)
+
+-- those that may stand have stops as sources
+pub stops_below : (form : Form) (trees : List Content) → All (MayStand form) trees → All (λ (t : Content). t.source < stops_of form.table) trees
+stops_below form trees stand = All-weaker (MayStand form) (λ (t : Content). t.source < stops_of form.table) (λ t may. may.within.0) trees stand

@@ -5,9 +5,9 @@ use Rattle.section_store.specs.Sections.{Form, IsFresh, open_gate, store_name}
 use Rattle.recovery.specs.declared.kind.FileKind.{FileKind}
 use Rattle.recovery.specs.declared.kind.FileKind.TheVariants as kinds
 
--- the name and the version of a store, after a gate that isn't open
+-- the name of a store, after a gate that isn't open
 abbrev pub IsNamedBehindGate : List ℕ → Type 0
-IsNamedBehindGate bytes = (take 8 (drop 1 bytes) ≡ store_name) × (get_or bytes 0 0 ≢ open_gate)
+IsNamedBehindGate bytes = (take 7 (drop 1 bytes) ≡ store_name) × (get_or bytes 0 0 ≢ open_gate)
 
 -- A store of that form may be opened in a file of these bytes: one may be begun there, or the bytes begin with an open gate.
 abbrev pub CanOpen : Form → List ℕ → Type 0

@@ -3,15 +3,15 @@ use Rattle.std.specs.Prelude.{◌<◌, ◌≡◌, ◌≢◌, ◌⊎◌, ℕ, ◌
 use Rattle.std.specs.List.{All}
 use Rattle.std.specs.Int.{to_be_bytes, w32}
 use Rattle.disk_model.specs.Disk.{Grew}
-use Rattle.timetable.specs.Table.{stops_of}
 use Rattle.pattern_tree.specs.Content.{Content}
-use Rattle.section_store.specs.Sections.{Form, IsSection, IsSections, IsNew, sized, sources, open_gate, store_name}
+use Rattle.section_store.specs.Sections.{Form, IsSection, IsSections, IsNew, MayStand, sized, sources, open_gate}
 use Rattle.section_store.specs.Sources.{is_among}
 use Rattle.section_store.specs.Store.{Begins}
+use Rattle.section_store.specs.declared.version.Version.{Version}
 use Rattle.recovery.specs.Excerpts.{trees_of}
-use Rattle.recovery.specs.Recovery.{IsTail, IsOutside, CauseOf, StandsForNoList}
+use Rattle.recovery.specs.Recovery.{IsTail, IsOutside, CauseOf, StandsForNoList, IsOfVersion, IsOld}
 use Rattle.recovery.specs.declared.fault.RecoverFault.{RecoverFault}
-use Rattle.recovery.specs.declared.fault.RecoverFault.TheVariants.{NotAStore, OtherTimetable, OtherRides, Damaged, Device, Memory}
+use Rattle.recovery.specs.declared.fault.RecoverFault.TheVariants.{NotAStore, OldVersion, OtherTimetable, OtherRides, Damaged, Device, Memory}
 use Rattle.recovery.specs.Keeping.{GivenAll}
 use Rattle.recovery.specs.declared.kept.Kept.{Kept}
 use Rattle.recovery.specs.declared.kept.Wanted.{Wanted}
@@ -26,21 +26,22 @@ OnlyOutside result before after =
 abbrev pub OnlyCounted : {T : Type 0} → Result T RecoverFault → ℕ → ℕ → Type 0
 OnlyCounted result before after = MatchResult result (λ _. after ≡ before) (λ fault. fault ≡ Device → Grew before after)
 
--- the first bytes are those of a store of so many rides, and of a timetable of so many bytes
-pub record IsOwnFront (most count : ℕ) (front : List ℕ) : Type 0 where
-  pub name : take 8 (drop 1 front) ≡ store_name
+-- the first bytes are those of a store of that version and of so many rides, and of a timetable of so many bytes
+pub record IsOwnFront (version : Version) (most count : ℕ) (front : List ℕ) : Type 0 where
+  pub of : IsOfVersion version front
   pub rides : get_or front 9 0 ≡ most
   pub size : take 4 (drop 10 front) ≡ to_be_bytes w32 count
 
 -- they are those of none, by the name and the version; or else by the number of rides; or else by the number of bytes
-abbrev pub IsOtherFront : ℕ → ℕ → List ℕ → RecoverFault → Type 0
-IsOtherFront most count front NotAStore = take 8 (drop 1 front) ≢ store_name
-IsOtherFront most count front OtherRides = (take 8 (drop 1 front) ≡ store_name) × (get_or front 9 0 ≢ most)
-IsOtherFront most count front OtherTimetable =
-    (take 8 (drop 1 front) ≡ store_name) × (get_or front 9 0 ≡ most) × (take 4 (drop 10 front) ≢ to_be_bytes w32 count)
-IsOtherFront most count front (Damaged number) = ⊥
-IsOtherFront most count front Device = ⊥
-IsOtherFront most count front Memory = ⊥
+abbrev pub IsOtherFront : Version → ℕ → ℕ → List ℕ → RecoverFault → Type 0
+IsOtherFront version most count front NotAStore = (¬ IsOfVersion version front) × (¬ IsOld version front)
+IsOtherFront version most count front OldVersion = IsOld version front
+IsOtherFront version most count front OtherRides = IsOfVersion version front × (get_or front 9 0 ≢ most)
+IsOtherFront version most count front OtherTimetable =
+    IsOfVersion version front × (get_or front 9 0 ≡ most) × (take 4 (drop 10 front) ≢ to_be_bytes w32 count)
+IsOtherFront version most count front (Damaged number) = ⊥
+IsOtherFront version most count front Device = ⊥
+IsOtherFront version most count front Memory = ⊥
 
 -- neither a closed gate nor an open one with a text behind it
 pub record IsCut (rest : List ℕ) : Type 0 where
@@ -102,7 +103,7 @@ pub record IsRead {K : Type 0} (form : Form) (Takes : K → Content → K → Ty
   pub trees : List Content
   pub given : GivenAll Takes old trees new
   pub stored_are : stored ≡ sources trees
-  pub stops : All (λ tree. tree.source < stops_of form.table) trees
+  pub stand : All (MayStand form) trees
   pub known : Known trees
 
 -- a section was read that ends at `next`, and its tree was given to a keeper and listed
@@ -111,5 +112,5 @@ pub record KeepsNext {K : Type 0} (form : Form) (Takes : K → Content → K →
   pub tree : Content
   pub taken : Takes old tree new
   pub listed : after ≡ before ++ tree.source ∷ []
-  pub known : tree.source < stops_of form.table
+  pub may : MayStand form tree
   pub found : Honest → IsFound form before rest place tree next

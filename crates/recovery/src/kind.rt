@@ -16,8 +16,8 @@ use section_store::{OPEN, rest_of_header};
 use std::alloc::Global;
 use timetable::{Rides, Timetable};
 
-// How many bytes a file has up to the end of a store's name and version.
-const NAMED: usize = 9;
+// How many bytes a file has up to the end of a store's name.
+const NAMED: usize = 8;
 
 /// What a file is to a store that is to be opened in it.
 #[derive(Clone, Copy, Debug, PartialEq, Eq)]

@@ -24,8 +24,8 @@ use std::alloc::Global;
 use std::sync::Arc;
 use timetable::{Rides, Timetable};
 
-// Brings to the disk what it has, and reads the store; none where the file is fresh.
-fn look<D: Disk, K: Keeper>(
+/// Brings to the disk what it has, and reads the store; none if the file is fresh.
+pub(crate) fn look<D: Disk, K: Keeper>(
     alloc: Global,
     keeper: &mut K,
     disk: &mut D,

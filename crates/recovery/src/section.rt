@@ -2,7 +2,7 @@
 
 ghost use Rattle.std.specs.Prelude.{◌≡◌, ◌↔◌, ◌^◌, ◌⊎◌, ◌≤◌, ◌<◌, ◌+◌, ℕ, List, length, drop, IfOk, IfErr, IfSome, MatchOption};
 ghost use Rattle.timetable.specs.Table.{stops_of};
-ghost use Rattle.section_store.specs.Sections.{IsSection, IsNew};
+ghost use Rattle.section_store.specs.Sections.{Fits, IsSection, IsNew, MayStand};
 ghost use Rattle.section_store.specs.Sources.{IsSetOf};
 ghost use Rattle.recovery.specs.Reading.{OnlyCounted, IsBad, IsShut, IsFound};
 ghost use Rattle.recovery.specs.Recovery.{IsEnd, IsOutside};
@@ -15,8 +15,8 @@ use pattern_tree::PatternTree;
 use section_store::reading_laws::sized_apart;
 use section_store::{Form, StopSet};
 use std::alloc::Allocator;
-use tree_codec::laws::texts_apart;
-use tree_codec::{CodecFault, decode};
+use tree_codec::laws::{texts_apart, texts_within};
+use tree_codec::{CodecFault, decode_as};
 
 // The tree whose text that is, all of it, where it may stand behind the sources that are present; none where there is no such
 // tree.
@@ -26,14 +26,21 @@ fn tree_in<A: Allocator + Clone>(
     form: &Form,
     present: &StopSet,
 ) -> Result<Option<PatternTree<A>>, RecoverFault>
+    requires fits { Fits form.now }
     ensures found { (stored : List ℕ) → IsSetOf (stops_of form.now.table) present.now stored → length text.now < 2 ^ 32
         → IfOk result (λ found. MatchOption found (IsBad form.now stored text.now)
         (λ tree. IsSection form.now text.now tree × IsNew tree.source stored)) }
-    ensures known { IfOk result (λ found. IfSome found (λ tree. tree.source < stops_of form.now.table)) }
+    ensures known { IfOk result (λ found. IfSome found (MayStand form.now)) }
     ensures memory { IfErr result (λ fault. fault ≡ RecoverFault.Memory) }
 {
     texts_apart();
-    match decode(alloc, text, form.timetable().stops()) {
+    texts_within();
+    match decode_as(
+        alloc,
+        text,
+        form.version().width(),
+        form.timetable().stops(),
+    ) {
         Ok(read) => {
             let (tree, used) = read;
             if used < text.len() {
@@ -73,6 +80,7 @@ pub(crate) fn next_section<D: Disk, A: Allocator + Clone>(
     found: &Found,
     text: &mut Vec<u8>,
 ) -> Result<Option<Section<A>>, RecoverFault>
+    requires fits { Fits form.now }
     requires within { found.now.place ≤ end }
     requires whole { D.honest disk.old → end ≡ length (D.state disk.old).read }
     requires set { IsSetOf (stops_of form.now.table) found.now.present found.now.stored.items }
@@ -84,7 +92,7 @@ pub(crate) fn next_section<D: Disk, A: Allocator + Clone>(
     ensures ended { D.honest disk.old → IfErr result (λ fault. IsOutside fault
         ⊎ ((fault ≡ RecoverFault.Damaged (length found.now.stored.items))
         × IsEnd form.now found.now.stored.items (drop found.now.place (D.state disk.old).read))) }
-    ensures known { IfOk result (λ ahead. IfSome ahead (λ section. section.tree.source < stops_of form.now.table)) }
+    ensures known { IfOk result (λ ahead. IfSome ahead (λ section. MayStand form.now section.tree)) }
     ensures inside { IfOk result (λ ahead. IfSome ahead (λ section. (found.now.place < section.end) × (section.end ≤ end))) }
     ensures counted { OnlyCounted result (D.failures disk.old) (D.failures disk.new) }
 {

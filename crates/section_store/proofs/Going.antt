@@ -17,10 +17,11 @@ use Rattle.section_store.proofs.Lasting.{in_turn, lasts}
 
 module _ (form : Form) where
   -- the bytes of a store at rest
-  rest_stands : (trees : List Content) (place : ℕ) (disk : State) → IsRest form trees place disk → (bytes : List ℕ) → IsOutcome disk.now bytes → Stands form bytes trees
+  pub rest_stands : (trees : List Content) (place : ℕ) (disk : State) → IsRest form trees place disk → (bytes : List ℕ) → IsOutcome disk.now bytes → Stands form bytes trees
   rest_stands trees place disk rest bytes left =
       let read : bytes ≡ disk.read = only_settled disk.read bytes (subst (λ (image : Image). IsOutcome image bytes) rest.durable left) in
       inr (record {
+        fits = rest.begins.fits;
         texts = rest.begins.texts;
         gate = rest.gate;
         free = rest.free;

@@ -1,4 +1,5 @@
 pub mod Beginnings
+pub mod Between
 pub mod Fault
 pub mod Going
 pub mod GoingLaws
@@ -11,3 +12,4 @@ pub mod Stages
 pub mod Step
 pub mod Store
 pub mod StoreView
+pub mod Versions

@@ -1,5 +1,6 @@
 //! What holds of every store that goes on, put by put. Nothing is run.
 
+ghost use Rattle.section_store.specs.Between.{HeldStandsBetween, NothingGoesBetween, PutGoesBetween, GoesBetweenInTurn};
 ghost use Rattle.section_store.specs.GoingLaws.{HeldStandsForMore, KeptIsHeld, HeldForGood, NothingGoesOn, PutGoesOn, GoesOnInTurn};
 ghost use Rattle.section_store.specs.GoingLaws.{GoesOnByTrees, TrustInTurn};
 
@@ -19,3 +20,11 @@ pub fn goes_on()
 {
     stands_for_one();
 }
+
+/// The same of a store that goes on to a list of trees that is known, tree for tree.
+pub fn goes_between()
+    ensures rest { HeldStandsBetween }
+    ensures nothing { NothingGoesBetween }
+    ensures put { PutGoesBetween }
+    ensures turn { GoesBetweenInTurn }
+{}

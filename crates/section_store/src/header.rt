@@ -6,7 +6,7 @@ ghost use Rattle.disk_model.specs.Moments.{LeavesOnly};
 ghost use Rattle.disk_model.specs.Disk.{Grew};
 ghost use Rattle.disk_model.specs.Calls.{FailsByCalls};
 ghost use Rattle.section_store.specs.Lasting.{LosesNothing, StaysTrusted};
-ghost use Rattle.section_store.specs.Sections.{Form, StandsForNone, IsFresh, form_of, header, header_tail};
+ghost use Rattle.section_store.specs.Sections.{Form, Fits, StandsForNone, IsFresh, form_of, header, header_tail};
 ghost use Rattle.section_store.specs.Store.{IsRest, IsFreshRest, IsShort, IsClosed, IsWhole, Holds};
 
 use crate::fault::PutFault;
@@ -14,6 +14,7 @@ use crate::form::Form as FormOf;
 use crate::step::Step;
 use crate::stop_set::StopSet;
 use crate::store::SectionStore;
+use crate::version::Version;
 use disk_model::laws::{cuts_add_outcomes, writes_add_outcomes};
 use disk_model::{Disk, DiskFault, cut_and_sync, write_and_sync};
 use std::alloc::{AllocError, Global};
@@ -23,8 +24,8 @@ use timetable::{Rides, Timetable};
 /// An open gate. Each other byte is a closed one.
 pub const OPEN: u8 = 0xA5;
 
-/// The name and the version of a store, after the gate of its header.
-pub const NAME: [u8; 8] = [84, 80, 83, 84, 79, 82, 69, 1];
+/// The name of a store, after the gate of its header. The version follows it.
+pub const NAME: [u8; 7] = [84, 80, 83, 84, 79, 82, 69];
 
 /// Cuts a fresh file to at most one byte.
 fn shorten<D: Disk>(disk: &mut D) -> Result<(), DiskFault>
@@ -76,9 +77,9 @@ fn write_header<D: Disk>(disk: &mut D, rest: &[u8]) -> Result<(), DiskFault>
 
 /// Opens the gate of the header.
 fn open_header<D: Disk>(disk: &mut D) -> Result<(), DiskFault>
-    ensures rest { (form : Form) → D.honest disk.old → IsWhole (header_tail form ++ 0 ∷ []) (D.state disk.old)
+    ensures rest { (form : Form) → Fits form → D.honest disk.old → IsWhole (header_tail form ++ 0 ∷ []) (D.state disk.old)
         → OnOk result (IsRest form [] (length (header form)) (D.state disk.new)) }
-    ensures moments { (form : Form) → D.honest disk.old → IsWhole (header_tail form ++ 0 ∷ []) (D.state disk.old)
+    ensures moments { (form : Form) → Fits form → D.honest disk.old → IsWhole (header_tail form ++ 0 ∷ []) (D.state disk.old)
         → LeavesOnly (D.state disk.old) (D.state disk.new) (StandsForNone form) }
     ensures lasting { (form : Form) (rest : List ℕ) → D.honest disk.old → IsWhole rest (D.state disk.old)
         → LosesNothing form (D.state disk.old) (D.state disk.new) }
@@ -92,9 +93,9 @@ fn open_header<D: Disk>(disk: &mut D) -> Result<(), DiskFault>
 // The four steps, one after the other.
 fn begin_file<D: Disk>(disk: &mut D, rest: &[u8]) -> Result<(), DiskFault>
     requires { D.honest disk.old → IsFreshRest (D.state disk.old) }
-    ensures rest { (form : Form) → D.honest disk.old → rest.now ≡ header_tail form ++ 0 ∷ []
+    ensures rest { (form : Form) → Fits form → D.honest disk.old → rest.now ≡ header_tail form ++ 0 ∷ []
         → OnOk result (IsRest form [] (length (header form)) (D.state disk.new)) }
-    ensures moments { (form : Form) → D.honest disk.old → rest.now ≡ header_tail form ++ 0 ∷ []
+    ensures moments { (form : Form) → Fits form → D.honest disk.old → rest.now ≡ header_tail form ++ 0 ∷ []
         → LeavesOnly (D.state disk.old) (D.state disk.new) (StandsForNone form) }
     ensures lasting { (form : Form) → D.honest disk.old → LosesNothing form (D.state disk.old) (D.state disk.new) }
     ensures honest { D.honest disk.old ↔ D.honest disk.new }
@@ -111,10 +112,12 @@ fn begin_file<D: Disk>(disk: &mut D, rest: &[u8]) -> Result<(), DiskFault>
 pub fn rest_of_header(alloc: Global, table: &Timetable, rides: Rides) -> Result<Vec<u8>, AllocError>
     ensures { IfOk result (λ bytes. bytes.items ≡ header_tail (form_of table.now rides) ++ 0 ∷ []) }
 {
+    let version = Version::Second;
+    let width = version.width();
     let mut bytes = Vec::from_array(alloc, NAME)?;
-    bytes.push(rides.number())?;
-    bytes.extend_from_slice(&table.canonical_len().to_be_bytes())?;
-    table.write_canonical(&mut bytes)?;
+    bytes.extend_from_slice(&[version.byte(), rides.number()])?;
+    bytes.extend_from_slice(&table.canonical_len(width).to_be_bytes())?;
+    table.write_canonical(width, &mut bytes)?;
     bytes.push(0)?;
     Ok(bytes)
 }

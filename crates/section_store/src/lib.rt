@@ -15,6 +15,7 @@ mod receipt;
 mod step;
 mod stop_set;
 mod store;
+mod version;
 
 pub use fault::PutFault;
 pub use form::Form;
@@ -23,3 +24,4 @@ pub use receipt::Receipt;
 pub use step::Step;
 pub use stop_set::StopSet;
 pub use store::SectionStore;
+pub use version::Version;

@@ -9,6 +9,7 @@ ghost use Rattle.section_store.specs.Sources.{IsSetOf, is_among};
 use crate::form::Form;
 use crate::step::Step;
 use crate::stop_set::StopSet;
+use crate::version::Version;
 use disk_model::{Disk, MemDisk};
 use std::alloc::Global;
 use std::marker::Model;
@@ -63,6 +64,7 @@ impl<D: Disk> SectionStore<D> {
         place: u64,
     ) -> Self
         requires kept { D.honest disk → IsKept form place stored.items (D.state disk) }
+        requires version { form.version ≡ Version.Second }
         requires set { IsSetOf (stops_of form.table) present stored.items }
         ensures disk { result.disk ≡ disk }
         ensures form { result.form ≡ form }

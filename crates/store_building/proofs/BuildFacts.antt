@@ -31,6 +31,7 @@ use Rattle.store_terms.proofs.OpeningFacts.{memory_fails}
 -- a file that holds trees at rest stands for them
 holds_stands : (form : Form) (trees : List Content) (place : ℕ) (list : List ℕ) (disk : State) → Holds form trees place list disk → Stands form disk.read trees
 holds_stands form trees place list disk h = inr (record {
+  fits = h.rest.begins.fits;
   texts = h.rest.begins.texts;
   gate = h.rest.gate;
   free = h.rest.free;

@@ -1,4 +1,4 @@
-use Rattle.std.proofs.Common.{◌≡◌, ◌<◌, ◌∙◌, List, All, refl, sym, subst, inl, inr}
+use Rattle.std.proofs.Common.{◌≡◌, ◌<◌, ◌∙◌, List, All, sym, subst, inl, inr}
 use Rattle.std.specs.Arc.{arc_value}
 use Rattle.std.specs.List.{Contains}
 use Rattle.std.proofs.lemmas.List.Elements.{All-contains_itself}
@@ -16,7 +16,7 @@ use Rattle.planner_core.proofs.beginning.open.Goals as goal
 pub returns-in-Err-clause-fault : goal.returns-in-Err-clause-fault
 returns-in-Err-clause-fault c =
     let form : Form = form_of (arc_value c.table.result.now) c.rides.result in
-    let same : form ≡ c.args.tools.now.form = rw (c.table.ensures, c.rides.ensures) refl in
+    let same : form ≡ c.args.tools.now.form = rw c.rides.ensures c.table.ensures.own in
     let disk = state_of c.args.disk in
     let trusted : IsTrusted form disk = subst (λ (f : Form). IsTrusted f disk) (sym same) c.requires in
     let file = trusted disk.read c.args.disk.sound in
@@ -28,7 +28,7 @@ returns-in-Err-clause-fault c =
 pub returns-in-Err-clause-trusted : goal.returns-in-Err-clause-trusted
 returns-in-Err-clause-trusted c =
     let form : Form = form_of (arc_value c.table.result.now) c.rides.result in
-    let same : form ≡ c.args.tools.now.form = rw (c.table.ensures, c.rides.ensures) refl in
+    let same : form ≡ c.args.tools.now.form = rw c.rides.ensures c.table.ensures.own in
     let trusted : IsTrusted form (state_of c.args.disk) = rw same c.requires in
     subst (λ (f : Form). IsTrusted f (state_of c.in-Err.refused.1)) same
     (c.trust_lasts.ensures form (state_of c.args.disk) (state_of c.in-Err.refused.1) trusted (c.in-Err.ensures.opening tt).trusts)
@@ -36,7 +36,7 @@ returns-in-Err-clause-trusted c =
 pub returns-in_default-clause-trusted : goal.returns-in_default-clause-trusted
 returns-in_default-clause-trusted c =
     let form : Form = form_of (arc_value c.table.result.now) c.rides.result in
-    let same : form ≡ c.args.tools.now.form = rw (c.table.ensures, c.rides.ensures) refl in
+    let same : form ≡ c.args.tools.now.form = rw c.rides.ensures c.table.ensures.own in
     let trusted : IsTrusted form (state_of c.args.disk) = rw same c.requires in
     let disk = c.in-Ok.recovered.store.disk in
     rw c.into_disk.ensures (subst (λ (f : Form). IsTrusted f (state_of disk)) same
@@ -45,7 +45,7 @@ returns-in_default-clause-trusted c =
 pub begin-requires-clause-exact : goal.begin-requires-clause-exact
 begin-requires-clause-exact c =
     let form : Form = form_of (arc_value c.table.result.now) c.rides.result in
-    let same : form ≡ c.args.tools.now.form = rw (c.table.ensures, c.rides.ensures) refl in
+    let same : form ≡ c.args.tools.now.form = rw c.rides.ensures c.table.ensures.own in
     let trusted : IsTrusted form (state_of c.args.disk) = rw same c.requires in
     let exact = c.in-Ok.ensures.exact tt trusted in
     subst (λ (f : Form). All (IsExact f) c.deref.result.now) (sym c.in-Ok.ensures.ready.1) (subst (λ (l : List Content). All (IsExact form) l) (sym c.deref.ensures.value) exact)
@@ -58,7 +58,7 @@ begin-requires-clause-held c =
 pub returns-in-Ok-begin-clause-opened : goal.returns-in-Ok-begin-clause-opened
 returns-in-Ok-begin-clause-opened c =
     let form : Form = form_of (arc_value c.table.result.now) c.rides.result in
-    let same : form ≡ c.args.tools.now.form = rw (c.table.ensures, c.rides.ensures) refl in
+    let same : form ≡ c.args.tools.now.form = rw c.rides.ensures c.table.ensures.own in
     let trees = c.in-Ok.recovered.trees.items in (
       trees,
       subst (λ (f : Form). Stands f (state_of c.args.disk).read trees) same (c.in-Ok.ensures.stands tt),
@@ -69,7 +69,7 @@ returns-in-Ok-begin-clause-opened c =
 pub returns-in-Ok-begin-clause-sound : goal.returns-in-Ok-begin-clause-sound
 returns-in-Ok-begin-clause-sound c =
     let form : Form = form_of (arc_value c.table.result.now) c.rides.result in
-    let same : form ≡ c.args.tools.now.form = rw (c.table.ensures, c.rides.ensures) refl in
+    let same : form ≡ c.args.tools.now.form = rw c.rides.ensures c.table.ensures.own in
     let trees = c.in-Ok.recovered.trees.items in
     let trusted : IsTrusted form (state_of c.args.disk) = rw same c.requires in
     let exact = c.in-Ok.ensures.exact tt trusted in
@@ -80,7 +80,7 @@ returns-in-Ok-begin-clause-sound c =
 pub returns-clause-trusted : goal.returns-clause-trusted
 returns-clause-trusted c =
     let form : Form = form_of (arc_value c.table.result.now) c.rides.result in
-    let same : form ≡ c.args.tools.now.form = rw (c.table.ensures, c.rides.ensures) refl in
+    let same : form ≡ c.args.tools.now.form = rw c.rides.ensures c.table.ensures.own in
     let trusted : IsTrusted form (state_of c.args.disk) = rw same c.requires in
     let disk = c.in-Ok.recovered.store.disk in
     rw c.in-Err-begin.ensures.disk (subst (λ (f : Form). IsTrusted f (state_of disk)) same
@@ -89,7 +89,7 @@ returns-clause-trusted c =
 pub returns-in-Err-clause-given_back : goal.returns-in-Err-clause-given_back
 returns-in-Err-clause-given_back c =
     let form : Form = form_of (arc_value c.table.result.now) c.rides.result in
-    let same : form ≡ c.args.tools.now.form = rw (c.table.ensures, c.rides.ensures) refl in
+    let same : form ≡ c.args.tools.now.form = rw c.rides.ensures c.table.ensures.own in
     let is = c.in-Err.ensures in
     subst (λ (f : Form). IsOpening f (state_of c.args.disk) (state_of c.in-Err.refused.1)) same
     (is.opening tt)
@@ -97,7 +97,7 @@ returns-in-Err-clause-given_back c =
 pub returns-in_default-clause-given_back : goal.returns-in_default-clause-given_back
 returns-in_default-clause-given_back c =
     let form : Form = form_of (arc_value c.table.result.now) c.rides.result in
-    let same : form ≡ c.args.tools.now.form = rw (c.table.ensures, c.rides.ensures) refl in
+    let same : form ≡ c.args.tools.now.form = rw c.rides.ensures c.table.ensures.own in
     let is = c.in-Ok.ensures in
     rw c.into_disk.ensures (subst (λ (f : Form). IsOpening f (state_of c.args.disk) (state_of c.in-Ok.recovered.store.disk)) same
     (is.opening tt))
@@ -105,7 +105,7 @@ returns-in_default-clause-given_back c =
 pub returns-clause-given_back : goal.returns-clause-given_back
 returns-clause-given_back c =
     let form : Form = form_of (arc_value c.table.result.now) c.rides.result in
-    let same : form ≡ c.args.tools.now.form = rw (c.table.ensures, c.rides.ensures) refl in
+    let same : form ≡ c.args.tools.now.form = rw c.rides.ensures c.table.ensures.own in
     let is = c.in-Ok.ensures in
     rw c.in-Err-begin.ensures.disk (subst (λ (f : Form). IsOpening f (state_of c.args.disk) (state_of c.in-Ok.recovered.store.disk)) same
     (is.opening tt))

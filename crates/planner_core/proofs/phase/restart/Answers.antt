@@ -18,7 +18,7 @@ use Rattle.planner_core.proofs.phase.restart.Goals as goal
 pub out_of_memory-requires : goal.out_of_memory-requires
 out_of_memory-requires c =
     let d = c.args.stopped in
-    let same : form_of (arc_value c.table.result.now) c.rides.result ≡ c.args.tools.now.form = rw (c.table.ensures, c.rides.ensures) refl in
+    let same : form_of (arc_value c.table.result.now) c.rides.result ≡ c.args.tools.now.form = rw c.rides.ensures c.table.ensures.own in
     let safe : IsSafeDisk (form_of (arc_value c.table.result.now) c.rides.result) d.storing.items d.acknowledged.items (state_of d.disk) =
     subst (λ (f : Form). IsSafeDisk f d.storing.items d.acknowledged.items (state_of d.disk)) (sym same) c.requires in
     elim (c.in-Err.ensures.refused tt) [
@@ -29,7 +29,7 @@ out_of_memory-requires c =
 pub begin-requires-clause-exact : goal.begin-requires-clause-exact
 begin-requires-clause-exact c =
     let d = c.args.stopped in
-    let same : form_of (arc_value c.table.result.now) c.rides.result ≡ c.args.tools.now.form = rw (c.table.ensures, c.rides.ensures) refl in
+    let same : form_of (arc_value c.table.result.now) c.rides.result ≡ c.args.tools.now.form = rw c.rides.ensures c.table.ensures.own in
     let safe = subst (λ (f : Form). IsSafeDisk f d.storing.items d.acknowledged.items (state_of d.disk)) (sym same) c.requires in
     let exact = c.in-Ok.ensures.exact tt safe.trusted in
     subst (λ (f : Form). All (IsExact f) c.deref.result.now) (sym c.in-Ok.ensures.ready.1) (subst (λ (l : List Content). All (IsExact (form_of (arc_value c.table.result.now) c.rides.result)) l) (sym c.deref.ensures.value) exact)
@@ -38,7 +38,7 @@ pub begin-requires-clause-held : goal.begin-requires-clause-held
 begin-requires-clause-held c =
     let d = c.args.stopped in
     let trees = c.in-Ok.recovered.trees.items in
-    let same : form_of (arc_value c.table.result.now) c.rides.result ≡ c.args.tools.now.form = rw (c.table.ensures, c.rides.ensures) refl in
+    let same : form_of (arc_value c.table.result.now) c.rides.result ≡ c.args.tools.now.form = rw c.rides.ensures c.table.ensures.own in
     let stands = subst (λ (f : Form). Stands f (state_of d.disk).read trees) same (c.in-Ok.ensures.stands tt) in
     let is = recovered c.stands_for_one.ensures c.args.tools.now.form d.storing.items d.acknowledged.items (state_of d.disk) trees c.requires d.disk.sound stands in
     subst (λ l. All (Contains l) d.acknowledged.items) (sym c.in-Ok.ensures.stored) is.1
@@ -47,7 +47,7 @@ pub returns-in-Ok-begin-clause-steps : goal.returns-in-Ok-begin-clause-steps
 returns-in-Ok-begin-clause-steps c =
     let d = c.args.stopped in
     let trees = c.in-Ok.recovered.trees.items in
-    let same : form_of (arc_value c.table.result.now) c.rides.result ≡ c.args.tools.now.form = rw (c.table.ensures, c.rides.ensures) refl in
+    let same : form_of (arc_value c.table.result.now) c.rides.result ≡ c.args.tools.now.form = rw c.rides.ensures c.table.ensures.own in
     record {
       trees = trees;
       list = c.in_ok-sources.sources;
@@ -65,7 +65,7 @@ pub returns-in-Ok-begin-clause-sound : goal.returns-in-Ok-begin-clause-sound
 returns-in-Ok-begin-clause-sound c =
     let d = c.args.stopped in
     let trees = c.in-Ok.recovered.trees.items in
-    let same : form_of (arc_value c.table.result.now) c.rides.result ≡ c.args.tools.now.form = rw (c.table.ensures, c.rides.ensures) refl in
+    let same : form_of (arc_value c.table.result.now) c.rides.result ≡ c.args.tools.now.form = rw c.rides.ensures c.table.ensures.own in
     let safe = subst (λ (f : Form). IsSafeDisk f d.storing.items d.acknowledged.items (state_of d.disk)) (sym same) c.requires in
     let exact = c.in-Ok.ensures.exact tt safe.trusted in
     let begins = subst (λ (l : List Content). Begins c.args.tools.now l (running_of c.in-Ok-begin.running)) c.deref.ensures.value c.in-Ok-begin.ensures.begins in
@@ -76,7 +76,7 @@ pub returns-in-Ok-begin-clause-gives : goal.returns-in-Ok-begin-clause-gives
 returns-in-Ok-begin-clause-gives c =
     let d = c.args.stopped in
     let trees = c.in-Ok.recovered.trees.items in
-    let same : form_of (arc_value c.table.result.now) c.rides.result ≡ c.args.tools.now.form = rw (c.table.ensures, c.rides.ensures) refl in
+    let same : form_of (arc_value c.table.result.now) c.rides.result ≡ c.args.tools.now.form = rw c.rides.ensures c.table.ensures.own in
     let stands = subst (λ (f : Form). Stands f (state_of d.disk).read trees) same (c.in-Ok.ensures.stands tt) in
     let is = recovered c.stands_for_one.ensures c.args.tools.now.form d.storing.items d.acknowledged.items (state_of d.disk) trees c.requires d.disk.sound stands in
     let list : c.in_ok-sources.sources.items ≡ sources trees = c.in_ok-sources.ensures.items ∙ c.stored.ensures ∙ c.in-Ok.ensures.stored in

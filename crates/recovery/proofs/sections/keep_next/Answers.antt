@@ -1,5 +1,6 @@
-use Rattle.std.proofs.Common.{refl, ◌<◌, drop, sym, subst}
+use Rattle.std.proofs.Common.{refl, drop, sym, subst}
 use Rattle.timetable.specs.Table.{stops_of}
+use Rattle.section_store.specs.Sections.{MayStand}
 use Rattle.section_store.specs.Sources.{IsSetOf}
 use Rattle.recovery.specs.Reading.{IsFound, IsShut}
 use Rattle.recovery.proofs.sections.keep_next.Goals as goal
@@ -24,12 +25,12 @@ returns-clause-kept g c =
     let form = c.args.form.now in
     let stored = c.args.found.now.stored.items in
     let tree = c.in-Some.section.tree in
-    let known : tree.source < stops_of form.table = rw c.in-Some.is at c.in-Ok.ensures.known in
+    let may : MayStand form tree = rw c.in-Some.is at c.in-Ok.ensures.known in
     record {
       tree = tree;
       taken = c.in-Ok-keep.ensures.taken;
       listed = c.in-Ok-keep.ensures.stored;
-      known = known;
+      may = may;
       found = λ honest.
           let found : IsFound form stored (drop c.args.found.now.place (g.D.Disk.state c.args.disk.now).read) c.args.found.now.place tree c.in-Some.section.end =
           rw c.in-Some.is at (c.in-Ok.ensures.next honest) in

@@ -57,6 +57,7 @@ invariant_of-self g c =
     let at = c.self.inside in
     let next = next_of _ _ OpenGate c.self.view_is c.requires in
     record {
+      written = c.self.invariant.written;
       inside = search rules;
       low = search rules;
       set = c.self.invariant.set;

@@ -7,6 +7,7 @@ pub invariant_of-result : goal.invariant_of-result
 invariant_of-result g c =
     let state = g.D.Disk.state c.args.disk in
     record {
+      written = c.requires.version;
       inside = λ honest. let kept = c.requires.kept honest in omega (arith, rest_inside c.args.form kept.0 c.args.place state kept.1.rest);
       low = search rules;
       set = c.requires.set;

@@ -41,6 +41,7 @@ invariant_of-self g c =
     let pushed : c.push.new.self.items ≡ stored ++ at.source ∷ [] = search rules in
     let next = next_of _ _ SyncGate c.self.view_is c.requires in
     record {
+      written = c.self.invariant.written;
       inside = search rules;
       low = search rules;
       set = subst (IsSetOf (stops_of at.form.table) c.insert.new.self) (sym pushed) (c.insert.ensures (stops_of at.form.table) stored c.self.invariant.set);

@@ -1,13 +1,16 @@
-use Rattle.std.proofs.Common.{rules, inl, ◌≡◌, ◌↔◌, Bool, IsTrue, not, true, false, ◌+◌, ◌<◌, arith, ℕ, List, length, sym, ◌∙◌, ap, subst}
+use Rattle.std.proofs.Common.{rules, inl, ◌≡◌, ◌↔◌, Bool, IsTrue, not, true, false, ◌+◌, ◌<◌, arith, ℕ, List, length, sym, ◌∙◌, ap, subst, ◌≤◌}
 use Rattle.std.proofs.lemmas.Bool.{false≢true}
 use Rattle.disk_model.specs.Disk.{WriteFailed, after_write}
 use Rattle.disk_model.proofs.Moments.{write_moments, grew}
 use Rattle.timetable.specs.Table.{Table, IsTable, stops_of}
 use Rattle.pattern_tree.specs.Content.{Content}
 use Rattle.section_store.specs.Fault.{limit}
-use Rattle.section_store.specs.Sections.{Form, IsSections, IsBeforeOrAfter, IsNew, MayStand}
+use Rattle.section_store.specs.Sections.{Form, stop_width, IsSections, IsBeforeOrAfter, IsNew, MayStand}
 use Rattle.section_store.specs.Sources.{IsSetOf}
 use Rattle.section_store.specs.Stages.{IsFile}
+use Rattle.section_store.specs.Store.{AreBody}
+use Rattle.section_store.specs.Versions.{width_of}
+use Rattle.timetable.specs.Widths.{byte_count}
 use Rattle.section_store.specs.declared.step.Step.TheVariants.{WriteBody, SyncBody}
 use Rattle.section_store.proofs.Outcomes.{body_crash, rest_stands}
 use Rattle.section_store.proofs.Stages.{may_of, large, fits, wrote, kept_by, body_file, written_inside}
@@ -29,8 +32,8 @@ module _ (form : Form) (tree : Content) (stored : List ℕ) (marked : Bool) (sto
   old_by : marked ≡ true → IsNew tree.source stored → ⊥
   old_by is new = false≢true (sym (ap not is) ∙ told_here.1 (subst (λ (n : ℕ). IsNew n stored) (sym source) new))
 
-few : (table : Table) → IsTable table → stops_of table < 65_536
-few table is = omega (arith, is.few_stops)
+few : (table : Table) → IsTable table → stops_of table ≤ 1_000_000
+few table is = is.few_stops
 
 pub returns-then-contains-clause-cause : goal.returns-then-contains-clause-cause
 returns-then-contains-clause-cause g c =
@@ -81,7 +84,9 @@ returns-then-self-ge-LIMIT-clause-cause g c =
     new_by form tree stored c.contains.result c.source.result may c.source.ensures (c.contains.ensures.new (stops_of form.table) stored c.self.invariant.set) c.if-contains.false in
     let ready : at.next ≡ WriteBody = search rules in
     let table : IsTable form.table = search rules in
-    let body = c.in-Ok.ensures (stops_of form.table) (few form.table table) may.within in
+    let width : 4 ≡ stop_width form = ap (λ v. byte_count (width_of v)) (sym c.self.invariant.written) in
+    let body : AreBody (stop_width form) (stops_of form.table) tree c.fill_body.new.body.items =
+    subst (λ (w : ℕ). AreBody w (stops_of form.table) tree c.fill_body.new.body.items) width (c.in-Ok.ensures (stops_of form.table) (few form.table table) may.within) in
     let bytes = c.fill_body.new.body.items in
     let size : c.len-extent.result ≡ length bytes = search rules in
     let over : limit < at.place + 1 + length bytes = elim c.then-self-ge-LIMIT.branch [
@@ -100,7 +105,9 @@ returns-in-Ok-write_at-clause-body g c =
     let new : IsNew tree.source stored =
     new_by form tree stored c.contains.result c.source.result may c.source.ensures (c.contains.ensures.new (stops_of form.table) stored c.self.invariant.set) c.if-contains.false in
     let table : IsTable form.table = search rules in
-    let body = c.in-Ok.ensures (stops_of form.table) (few form.table table) may.within in
+    let width : 4 ≡ stop_width form = ap (λ v. byte_count (width_of v)) (sym c.self.invariant.written) in
+    let body : AreBody (stop_width form) (stops_of form.table) tree c.fill_body.new.body.items =
+    subst (λ (w : ℕ). AreBody w (stops_of form.table) tree c.fill_body.new.body.items) width (c.in-Ok.ensures (stops_of form.table) (few form.table table) may.within) in
     let size : c.len-extent.result ≡ length c.fill_body.new.body.items = search rules in
     rw (← c.self.view_is) (λ trees honest holds. wrote form tree c.fill_body.new.body.items body trees at.place c.len-extent.result stored c.deref-2.result.now (g.D.Disk.state at.disk) (g.D.Disk.state c.write_at.new.self)
     holds may new size c.deref-2.ensures.value (c.in-Ok-write_at.ensures.written honest))
@@ -136,7 +143,9 @@ returns-in-Ok-write_at-clause-cause g c =
     new_by form tree stored c.contains.result c.source.result may c.source.ensures (c.contains.ensures.new (stops_of form.table) stored c.self.invariant.set) c.if-contains.false in
     let ready : at.next ≡ WriteBody = search rules in
     let table : IsTable form.table = search rules in
-    let body = c.in-Ok.ensures (stops_of form.table) (few form.table table) may.within in
+    let width : 4 ≡ stop_width form = ap (λ v. byte_count (width_of v)) (sym c.self.invariant.written) in
+    let body : AreBody (stop_width form) (stops_of form.table) tree c.fill_body.new.body.items =
+    subst (λ (w : ℕ). AreBody w (stops_of form.table) tree c.fill_body.new.body.items) width (c.in-Ok.ensures (stops_of form.table) (few form.table table) may.within) in
     let size : c.len-extent.result ≡ length c.fill_body.new.body.items = search rules in
     let within = fits form tree c.fill_body.new.body.items body at.place (omega (arith, size, c.if-self-ge-LIMIT.false, c.if-self-extent.false)) in
     rw (← c.self.view_is) (ready, may, new, within, c.in-Ok-write_at.ensures.counted)
@@ -152,7 +161,9 @@ returns-in-Err-clause-cause g c =
     new_by form tree stored c.contains.result c.source.result may c.source.ensures (c.contains.ensures.new (stops_of form.table) stored c.self.invariant.set) c.if-contains.false in
     let ready : at.next ≡ WriteBody = search rules in
     let table : IsTable form.table = search rules in
-    let body = c.in-Ok.ensures (stops_of form.table) (few form.table table) may.within in
+    let width : 4 ≡ stop_width form = ap (λ v. byte_count (width_of v)) (sym c.self.invariant.written) in
+    let body : AreBody (stop_width form) (stops_of form.table) tree c.fill_body.new.body.items =
+    subst (λ (w : ℕ). AreBody w (stops_of form.table) tree c.fill_body.new.body.items) width (c.in-Ok.ensures (stops_of form.table) (few form.table table) may.within) in
     let size : c.len-extent.result ≡ length c.fill_body.new.body.items = search rules in
     let within = fits form tree c.fill_body.new.body.items body at.place (omega (arith, size, c.if-self-ge-LIMIT.false, c.if-self-extent.false)) in
     rw (← c.self.view_is) (ready, may, new, within, grew _ _ c.in-Err.ensures.counted)
@@ -198,10 +209,13 @@ invariant_of-self-in-Ok-write_at g c =
     new_by form tree stored c.contains.result c.source.result may c.source.ensures (c.contains.ensures.new (stops_of form.table) stored c.self.invariant.set) c.if-contains.false in
     let ready : at.next ≡ WriteBody = search rules in
     let table : IsTable form.table = search rules in
-    let body = c.in-Ok.ensures (stops_of form.table) (few form.table table) may.within in
+    let width : 4 ≡ stop_width form = ap (λ v. byte_count (width_of v)) (sym c.self.invariant.written) in
+    let body : AreBody (stop_width form) (stops_of form.table) tree c.fill_body.new.body.items =
+    subst (λ (w : ℕ). AreBody w (stops_of form.table) tree c.fill_body.new.body.items) width (c.in-Ok.ensures (stops_of form.table) (few form.table table) may.within) in
     let size : c.len-extent.result ≡ length c.fill_body.new.body.items = search rules in
     let same : c.reserve.new.self.items ≡ stored = search rules in
     record {
+      written = c.self.invariant.written;
       inside = λ after.
           let honest = c.write_at.ensures.honest.1 after in
           written_inside at.place c.len-extent.result c.deref-2.result.now (g.D.Disk.state at.disk) (g.D.Disk.state c.write_at.new.self)
@@ -228,7 +242,9 @@ returns-in-Ok-write_at-clause-written g c =
     let stored = at.stored.items in
     let may : MayStand form tree = may_of _ _ tree c.self.view_is c.requires.may in
     let table : IsTable form.table = search rules in
-    let body = c.in-Ok.ensures (stops_of form.table) (few form.table table) may.within in
+    let width : 4 ≡ stop_width form = ap (λ v. byte_count (width_of v)) (sym c.self.invariant.written) in
+    let body : AreBody (stop_width form) (stops_of form.table) tree c.fill_body.new.body.items =
+    subst (λ (w : ℕ). AreBody w (stops_of form.table) tree c.fill_body.new.body.items) width (c.in-Ok.ensures (stops_of form.table) (few form.table table) may.within) in
     let size : c.len-extent.result ≡ length c.fill_body.new.body.items = search rules in
     rw (← c.self.view_is) (λ honest. record {
       bytes = c.fill_body.new.body.items;
@@ -245,7 +261,9 @@ returns-in-Err-clause-written g c =
     let stored = at.stored.items in
     let may : MayStand form tree = may_of _ _ tree c.self.view_is c.requires.may in
     let table : IsTable form.table = search rules in
-    let body = c.in-Ok.ensures (stops_of form.table) (few form.table table) may.within in
+    let width : 4 ≡ stop_width form = ap (λ v. byte_count (width_of v)) (sym c.self.invariant.written) in
+    let body : AreBody (stop_width form) (stops_of form.table) tree c.fill_body.new.body.items =
+    subst (λ (w : ℕ). AreBody w (stops_of form.table) tree c.fill_body.new.body.items) width (c.in-Ok.ensures (stops_of form.table) (few form.table table) may.within) in
     rw (← c.self.view_is) (λ honest is. record {
       bytes = c.fill_body.new.body.items;
       body = body;
