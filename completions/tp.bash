@@ -19,13 +19,20 @@ _tp() {
             mapfile -t COMPREPLY < <(compgen -f -- "$word")
             return
             ;;
+        --to)
+            if [[ $command = migrate ]]; then
+                compopt -o filenames
+                mapfile -t COMPREPLY < <(compgen -f -- "$word")
+            fi
+            return
+            ;;
         --format) choices="lines json geojson" ;;
         --days) choices="1 2 3 4 5 6 7 8 9 10 11 12 13 14" ;;
         --rides) choices="1 2 3 4 5 6 7 8" ;;
-        --date | --on | --from | --to | --at | --zone | --default-walk | --workers) return ;;
+        --date | --on | --from | --at | --zone | --default-walk | --workers) return ;;
         *)
             case $command in
-                "") choices="check stops direct scan build list ask serve audit help --help --version" ;;
+                "") choices="check stops direct scan build list ask serve audit migrate help --help --version" ;;
                 check) choices="--feed --help" ;;
                 stops) choices="--feed --all --help" ;;
                 direct) choices="--feed --date --from --to --at --format --days --zone --rides --default-walk --help" ;;
@@ -38,7 +45,8 @@ _tp() {
                     ;;
                 serve) choices="--feed --date --store --workers --format --days --zone --rides --default-walk --help" ;;
                 audit) choices="--feed --date --store --from --all --workers --progress --days --zone --rides --default-walk --help" ;;
-                help) choices="check stops direct scan build list ask serve audit help" ;;
+                migrate) choices="--feed --date --store --to --days --zone --rides --default-walk --help" ;;
+                help) choices="check stops direct scan build list ask serve audit migrate help" ;;
             esac
             ;;
     esac

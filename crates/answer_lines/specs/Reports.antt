@@ -16,6 +16,10 @@ id_line front id = front ++ (shown id ++ 10 ∷ [])
 abbrev pub count_line : ℕ → ℕ → List ℕ
 count_line stored of = codes "stored " ++ (decimal stored ++ (codes " of " ++ (decimal of ++ 10 ∷ [])))
 
+-- all of so many trees were taken over
+abbrev pub migrated_line : ℕ → List ℕ
+migrated_line count = codes "migrated " ++ (decimal count ++ (codes " of " ++ (decimal count ++ 10 ∷ [])))
+
 -- the lines of a report, each with its end
 abbrev pub report_text : Report → List ℕ
 report_text (reports.Stored ids) = flat_map (λ id. id_line [] id.now) ids.items
@@ -23,6 +27,7 @@ report_text (reports.Built built) =
     count_line built.stored built.of ++ flat_map (λ id. id_line (codes "missing ") id.now) built.missing.items
 report_text (reports.Audited audit) = audit_line audit
 report_text (reports.AuditedAll audits) = flat_map audit_line audits.items
+report_text (reports.Migrated count) = migrated_line count
 
 -- 3 if some stop has no tree
 abbrev pub status_by : {X : Type 0} → List X → ℕ
@@ -37,3 +42,4 @@ report_status (reports.Stored ids) = 0
 report_status (reports.Built built) = built_status built
 report_status (reports.Audited audit) = audit_status audit
 report_status (reports.AuditedAll audits) = audits_status audits.items
+report_status (reports.Migrated count) = 0

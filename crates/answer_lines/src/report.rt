@@ -32,6 +32,11 @@ pub enum Report<'a> {
     Audited(Audit<'a>),
     /// What the audits of all stored trees came to, in the order in which the trees were stored: one a line.
     AuditedAll(Vec<Audit<'a>>),
+    /// What a migration came to: `migrated N of N`.
+    Migrated {
+        /// How many trees the old store has, and the new one too.
+        count: usize,
+    },
 }
 
 impl Built<'_> {
@@ -44,12 +49,12 @@ impl Built<'_> {
 }
 
 impl<'a> Report<'a> {
-    /// The ids that the report lists: an audit is no list of ids.
+    /// The ids that the report lists: an audit is no list of ids, nor is a migration.
     pub fn stops(&self) -> &[&'a str] {
         match self {
             Report::Stored(ids) => ids.as_slice(),
             Report::Built(built) => built.missing.as_slice(),
-            Report::Audited(_) | Report::AuditedAll(_) => &[],
+            Report::Audited(_) | Report::AuditedAll(_) | Report::Migrated { .. } => &[],
         }
     }
 
@@ -62,6 +67,7 @@ impl<'a> Report<'a> {
             Report::Built(built) => built.status(),
             Report::Audited(audit) => audit.status(),
             Report::AuditedAll(audits) => { if has_difference(audits) { 5 } else { 0 } }
+            Report::Migrated { .. } => 0,
         }
     }
 }
@@ -84,6 +90,7 @@ impl fmt::Display for Report<'_> {
             }
             Report::Audited(audit) => writeln!(f, "{audit}"),
             Report::AuditedAll(audits) => write_audits(f, audits),
+            Report::Migrated { count } => writeln!(f, "migrated {count} of {count}"),
         }
     }
 }

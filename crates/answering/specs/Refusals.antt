@@ -49,4 +49,7 @@ IsUnanswered stops Missing table moment question (faults.Store f) = ⊥
 IsUnanswered stops Missing table moment question faults.GateDamaged = ⊥
 IsUnanswered stops Missing table moment question faults.StoreInUse = ⊥
 IsUnanswered stops Missing table moment question faults.PutFailed = ⊥
+IsUnanswered stops Missing table moment question (faults.Migration side f) = ⊥
+IsUnanswered stops Missing table moment question faults.OtherList = ⊥
+IsUnanswered stops Missing table moment question faults.FileTooLarge = ⊥
 IsUnanswered stops Missing table moment question faults.TooLarge = ⊥

@@ -4,8 +4,8 @@ ghost use Rattle.std.specs.Prelude.{◌≡◌, codes, false, IfOk, IfErr, IsOkAn
 ghost use Rattle.clap.specs.Words.{app_of, rule_of, kind_of, subcommand_of, subcommand_rows_of, fault_of, with_subcommand, FailsBy};
 ghost use Rattle.clap.specs.declared.error.kind.ErrorKind.TheVariants.{OutOfMemory};
 ghost use Rattle.clap.specs.declared.builder.command.Command.TheViews.{out-Command as fields_of};
-ghost use Rattle.command_grammar.specs.CommandLine.{ask_app, audit_app, build_app, building_app, check_app, journey_app, list_app, program_app};
-ghost use Rattle.command_grammar.specs.CommandLine.{ranged_rule, scan_app, serve_app, stops_app, store_app, text_rule};
+ghost use Rattle.command_grammar.specs.CommandLine.{ask_app, audit_app, build_app, building_app, check_app, journey_app, list_app};
+ghost use Rattle.command_grammar.specs.CommandLine.{migrate_app, program_app, ranged_rule, scan_app, serve_app, stops_app, store_app, text_rule};
 
 use clap::builder::ValueParser;
 use clap::{Arg, ArgMatches, Command, Error};
@@ -24,7 +24,8 @@ With --format json, direct, scan, list, ask and serve print JSON. With --format 
 but direct print GeoJSON for a map.
 
 A fault is a line on standard error: its code and its name, and for a fault of the feed the file and
-the row. Row 0 is the header or the whole file. The faults are:
+the row. Row 0 is the header or the whole file. For a file of migrate, old or new stands before the
+code. The faults are:
   F1 MissingFile       DIR lacks the file: unpack a zipped feed first
   F2 MissingColumn     the header lacks a column that the file must have
   F3 BadField          the row has a text that its column doesn't take
@@ -46,6 +47,9 @@ the row. Row 0 is the header or the whole file. The faults are:
   Z3 OtherRides        FILE was built with another --rides
   Z4 Damaged           FILE is damaged from that section on: delete it and build again
   Z5 Device            FILE can't be made, read or written, or another process has it open
+  Z7 OldVersion        FILE is a store of the version before: take it over by migrate
+  M1 OtherList         the trees of NEW aren't the first ones of OLD: name another file
+  P2 TooLarge          NEW would be too large with one more tree: what was stored before stands
   P3 Device            FILE can't be written any more: what was stored before stands
   Q1 UnknownStop       no stop has that stop_id; only ask and serve take a station's as well
   Q2 NotCovered        the time isn't within the covered days
@@ -159,6 +163,19 @@ const AUDITORS: &str = "With --all: how many trees are compared at once, 1 to 64
 
 const AUDIT_PROGRESS: &str =
     "With --all: report how far it is, also if standard error is no terminal";
+
+const MIGRATE: &str = "Takes the trees of a store of the version before over into a new file";
+
+const MIGRATE_MORE: &str = "\
+It stores the trees of OLD in NEW, in the same order and in the form of this version. OLD is only read.
+The options are those of its build. It prints `migrated N of N`: how many trees OLD has. It may be
+stopped at any moment, and the same command goes on: NEW may have the first trees of OLD, and no others.
+
+Example: tp migrate --feed demo/feed-m --date 20240102 --store old.store --to new.store";
+
+const OLD_STORE: &str = "The file of the version before, which is only read";
+
+const NEW_STORE: &str = "The file of this version, which is made if it isn't there";
 
 const STORE: &str = "The file of the stored trees, which is made if it isn't there";
 
@@ -360,6 +377,18 @@ fn audit<'a>(alloc: Global) -> Result<Command<'a>, Error>
     Ok(command.override_usage(AUDIT_USAGE))
 }
 
+// The command that takes over a store of the version before.
+fn migrate<'a>(alloc: Global) -> Result<Command<'a>, Error>
+    ensures shape { IfOk result (λ c. app_of c ≡ migrate_app) }
+    ensures local { IfOk result (λ c. (fields_of c).has_globals ≡ false) }
+    ensures err { IfErr result (λ e. kind_of e ≡ OutOfMemory) }
+{
+    let command = common(alloc, "migrate", MIGRATE)?
+        .arg(required(alloc, "store", "OLD", OLD_STORE))?
+        .arg(required(alloc, "to", "NEW", NEW_STORE))?;
+    Ok(command.after_help(MIGRATE_MORE))
+}
+
 // The program with one more command, if that could be made.
 fn with_command<'a>(
     program: Command<'a>,
@@ -392,6 +421,7 @@ fn program<'a>(alloc: Global) -> Result<Command<'a>, Error>
     let program = with_command(program, ask(alloc))?;
     let program = with_command(program, serve(alloc))?;
     let program = with_command(program, audit(alloc))?;
+    let program = with_command(program, migrate(alloc))?;
     Ok(program)
 }
 

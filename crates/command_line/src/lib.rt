@@ -5,6 +5,7 @@ mod asked_workers;
 mod audited;
 mod format;
 mod job;
+mod migrated;
 mod question;
 mod unread;
 mod words;

@@ -31,3 +31,8 @@ report_found (Ok r) found Right Wrong is right =
     subst (λ (f : Result Found Fault). MatchResult f (FindsReport Right) Wrong) (sym is) (r, refl, right)
 report_found (Err fault) found Right Wrong is wrong =
     subst (λ (f : Result Found Fault). MatchResult f (FindsReport Right) Wrong) (sym is) wrong
+
+pub report_refused : (report : Result Report Fault) (found : Result Found Fault) (Q : Fault → Type 0) → found ≡ found_by (λ r. founds.Report r) report
+    → IfErr report Q → IfErr found Q
+report_refused (Ok r) found Q is h = subst (λ (f : Result Found Fault). IfErr f Q) (sym is) tt
+report_refused (Err fault) found Q is h = subst (λ (f : Result Found Fault). IfErr f Q) (sym is) h

@@ -34,6 +34,11 @@ WhyUnused form bytes fault =
     ⊎ (((fault ≡ faults.GateDamaged) × (¬ CanOpen form bytes) × IsNamedBehindGate bytes)
     ⊎ ((fault ≡ faults.Store Device) ⊎ (fault ≡ faults.Memory)))
 
+-- the fault is one of a file, or memory ran out
+abbrev pub IsOfFile : Fault → Type 0
+IsOfFile fault =
+    (fault ≡ faults.Store NotAStore) ⊎ ((fault ≡ faults.GateDamaged) ⊎ ((fault ≡ faults.Store Device) ⊎ (fault ≡ faults.Memory)))
+
 -- The file was opened as a disk, and isn't used, for this fault. It reads as before, whatever a crash leaves of it.
 pub record IsUnused {D : Type 0} (v : SystemView D) (form : Form) (path : List ℕ) (fault : Fault) (disk : Option D) : Type 0 where
   pub first : D
@@ -43,6 +48,7 @@ pub record IsUnused {D : Type 0} (v : SystemView D) (form : Form) (path : List �
   pub honest : v.honest first ↔ v.honest last
   pub same : v.honest first → v.state last ≡ v.state first
   pub why : v.honest first → WhyUnused form (v.state first).read fault
+  pub kind : IsOfFile fault
   pub counted : OnlyFailing (v.failures first) (v.failures last) fault
 
 -- the file wasn't opened as a disk, for this fault

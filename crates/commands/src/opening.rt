@@ -27,6 +27,25 @@ fn file_fault<'a>(fault: FileFault) -> Fault<'a>
     }
 }
 
+/// How the file of a store is opened.
+#[derive(Clone, Copy)]
+pub enum Access {
+    /// It is made if it isn't there. To read only, it may be opened beside others that read.
+    Made { only_reads: bool },
+    /// It is there, and is only read.
+    There,
+}
+
+// Opens the file as a disk.
+fn open_disk<S: System>(system: &S, path: &str, access: Access) -> Result<S::Store, FileFault>
+    ensures { (S.world system.now).opens path.now result }
+{
+    match access {
+        Access::Made { only_reads } => system.open_store(path, only_reads),
+        Access::There => system.open_to_read(path),
+    }
+}
+
 /// The file of a store, and what it is for: the timetable of the basis, and journeys of at most `rides` rides.
 #[derive(Clone, Copy)]
 pub struct StoreFile<'a> {
@@ -48,7 +67,7 @@ pub fn open_ready<S: System>(
     alloc: Global,
     system: &S,
     file: &StoreFile<'_>,
-    only_reads: bool,
+    access: Access,
 ) -> Result<Ready<S::Store>, (Fault<'static>, Option<S::Store>)>
     ensures ready { IfOk result (λ ready. IsReady (view_of (S.world system.now) S.Store.honest S.Store.state S.Store.failures
         (telling_of S.Teller.tells S.Teller.reports S.Teller.finds S.Teller.replies S.Teller.faults S.Teller.nears))
@@ -57,7 +76,7 @@ pub fn open_ready<S: System>(
         (telling_of S.Teller.tells S.Teller.reports S.Teller.finds S.Teller.replies S.Teller.faults S.Teller.nears))
         (form_over file.now.basis.now file.now.rides) file.now.path.now e.0 e.1) }
 {
-    let mut disk = match system.open_store(file.path, only_reads) {
+    let mut disk = match open_disk(system, file.path, access) {
         Ok(disk) => disk,
         Err(fault) => return Err((file_fault(fault), None)),
     };

@@ -7,7 +7,7 @@ ghost use Rattle.commands.specs.World.{view_of};
 ghost use Rattle.printing.specs.Finished.{streams_of};
 ghost use Rattle.tellers.specs.Tellings.{telling_of};
 
-use crate::opening::{Ready, StoreFile, open_ready, say_new};
+use crate::opening::{Access, Ready, StoreFile, open_ready, say_new};
 use crate::replies::FormatReplies;
 use crate::running::Ended;
 use crate::served::tell_serving;
@@ -47,7 +47,12 @@ fn serve_by<S: System, R: ReplyTeller, I: BufRead, O: Write + Drop, E: Write + D
 {
     let teller = system.teller();
     let Streams { out, mut err } = streams;
-    match open_ready(alloc, system, &site.file, false) {
+    match open_ready(
+        alloc,
+        system,
+        &site.file,
+        Access::Made { only_reads: false },
+    ) {
         Err((fault, store)) => {
             let status = tell_fault(alloc, &teller, voice, &fault, &mut err);
             Ended {

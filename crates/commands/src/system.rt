@@ -60,4 +60,8 @@ pub trait System {
     /// Opens the file of a store. To read only, it may be opened beside others that read.
     fn open_store(&self, path: &str, only_reads: bool) -> Result<Self::Store, FileFault>
         ensures { (world self.now).opens path.now result };
+
+    /// Opens the file of a store to read it, beside others that read. A file that isn't there isn't made: that is `Failed`.
+    fn open_to_read(&self, path: &str) -> Result<Self::Store, FileFault>
+        ensures { (world self.now).opens path.now result };
 }

@@ -10,6 +10,13 @@ use Rattle.faults.specs.declared.fault.Fault.{Fault}
 use Rattle.faults.specs.declared.fault.Fault.TheVariants as fault
 use Rattle.faults.specs.declared.advice.TheConstants.{BAD_DATE, BAD_RANGE, BAD_TIME, DAMAGED, DEVICE, GATE_DAMAGED, IN_USE, NOT_A_STORE}
 use Rattle.faults.specs.declared.advice.TheConstants.{NOT_COVERED, NOT_STORED, NO_RANDOMNESS, OTHER_RIDES, OTHER_TIMETABLE, PUT_FAILED}
+use Rattle.faults.specs.declared.advice.TheConstants.{OLD_VERSION}
+use Rattle.faults.specs.declared.migrating.Side.{Side}
+use Rattle.faults.specs.declared.migrating.Side.TheVariants as sides
+use Rattle.faults.specs.declared.migrating.StoreFault.{StoreFault}
+use Rattle.faults.specs.declared.migrating.StoreFault.TheVariants as files
+use Rattle.faults.specs.declared.migrating.TheConstants.{FILE_TOO_LARGE, MIGRATED_RIDES, MIGRATED_TIMETABLE, NEW_DAMAGED, NEW_NOT_A_STORE}
+use Rattle.faults.specs.declared.migrating.TheConstants.{NEW_OLD_VERSION, OLD_DEVICE, OLD_NOT_A_STORE, OTHER_LIST}
 
 -- of the faults of the covered days, a range that can't be covered has advice
 abbrev pub days_advice : DayFault → Option (List ℕ)
@@ -22,10 +29,40 @@ days_advice days.Memory = None
 abbrev pub store_advice : RecoverFault → Option (List ℕ)
 store_advice stores.Memory = None
 store_advice stores.NotAStore = Some NOT_A_STORE.now
+store_advice stores.OldVersion = Some OLD_VERSION.now
 store_advice stores.OtherTimetable = Some OTHER_TIMETABLE.now
 store_advice stores.OtherRides = Some OTHER_RIDES.now
 store_advice (stores.Damaged number) = Some DAMAGED.now
 store_advice stores.Device = Some DEVICE.now
+
+-- each fault of the file of a migration that is only read has
+abbrev pub old_advice : RecoverFault → Option (List ℕ)
+old_advice stores.NotAStore = Some OLD_NOT_A_STORE.now
+old_advice stores.OldVersion = None
+old_advice stores.OtherTimetable = Some MIGRATED_TIMETABLE.now
+old_advice stores.OtherRides = Some MIGRATED_RIDES.now
+old_advice (stores.Damaged number) = Some DAMAGED.now
+old_advice stores.Device = Some OLD_DEVICE.now
+old_advice stores.Memory = None
+
+-- and each of the file that is written
+abbrev pub new_advice : RecoverFault → Option (List ℕ)
+new_advice stores.NotAStore = Some NEW_NOT_A_STORE.now
+new_advice stores.OldVersion = Some NEW_OLD_VERSION.now
+new_advice stores.OtherTimetable = Some MIGRATED_TIMETABLE.now
+new_advice stores.OtherRides = Some MIGRATED_RIDES.now
+new_advice (stores.Damaged number) = Some NEW_DAMAGED.now
+new_advice stores.Device = Some DEVICE.now
+new_advice stores.Memory = None
+
+abbrev pub side_advice : Side → RecoverFault → Option (List ℕ)
+side_advice sides.Old f = old_advice f
+side_advice sides.New f = new_advice f
+
+abbrev pub migration_advice : Side → StoreFault → Option (List ℕ)
+migration_advice side (files.Recover f) = side_advice side f
+migration_advice side files.GateDamaged = Some GATE_DAMAGED.now
+migration_advice side files.InUse = Some IN_USE.now
 
 -- of the refusals of a question, a moment that isn't covered has advice, and a stop whose tree the store lacks
 abbrev pub question_advice : Refusal → Option (List ℕ)
@@ -44,6 +81,9 @@ advice_of (fault.Store f) = store_advice f
 advice_of fault.GateDamaged = Some GATE_DAMAGED.now
 advice_of fault.StoreInUse = Some IN_USE.now
 advice_of fault.PutFailed = Some PUT_FAILED.now
+advice_of (fault.Migration side f) = migration_advice side f
+advice_of fault.OtherList = Some OTHER_LIST.now
+advice_of fault.FileTooLarge = Some FILE_TOO_LARGE.now
 advice_of (fault.Question refusal) = question_advice refusal
 advice_of fault.TooLarge = None
 advice_of fault.Memory = None

@@ -11,6 +11,8 @@ use Rattle.recovery.specs.declared.fault.RecoverFault.{RecoverFault}
 use Rattle.recovery.specs.declared.fault.RecoverFault.TheVariants as stores
 use Rattle.faults.specs.declared.fault.Fault.{Fault}
 use Rattle.faults.specs.declared.fault.Fault.TheVariants as fault
+use Rattle.faults.specs.declared.migrating.Side.{Side}
+use Rattle.faults.specs.declared.migrating.StoreFault.TheVariants as files
 
 abbrev pub status_of : Fault → ℕ
 status_of fault.BadDate = 2
@@ -22,6 +24,9 @@ status_of (fault.Store f) = 4
 status_of fault.GateDamaged = 4
 status_of fault.StoreInUse = 4
 status_of fault.PutFailed = 4
+status_of (fault.Migration side f) = 4
+status_of fault.OtherList = 4
+status_of fault.FileTooLarge = 4
 status_of (fault.Question refusal) = 6
 status_of fault.TooLarge = 3
 status_of fault.Memory = 7
@@ -58,7 +63,25 @@ of_tree trees.Memory = fault.Memory
 abbrev pub of_store : RecoverFault → Fault
 of_store stores.Memory = fault.Memory
 of_store stores.NotAStore = fault.Store stores.NotAStore
+of_store stores.OldVersion = fault.Store stores.OldVersion
 of_store stores.OtherTimetable = fault.Store stores.OtherTimetable
 of_store stores.OtherRides = fault.Store stores.OtherRides
 of_store (stores.Damaged number) = fault.Store (stores.Damaged number)
 of_store stores.Device = fault.Store stores.Device
+
+-- that of one of the two files of a migration: want of memory is nobody's
+abbrev pub of_migrated : Side → RecoverFault → Fault
+of_migrated side stores.Memory = fault.Memory
+of_migrated side stores.NotAStore = fault.Migration side (files.Recover stores.NotAStore)
+of_migrated side stores.OldVersion = fault.Migration side (files.Recover stores.OldVersion)
+of_migrated side stores.OtherTimetable = fault.Migration side (files.Recover stores.OtherTimetable)
+of_migrated side stores.OtherRides = fault.Migration side (files.Recover stores.OtherRides)
+of_migrated side (stores.Damaged number) = fault.Migration side (files.Recover (stores.Damaged number))
+of_migrated side stores.Device = fault.Migration side (files.Recover stores.Device)
+
+-- a fault of a store's file, if it is one of the two of a migration; any other is as it was
+abbrev pub in_migration : Side → Fault → Fault
+in_migration side (fault.Store f) = fault.Migration side (files.Recover f)
+in_migration side fault.GateDamaged = fault.Migration side files.GateDamaged
+in_migration side fault.StoreInUse = fault.Migration side files.InUse
+in_migration side other = other

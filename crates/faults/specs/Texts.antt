@@ -12,6 +12,10 @@ use Rattle.recovery.specs.declared.fault.RecoverFault.{RecoverFault}
 use Rattle.recovery.specs.declared.fault.RecoverFault.TheVariants as stores
 use Rattle.faults.specs.declared.fault.Fault.{Fault}
 use Rattle.faults.specs.declared.fault.Fault.TheVariants as fault
+use Rattle.faults.specs.declared.migrating.Side.{Side}
+use Rattle.faults.specs.declared.migrating.Side.TheVariants as sides
+use Rattle.faults.specs.declared.migrating.StoreFault.{StoreFault}
+use Rattle.faults.specs.declared.migrating.StoreFault.TheVariants as of_files
 use Rattle.pattern_query.specs.Refusals.{refusal_text}
 
 abbrev pub kind_text : FaultKind → List ℕ
@@ -49,11 +53,25 @@ days_text days.Memory = codes "S4 Memory"
 
 abbrev pub store_text : RecoverFault → List ℕ
 store_text stores.NotAStore = codes "Z1 NotAStore"
+store_text stores.OldVersion = codes "Z7 OldVersion"
 store_text stores.OtherTimetable = codes "Z2 OtherTimetable"
 store_text stores.OtherRides = codes "Z3 OtherRides"
 store_text (stores.Damaged number) = codes "Z4 Damaged " ++ decimal number
 store_text stores.Device = codes "Z5 Device"
 store_text stores.Memory = codes "Z6 Memory"
+
+-- of the two files of a migration, it is said before the code which one it is
+abbrev pub side_text : Side → List ℕ
+side_text sides.Old = codes "old "
+side_text sides.New = codes "new "
+
+abbrev pub store_fault_text : StoreFault → List ℕ
+store_fault_text (of_files.Recover f) = store_text f
+store_fault_text of_files.GateDamaged = codes "Z1 NotAStore"
+store_fault_text of_files.InUse = codes "Z5 Device"
+
+abbrev pub migration_text : Side → StoreFault → List ℕ
+migration_text side f = side_text side ++ store_fault_text f
 
 -- a store whose first byte is damaged is none, and one that another process has open is a device that refuses
 abbrev pub fault_text : Fault → List ℕ
@@ -66,6 +84,9 @@ fault_text (fault.Store f) = store_text f
 fault_text fault.GateDamaged = codes "Z1 NotAStore"
 fault_text fault.StoreInUse = codes "Z5 Device"
 fault_text fault.PutFailed = codes "P3 Device"
+fault_text (fault.Migration side f) = migration_text side f
+fault_text fault.OtherList = codes "M1 OtherList"
+fault_text fault.FileTooLarge = codes "P2 TooLarge"
 fault_text (fault.Question refusal) = refusal_text refusal
 fault_text fault.TooLarge = codes "N1 TooLarge"
 fault_text fault.Memory = codes "Memory"

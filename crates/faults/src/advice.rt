@@ -4,6 +4,7 @@ ghost use Rattle.std.specs.Prelude.{◌≡◌, option_map};
 ghost use Rattle.faults.specs.Advice.{advice_of, days_advice, question_advice, store_advice};
 
 use crate::fault::Fault;
+use crate::migrating::{FILE_TOO_LARGE, OTHER_LIST, migration_advice};
 use pattern_query::Refusal;
 use recovery::RecoverFault;
 use service_days::DayFault;
@@ -20,6 +21,9 @@ pub const NO_RANDOMNESS: &str =
 
 pub const NOT_A_STORE: &str =
     "The file is no store of this program, and was left as it is: name another with --store, or remove it if you don't need it.";
+
+pub const OLD_VERSION: &str =
+    "The store is of the version before: `tp migrate --store OLD --to NEW`, with the same options, takes its trees over into a new file.";
 
 pub const GATE_DAMAGED: &str =
     "The file is a store whose first byte is damaged, and was left as it is: put the byte A5 (hexadecimal) back there, or delete the file \
@@ -65,6 +69,7 @@ fn store_advice(fault: &RecoverFault) -> Option<&'static str>
 {
     match fault {
         RecoverFault::NotAStore => Some(NOT_A_STORE),
+        RecoverFault::OldVersion => Some(OLD_VERSION),
         RecoverFault::OtherTimetable => Some(OTHER_TIMETABLE),
         RecoverFault::OtherRides => Some(OTHER_RIDES),
         RecoverFault::Damaged(_) => Some(DAMAGED),
@@ -97,6 +102,9 @@ pub(crate) fn advice_of(fault: &Fault<'_>) -> Option<&'static str>
         Fault::GateDamaged => Some(GATE_DAMAGED),
         Fault::StoreInUse => Some(IN_USE),
         Fault::PutFailed => Some(PUT_FAILED),
+        Fault::Migration(side, fault) => migration_advice(*side, fault),
+        Fault::OtherList => Some(OTHER_LIST),
+        Fault::FileTooLarge => Some(FILE_TOO_LARGE),
         Fault::Question(refusal) => question_advice(refusal),
         _ => None,
     }

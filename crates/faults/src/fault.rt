@@ -6,6 +6,7 @@ ghost use Rattle.faults.specs.Faults.{status_of};
 ghost use Rattle.faults.specs.Texts.{fault_text};
 
 use crate::advice::advice_of;
+use crate::migrating::{Side, StoreFault};
 use crate::texts::write_fault;
 use gtfs_tables::{FaultKind, FeedFault};
 use pattern_query::Refusal;
@@ -33,6 +34,12 @@ pub enum Fault<'a> {
     StoreInUse,
     /// The device failed while a tree was put into the store.
     PutFailed,
+    /// One of the two files of a migration isn't used.
+    Migration(Side, StoreFault),
+    /// The new file of a migration has trees that aren't the first ones of the old one.
+    OtherList,
+    /// With one more tree the new file of a migration would pass its limit.
+    FileTooLarge,
     Question(Refusal<'a>),
     TooLarge,
     Memory,
@@ -49,6 +56,7 @@ impl<'a> Fault<'a> {
             Fault::BadDate | Fault::BadTime => 2,
             Fault::TooLarge => 3,
             Fault::Store(_) | Fault::GateDamaged | Fault::StoreInUse | Fault::PutFailed => 4,
+            Fault::Migration(..) | Fault::OtherList | Fault::FileTooLarge => 4,
             Fault::Question(_) => 6,
             Fault::Memory => 7,
         }

@@ -3,9 +3,11 @@
 
 mod advice;
 mod fault;
+mod migrating;
 mod report;
 mod texts;
 
 pub use fault::Fault;
+pub use migrating::{Side, StoreFault, in_migration, of_migrated};
 pub use report::FaultLines;
 pub use texts::file_name;

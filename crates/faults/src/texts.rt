@@ -5,6 +5,7 @@ ghost use Rattle.std.specs.Fmt.{WritesOnOk};
 ghost use Rattle.faults.specs.Texts.{days_text, fault_text, feed_text, file_text, kind_text, store_text};
 
 use crate::fault::Fault;
+use crate::migrating::write_migration;
 use gtfs_tables::{FaultKind, FeedFault, FeedFile};
 use recovery::RecoverFault;
 use service_days::DayFault;
@@ -65,12 +66,16 @@ fn write_feed<W: fmt::Write>(f: &mut fmt::Formatter<W>, fault: &FeedFault) -> fm
     write!(f, "{kind} {file} row {}", fault.row)
 }
 
-// A fault of a store's file.
-fn write_store<W: fmt::Write>(f: &mut fmt::Formatter<W>, fault: &RecoverFault) -> fmt::Result
+/// Writes a fault of a store's file.
+pub(crate) fn write_store<W: fmt::Write>(
+    f: &mut fmt::Formatter<W>,
+    fault: &RecoverFault,
+) -> fmt::Result
     ensures { WritesOnOk W.write_str_gives f.old result (store_text fault.now) f.new }
 {
     match fault {
         RecoverFault::NotAStore => write!(f, "Z1 NotAStore"),
+        RecoverFault::OldVersion => write!(f, "Z7 OldVersion"),
         RecoverFault::OtherTimetable => write!(f, "Z2 OtherTimetable"),
         RecoverFault::OtherRides => write!(f, "Z3 OtherRides"),
         RecoverFault::Damaged(number) => write!(f, "Z4 Damaged {number}"),
@@ -96,6 +101,9 @@ pub(crate) fn write_fault<W: fmt::Write>(
         Fault::GateDamaged => write!(f, "Z1 NotAStore"),
         Fault::StoreInUse => write!(f, "Z5 Device"),
         Fault::PutFailed => write!(f, "P3 Device"),
+        Fault::Migration(side, fault) => write_migration(f, *side, fault),
+        Fault::OtherList => write!(f, "M1 OtherList"),
+        Fault::FileTooLarge => write!(f, "P2 TooLarge"),
         Fault::Question(refusal) => write!(f, "{refusal}"),
         Fault::TooLarge => write!(f, "N1 TooLarge"),
         Fault::Memory => write!(f, "Memory"),

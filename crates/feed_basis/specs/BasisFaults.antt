@@ -34,6 +34,9 @@ IsKeyedFault feed settings first (faults.Store f) = ⊥
 IsKeyedFault feed settings first faults.GateDamaged = ⊥
 IsKeyedFault feed settings first faults.StoreInUse = ⊥
 IsKeyedFault feed settings first faults.PutFailed = ⊥
+IsKeyedFault feed settings first (faults.Migration side f) = ⊥
+IsKeyedFault feed settings first faults.OtherList = ⊥
+IsKeyedFault feed settings first faults.FileTooLarge = ⊥
 
 -- Where the system gave no randomness for hash keys, that is the fault, whatever the feed is.
 abbrev pub IsBasisFault : Bool → Feed → Settings → Date → Fault → Type 0

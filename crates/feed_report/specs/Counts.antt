@@ -54,6 +54,9 @@ IsReadingFault feed (faults.Store f) = ⊥
 IsReadingFault feed faults.GateDamaged = ⊥
 IsReadingFault feed faults.StoreInUse = ⊥
 IsReadingFault feed faults.PutFailed = ⊥
+IsReadingFault feed (faults.Migration side f) = ⊥
+IsReadingFault feed faults.OtherList = ⊥
+IsReadingFault feed faults.FileTooLarge = ⊥
 
 -- where the system gave no randomness for hash keys, that is the fault, whatever the feed is
 abbrev pub IsCheckFault : Bool → Feed → Fault → Type 0

@@ -14,8 +14,12 @@ fn first_word(text: &str) -> &str {
     }
 }
 
-// The code in a fault's text, if it has one, and the name, which comes next.
+// The code in a fault's text, if it has one, and the name, which comes next. Of a migration, the word for one of its files stands before.
 fn words_of(shown: &str) -> (Option<&str>, &str) {
+    let shown = match shown.split_once(' ') {
+        Some(("old" | "new", rest)) => rest,
+        _ => shown,
+    };
     match shown.split_once(' ') {
         Some((code, rest)) => (Some(code), first_word(rest)),
         None => (None, shown),

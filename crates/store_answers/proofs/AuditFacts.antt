@@ -51,11 +51,14 @@ shallow_one form bytes trees tree stands is =
 pub uncompared_fails : (basis : BasisData) (held : ℕ → Option Content) (from : List ℕ) (fault : Fault) (before after : ℕ)
     → IsUncomparedIn basis held from fault → OnlyFailing before after fault
 uncompared_fails basis held from fault before after (inl none) (inl e) = absurd (let t = none.told in cc)
-uncompared_fails basis held from fault before after (inl none) (inr e) = absurd (let t = none.told in cc)
+uncompared_fails basis held from fault before after (inl none) (inr (inl e)) = absurd (let t = none.told in cc)
+uncompared_fails basis held from fault before after (inl none) (inr (inr e)) = absurd (let t = none.told in cc)
 uncompared_fails basis held from fault before after (inr (inl none)) (inl e) = absurd (let t = none.told in cc)
-uncompared_fails basis held from fault before after (inr (inl none)) (inr e) = absurd (let t = none.told in cc)
+uncompared_fails basis held from fault before after (inr (inl none)) (inr (inl e)) = absurd (let t = none.told in cc)
+uncompared_fails basis held from fault before after (inr (inl none)) (inr (inr e)) = absurd (let t = none.told in cc)
 uncompared_fails basis held from fault before after (inr (inr memory)) (inl e) = absurd cc
-uncompared_fails basis held from fault before after (inr (inr memory)) (inr e) = absurd cc
+uncompared_fails basis held from fault before after (inr (inr memory)) (inr (inl e)) = absurd cc
+uncompared_fails basis held from fault before after (inr (inr memory)) (inr (inr e)) = absurd cc
 
 -- what an opened store shows of the stop of an id
 pub record ShowsOne (basis : BasisData) (k : ℕ) (old new : State) (from : List ℕ) (list : List ℕ) (board : List (Option Content)) : Type 0 where

@@ -46,15 +46,23 @@ unopened basis k table old new why fault is cause no_list alone told opening = o
 device_why : (why : RecoverFault) → TellsDevice (of_store why) → why ≡ stores.Device
 device_why stores.Device says = cc
 device_why stores.Memory (inl e) = cc
-device_why stores.Memory (inr e) = cc
+device_why stores.Memory (inr (inl e)) = cc
+device_why stores.Memory (inr (inr e)) = cc
 device_why stores.NotAStore (inl e) = cc
-device_why stores.NotAStore (inr e) = cc
+device_why stores.NotAStore (inr (inl e)) = cc
+device_why stores.NotAStore (inr (inr e)) = cc
+device_why stores.OldVersion (inl e) = cc
+device_why stores.OldVersion (inr (inl e)) = cc
+device_why stores.OldVersion (inr (inr e)) = cc
 device_why stores.OtherTimetable (inl e) = cc
-device_why stores.OtherTimetable (inr e) = cc
+device_why stores.OtherTimetable (inr (inl e)) = cc
+device_why stores.OtherTimetable (inr (inr e)) = cc
 device_why stores.OtherRides (inl e) = cc
-device_why stores.OtherRides (inr e) = cc
+device_why stores.OtherRides (inr (inl e)) = cc
+device_why stores.OtherRides (inr (inr e)) = cc
 device_why (stores.Damaged number) (inl e) = cc
-device_why (stores.Damaged number) (inr e) = cc
+device_why (stores.Damaged number) (inr (inl e)) = cc
+device_why (stores.Damaged number) (inr (inr e)) = cc
 
 pub unopened_fails : (why : RecoverFault) (fault : Fault) (before after : ℕ) → fault ≡ of_store why
     → (why ≡ stores.Device → Grew before after) → OnlyFailing before after fault
@@ -63,7 +71,8 @@ unopened_fails why fault before after told device says = device (device_why why 
 -- want of memory tells of no failed call
 pub memory_fails : (before after : ℕ) → OnlyFailing before after faults.Memory
 memory_fails before after (inl e) = cc
-memory_fails before after (inr e) = cc
+memory_fails before after (inr (inl e)) = cc
+memory_fails before after (inr (inr e)) = cc
 
 -- what is so of each refusal, of the refusal there is
 pub of_refusal : {T E : Type 0} (r : Result T E) (P Q : E → Type 0) → ((e : E) → P e → Q e) → IfErr r P → IfErr r Q

@@ -2,7 +2,7 @@
 use Rattle.std.specs.Prelude.{◌≡◌, ◌⊎◌, ℕ, List, [], map, slice_index_or}
 use Rattle.disk_model.specs.Disk.{State, Grew}
 use Rattle.feed_ids.specs.NameLists.{NameLists}
-use Rattle.section_store.specs.Sections.{Form, form_of}
+use Rattle.section_store.specs.Sections.{Form, form_of, old_form_of}
 use Rattle.recovery.specs.Recovery.{StandsForNoList, IsLeftAlone, IsOutside, CauseOf}
 use Rattle.recovery.specs.declared.fault.RecoverFault.{RecoverFault}
 use Rattle.recovery.specs.declared.fault.RecoverFault.TheVariants.{Device}
@@ -11,10 +11,16 @@ use Rattle.feed_basis.specs.Basis.{BasisData}
 use Rattle.faults.specs.Faults.{of_store}
 use Rattle.faults.specs.declared.fault.Fault.{Fault}
 use Rattle.faults.specs.declared.fault.Fault.TheVariants as faults
+use Rattle.faults.specs.declared.migrating.Side.TheVariants as sides
+use Rattle.faults.specs.declared.migrating.StoreFault.TheVariants as files
 
 -- what a store of trees over the timetable is for, with journeys of at most k rides
 abbrev pub form_over : BasisData → ℕ → Form
 form_over basis k = form_of basis.timetable k
+
+-- and what one of the version before is for
+abbrev pub old_form_over : BasisData → ℕ → Form
+old_form_over basis k = old_form_of basis.timetable k
 
 -- The store isn't opened: its bytes stand for no list, for this cause, and then the file reads as before; or else a call of the disk failed,
 -- or memory ran out. Nothing of it is lost.
@@ -31,9 +37,10 @@ abbrev pub IsUntold : BasisData → ℕ → State → State → Fault → Type 0
 IsUntold basis k old new fault =
     IsUnopened (form_over basis k) old new fault ⊎ ((fault ≡ faults.Memory) × IsOpening (form_over basis k) old new)
 
--- the fault says that a call of the disk failed: as the store was opened, or at a put
+-- the fault says that a call of the disk failed: as the store was opened, or at a put, or as a migration opened the file that it writes
 abbrev pub TellsDevice : Fault → Type 0
-TellsDevice fault = (fault ≡ faults.Store Device) ⊎ (fault ≡ faults.PutFailed)
+TellsDevice fault =
+    (fault ≡ faults.Store Device) ⊎ ((fault ≡ faults.PutFailed) ⊎ (fault ≡ faults.Migration sides.New (files.Recover Device)))
 
 -- such a fault comes only where one more call of the disk failed
 abbrev pub OnlyFailing : ℕ → ℕ → Fault → Type 0

@@ -80,4 +80,8 @@ impl<'r, T: Threads + Wait + Sync> System for HostSystem<'r, T> {
         }
         FileDisk::open(self.rt, path)
     }
+
+    fn open_to_read(&self, path: &str) -> Result<FileDisk, FileFault> {
+        FileDisk::open_to_read(self.rt, path)
+    }
 }

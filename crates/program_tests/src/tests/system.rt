@@ -88,4 +88,8 @@ impl<'t, T: Threads + Wait + Sync> System for FakeSystem<'t, T> {
     fn open_store(&self, _path: &str, _only_reads: bool) -> Result<MemDisk, FileFault> {
         self.store.replace(Err(FileFault::Failed))
     }
+
+    fn open_to_read(&self, _path: &str) -> Result<MemDisk, FileFault> {
+        Err(FileFault::Failed)
+    }
 }

@@ -1,11 +1,10 @@
-use Rattle.std.proofs.Common.{◌≡◌, ⊎_elim, refl, inl, inr, subst}
+use Rattle.std.proofs.Common.{◌≡◌, refl, inl, inr, subst}
 use Rattle.timetable.specs.Table.{Table}
 use Rattle.section_store.specs.Sections.{form_of}
 use Rattle.recovery.specs.Kinds.{IsOfKind}
-use Rattle.recovery.specs.declared.fault.RecoverFault.TheVariants.{Device, NotAStore}
 use Rattle.recovery.specs.declared.kind.FileKind.{FileKind}
 use Rattle.recovery.specs.declared.kind.FileKind.TheVariants.{Foreign}
-use Rattle.faults.specs.declared.fault.Fault.TheVariants as faults
+use Rattle.commands.proofs.FileFacts.{foreign_fails}
 use Rattle.commands.proofs.opening.open_ready.Goals as goal
 
 pub returns-in-Ok-Foreign-clause-kept_out : goal.returns-in-Ok-Foreign-clause-kept_out
@@ -21,5 +20,6 @@ returns-in-Ok-Foreign-clause-kept_out g c = inr (record {
       let kind = subst (λ (t : Table). IsOfKind (form_of t c.args.file.now.rides) read Foreign) c.timetable.ensures.value
       (subst (λ (k : FileKind). IsOfKind (form_of c.timetable.result.now c.args.file.now.rides) read k) c.in-Ok-Foreign.field-0-is (c.in-Ok-Foreign.ensures.kind honest)) in
       inl (refl, kind.0, kind.1);
-  counted = λ device. ⊎_elim (λ (e : faults.Store NotAStore ≡ faults.Store Device). cc) (λ (e : faults.Store NotAStore ≡ faults.PutFailed). cc) device;
+  kind = inl refl;
+  counted = foreign_fails (g.S.Store.Disk.failures c.in-Ok.disk) (g.S.Store.Disk.failures c.file_kind.new.disk);
 })

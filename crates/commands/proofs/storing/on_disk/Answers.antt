@@ -39,3 +39,6 @@ returns-in-Build-clause-found g c = λ honest.
 
 pub returns-in-Audit-clause-found : goal.returns-in-Audit-clause-found
 returns-in-Audit-clause-found g c = λ honest. rw c.in-Audit.is (c.audit_on.ensures.found honest)
+
+pub returns-in-Migrate-clause-found : goal.returns-in-Migrate-clause-found
+returns-in-Migrate-clause-found g c = λ honest. rw c.in-Migrate.is (c.migrate_on.ensures.found honest)

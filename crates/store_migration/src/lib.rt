@@ -1,0 +1,6 @@
+//! The command that takes over the trees of a store of the version before.
+#![tactic(auto)]
+
+mod taken;
+
+pub use taken::take_over;
