@@ -13,7 +13,7 @@ bench_app =
     (number_rule (codes "plain") (codes "100") 0 1_000_000))
     (number_rule (codes "queries") (codes "1000") 0 1_000_000))
     (number_rule (codes "seed") (codes "1") 0 4_294_967_295))
-    (number_rule (codes "sources") (codes "0") 0 65_534))
+    (number_rule (codes "sources") (codes "0") 0 1_000_000))
     (optional_rule (codes "store"))
 
 -- the rows of the words say to measure that

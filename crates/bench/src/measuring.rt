@@ -142,7 +142,7 @@ fn measure_trees(
     let sources = timetable.stops().min(sources as usize);
     let start = now(rt);
     for number in 0..sources {
-        let source = StopId::new(number as u16);
+        let source = StopId::new(number as u32);
         measure_tree(rt, timetable, source, scratch, arena, trees)?;
     }
     tell(rt, "build", sources as u64, start);

@@ -25,12 +25,12 @@ pub struct Question {
 #[derive(Drop)]
 pub struct Questions {
     random: Pcg32,
-    sources: u16,
-    stops: u16,
+    sources: u32,
+    stops: u32,
     ghost any: { 1 ≤ sources },
     ghost within: { sources ≤ stops },
     ghost some: { 2 ≤ stops },
-    ghost few: { stops ≤ 65_534 },
+    ghost few: { stops ≤ 1_000_000 },
 }
 
 impl Questions {
@@ -42,15 +42,15 @@ impl Questions {
     pub fn new(seed: u32, sources: usize, stops: usize) -> Option<Questions>
         ensures sources { IfSome result (λ questions. sources_of questions ≡ sources) }
         ensures stops { IfSome result (λ questions. stops_of questions ≡ stops) }
-        ensures none { IfNone result ((stops < 2) ⊎ (65_534 < stops) ⊎ (sources ≡ 0) ⊎ (stops < sources)) }
+        ensures none { IfNone result ((stops < 2) ⊎ (1_000_000 < stops) ⊎ (sources ≡ 0) ⊎ (stops < sources)) }
     {
-        if stops < 2 || stops > 65_534 || sources == 0 || sources > stops {
+        if stops < 2 || stops > 1_000_000 || sources == 0 || sources > stops {
             return None;
         }
         Some(Questions {
             random: Pcg32::seed_from_u64(u64::from(seed)),
-            sources: sources as u16,
-            stops: stops as u16,
+            sources: sources as u32,
+            stops: stops as u32,
         })
     }
 

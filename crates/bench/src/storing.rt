@@ -83,7 +83,7 @@ fn trees_of(
     let mut trees = Vec::new(alloc);
     let sources = table.stops().min(sources as usize);
     for number in 0..sources {
-        let source = StopId::new(number as u16);
+        let source = StopId::new(number as u32);
         let tree = finish(alloc, table, source, rides, &mut scratch, &mut arena)?;
         trees.push(tree).map_err(AllocError::from)?;
     }

@@ -27,7 +27,7 @@ const QUERIES: &str =
 const SEED: &str = "Where the random numbers begin: the same seed asks the same questions";
 
 const SOURCES: &str =
-    "The trees of how many sources are built and asked, from the first stop on, up to 65534";
+    "The trees of how many sources are built and asked, from the first stop on, up to 1000000";
 
 const STORE: &str = "The file of a store, to which the trees of the sources are put";
 
@@ -60,7 +60,7 @@ fn command<'a>(alloc: Global) -> Result<Command<'a>, Error>
         .arg(number(alloc, "plain", "N", "100", 0, 1_000_000, PLAIN))?
         .arg(number(alloc, "queries", "N", "1000", 0, 1_000_000, QUERIES))?
         .arg(number(alloc, "seed", "S", "1", 0, u32::MAX, SEED))?
-        .arg(number(alloc, "sources", "N", "0", 0, 65_534, SOURCES))?
+        .arg(number(alloc, "sources", "N", "0", 0, 1_000_000, SOURCES))?
         .arg(optional(alloc, "store", "FILE", STORE))?;
     Ok(command)
 }

@@ -20,7 +20,7 @@ pub fn tree(
     alloc: Global,
     table: &Arc<Timetable>,
     k: u8,
-    source: u16,
+    source: u32,
 ) -> Result<Finished, TreeFault>
     requires stops { stops_of (arc_value table.now) ≡ 5 }
     requires source { source < 5 }

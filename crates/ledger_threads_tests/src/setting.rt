@@ -26,7 +26,7 @@ pub fn ledger(alloc: Global, table: &Arc<Timetable>, room: usize) -> Result<Ledg
 }
 
 /// The timetable of so many stops, at which nothing calls.
-pub fn bare_stops(rt: &HostRuntime, stops: u16) -> Result<Arc<Timetable>, Fail> {
+pub fn bare_stops(rt: &HostRuntime, stops: u32) -> Result<Arc<Timetable>, Fail> {
     let mut rows = String::from_str(rt.alloc(), "stop_id\n")?;
     for number in 0..stops {
         writeln!(rows, "S{number}")?;

@@ -146,10 +146,10 @@ fn recovered_from(alloc: Global, sample: &Sample, file: &[u8]) -> Result<Seen, F
     }
 }
 
-/// The opening of the file of all five trees, of 286 bytes.
+/// The opening of the file of all five trees, of 368 bytes.
 pub fn recovered(alloc: Global, sample: &Sample) -> Result<Seen, Fail> {
     let file = file_of(alloc, &sample.header, &TEXTS)?;
-    if file.len() != 286 {
+    if file.len() != 368 {
         return Ok(Seen::Wrong("the file's length"));
     }
     recovered_from(alloc, sample, &file)

@@ -34,7 +34,7 @@ pub struct Sample {
 pub fn tree_of(
     alloc: Global,
     table: &Arc<Timetable>,
-    source: u16,
+    source: u32,
     k: Rides,
 ) -> Result<Finished, Fail>
     requires stops { stops_of (arc_value table.now) ≡ 5 }

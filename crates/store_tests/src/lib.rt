@@ -1,5 +1,5 @@
-//! The tests of a store: what every crash leaves of its file, and what files are opened as, whole, cut short and changed. They stand
-//! apart, since a check of tests that read a feed reads all that reads one.
+//! The tests of a store: what every crash leaves of its file, what files are opened as, whole, cut short and changed, and how files of the
+//! first version are read and migrated. They stand apart, since a check of tests that read a feed reads all that reads one.
 #![tactic(auto)]
 
 #[cfg(test)]

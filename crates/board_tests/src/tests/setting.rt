@@ -17,7 +17,7 @@ use std::test::Fail;
 use timetable::{Rides, StopId, Timetable};
 
 /// The finished tree of a stop.
-pub fn tree(alloc: Global, table: &Arc<Timetable>, source: u16) -> Result<Finished, Fail>
+pub fn tree(alloc: Global, table: &Arc<Timetable>, source: u32) -> Result<Finished, Fail>
     requires stops { stops_of (arc_value table.now) ≡ 5 }
     requires source { source < 5 }
     ensures { IfOk result (λ tree. form_of tree.table tree.rides ≡ form_of (arc_value table.now) 3) }

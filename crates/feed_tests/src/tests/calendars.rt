@@ -6,7 +6,7 @@ use jiff::civil::Date;
 use sample_feed::{Feed, Span, table_of, tables_of};
 use service_days::Cover;
 use std::test::Fail;
-use timetable::Timetable;
+use timetable::{Timetable, Width};
 
 const REPEATED: Feed<'static> = Feed {
     frequencies: Some(
@@ -32,13 +32,20 @@ fn rows_by_trip(rt: HostRuntime) -> Result<(), Fail> {
     Ok(())
 }
 
-// The trip T2 has three instances in place of one, each of 29 bytes.
+// How many bytes the timetable has, by the bytes that the number of a stop takes. The trip T2 has three instances in place of one, each of
+// 29 and of 33 bytes.
+const LENGTHS: [(Width, usize); 2] = [(Width::Two, 198), (Width::Four, 226)];
+
 #[test]
 fn bytes_of_a_trip_that_repeats(rt: HostRuntime) -> Result<(), Fail> {
     let table = table_of(&rt, REPEATED, Span::TUESDAY)?;
     let mut bytes = Vec::new(rt.alloc());
-    table.write_canonical(&mut bytes)?;
-    assert!(rt; table.instances().len() == 5 && bytes.len() == 198);
+    assert_eq!(rt; table.instances().len(), 5);
+    for (width, len) in LENGTHS {
+        bytes.clear();
+        table.write_canonical(width, &mut bytes)?;
+        assert_eq!(rt; bytes.len(), len);
+    }
     Ok(())
 }
 

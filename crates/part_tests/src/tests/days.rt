@@ -5,7 +5,7 @@ use sample_feed::{Feed, Span, demo, table_of};
 use service_days::Cover;
 use std::alloc::{AllocError, Global};
 use std::test::Fail;
-use timetable::Timetable;
+use timetable::{Timetable, Width};
 
 const CENTRAL: &str = "CET-1CEST,M3.5.0,M10.5.0/3";
 
@@ -43,8 +43,9 @@ fn starts_of_days(rt: HostRuntime) -> Result<(), Fail> {
 }
 
 // The sample feed's timetable on a Tuesday: the horizon and the number of stops; the seconds of each change; a walk; and three trips, each
-// with its number, day and number of calls, and for each call the stop, the arrival, the departure, and 3, as one may board and alight.
-const DEMO: [u8; 140] = *b"\x00\x09\x3A\x7F\x00\x05\
+// with its number, day and number of calls, and for each call the stop, the arrival, the departure, and 3, as one may board and alight. The
+// number of a stop takes two bytes here,
+const OLD_DEMO: [u8; 140] = *b"\x00\x09\x3A\x7F\x00\x05\
     \x00\x00\x00\x00\x00\x00\x00\x78\x00\x00\x00\x00\x00\x00\x00\x00\x00\x00\x00\x00\
     \x00\x00\x00\x01\x00\x02\x00\x04\x00\x00\x00\xF0\
     \x00\x00\x00\x03\
@@ -53,13 +54,39 @@ const DEMO: [u8; 140] = *b"\x00\x09\x3A\x7F\x00\x05\
     \x00\x00\x00\x01\x00\x00\x02\x00\x01\x00\x00\x74\x04\x00\x00\x74\x04\x03\x00\x03\x00\x00\x79\xE0\x00\x00\x79\xE0\x03\
     \x00\x00\x00\x02\x00\x00\x02\x00\x00\x00\x00\x71\xAC\x00\x00\x71\xAC\x03\x00\x03\x00\x00\x7E\x90\x00\x00\x7E\x90\x03";
 
-// Whether a copy of the timetable is the same and has these bytes, and another isn't.
+// and four here.
+const DEMO: [u8; 160] = *b"\x00\x09\x3A\x7F\x00\x00\x00\x05\
+    \x00\x00\x00\x00\x00\x00\x00\x78\x00\x00\x00\x00\x00\x00\x00\x00\x00\x00\x00\x00\
+    \x00\x00\x00\x01\x00\x00\x00\x02\x00\x00\x00\x04\x00\x00\x00\xF0\
+    \x00\x00\x00\x03\
+    \x00\x00\x00\x00\x00\x00\x03\x00\x00\x00\x00\x00\x00\x70\x80\x00\x00\x70\x80\x03\
+    \x00\x00\x00\x01\x00\x00\x72\xD8\x00\x00\x73\x50\x03\x00\x00\x00\x02\x00\x00\x77\x88\x00\x00\x77\x88\x03\
+    \x00\x00\x00\x01\x00\x00\x02\x00\x00\x00\x01\x00\x00\x74\x04\x00\x00\x74\x04\x03\
+    \x00\x00\x00\x03\x00\x00\x79\xE0\x00\x00\x79\xE0\x03\
+    \x00\x00\x00\x02\x00\x00\x02\x00\x00\x00\x00\x00\x00\x71\xAC\x00\x00\x71\xAC\x03\
+    \x00\x00\x00\x03\x00\x00\x7E\x90\x00\x00\x7E\x90\x03";
+
+// Whether the timetable has these bytes.
+fn has_bytes(
+    alloc: Global,
+    table: &Timetable,
+    width: Width,
+    wanted: &[u8],
+) -> Result<bool, AllocError> {
+    let mut bytes = Vec::new(alloc);
+    table.write_canonical(width, &mut bytes)?;
+    Ok(bytes.as_slice() == wanted)
+}
+
+// Whether a copy of the timetable is the same and has its bytes, and another isn't.
 fn is_copied(alloc: Global, table: &Timetable, other: &Timetable) -> Result<bool, AllocError> {
     let copy = table.try_copy(alloc)?;
-    let mut bytes = Vec::new(alloc);
-    copy.write_canonical(&mut bytes)?;
-    let has_bytes = bytes.as_slice() == DEMO.as_slice();
-    Ok(copy.is_same(table) && !copy.is_same(other) && has_bytes)
+    Ok(
+        copy.is_same(table)
+            && !copy.is_same(other)
+            && has_bytes(alloc, &copy, Width::Two, &OLD_DEMO)?
+            && has_bytes(alloc, &copy, Width::Four, &DEMO)?,
+    )
 }
 
 // A timetable of one day more is another.

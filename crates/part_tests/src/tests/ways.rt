@@ -40,7 +40,7 @@ fn are_alike_from(
     let mut scratch = Scratch::new(alloc, table, Rides::new(3))?;
     let _ = scratch.run(table, source, 0)?;
     let lines = scratch.run(table, source, depart)?;
-    for number in 0..12_u16 {
+    for number in 0..12_u32 {
         if !are_alike(&plain.view(), &lines, StopId::new(number)) {
             return Ok(false);
         }
@@ -51,7 +51,7 @@ fn are_alike_from(
 #[test]
 fn rounds_by_lines_and_by_trips(rt: HostRuntime) -> Result<(), Fail> {
     let table = town(&rt, 1)?;
-    for source in 0..12_u16 {
+    for source in 0..12_u32 {
         for hour in 6..10_u32 {
             assert!(rt; are_alike_from(rt.alloc(), &table, StopId::new(source), 3_600 * hour)?);
         }
@@ -77,7 +77,7 @@ fn is_kept_alike(
 {
     let plain = plain_rounds(alloc, table, source, depart, Rides::new(3))?;
     let kept = scratch.run_kept(table, depart)?;
-    for number in 0..12_u16 {
+    for number in 0..12_u32 {
         if !are_alike(&plain.view(), &kept, StopId::new(number)) {
             return Ok(false);
         }
@@ -110,7 +110,7 @@ fn rounds_kept_and_by_trips(rt: HostRuntime) -> Result<(), Fail> {
         default_walk: 120,
     };
     let table = town_on(&rt, 3, span)?;
-    for source in 0..12_u16 {
+    for source in 0..12_u32 {
         assert!(rt; are_kept_alike_from(rt.alloc(), &table, StopId::new(source))?);
     }
     Ok(())
@@ -130,7 +130,7 @@ fn is_same_ride(network: &Network, from: StopId, to: StopId, ready: u32) -> bool
 #[test]
 fn rides_by_lines_and_by_trips(rt: HostRuntime) -> Result<(), Fail> {
     let network = Network::of(rt.alloc(), Arc::new(rt.alloc(), town(&rt, 2)?)?)?;
-    for pair in 0..144_u16 {
+    for pair in 0..144_u32 {
         for step in 0..120_u32 {
             let (from, to) = (StopId::new(pair / 12), StopId::new(pair % 12));
             assert!(rt; is_same_ride(&network, from, to, 21_000 + step * 1_000));

@@ -19,16 +19,16 @@ use work_ledger::Outcome;
 pub enum Event {
     Claim(u8),
     HandIn(u8, usize),
-    GiveBack(u8, u16),
+    GiveBack(u8, u32),
     Take,
-    Ack(u16, Outcome),
+    Ack(u32, Outcome),
     Stop,
     WriteBody(bool),
     SyncBody(bool),
     OpenGate(bool),
     SyncGate(bool),
     Publish,
-    Ask(u16, u16, u32),
+    Ask(u32, u32, u32),
     Crash(u64, &'static [u8]),
     Restart,
 }
@@ -56,7 +56,7 @@ pub enum Wanted {
 }
 
 // A stop of the sample feed, or one past its five.
-fn stop(number: u16) -> StopId {
+fn stop(number: u32) -> StopId {
     if number < 5 {
         StopId::new(number)
     } else {

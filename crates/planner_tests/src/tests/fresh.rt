@@ -21,8 +21,8 @@ use timetable::{Rides, Timetable};
 // No tree is stored, and the file has a header and a closed gate alone.
 const FRESH: [(Event, Wanted); 4] = [
     (Event::Ask(0, 3, 28_800), Wanted::NotStored),
-    (Event::Crash(154, &[]), Wanted::Idle),
-    (Event::Crash(155, &[]), Wanted::Crashed),
+    (Event::Crash(174, &[]), Wanted::Idle),
+    (Event::Crash(175, &[]), Wanted::Crashed),
     (Event::Restart, Wanted::Restarted(&[])),
 ];
 

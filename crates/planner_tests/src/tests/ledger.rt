@@ -29,7 +29,7 @@ const GIVEN_BACK: [(Event, Wanted); 22] = [
     (Event::Take, Wanted::Idle),
     (Event::Ack(1, Outcome::Discard), Wanted::Done),
     (Event::Take, Wanted::Closed),
-    (Event::Crash(155, &[]), Wanted::Crashed),
+    (Event::Crash(175, &[]), Wanted::Crashed),
     (Event::GiveBack(0, 1), Wanted::Idle),
     (Event::Stop, Wanted::Idle),
     (Event::Restart, Wanted::Restarted(&[])),

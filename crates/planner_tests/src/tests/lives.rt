@@ -44,27 +44,27 @@ fn first_life(alloc: Global, table: &Arc<Timetable>) -> Result<MemDisk, Fail> {
         if is_cut_off(&life, 2) {
             let life = stopped_life(alloc, table, MemDisk::new(alloc), &orders, n + 2);
             if is_cut_off(&life, 2) && is_front(&life, 0) && receipts_of(&life) == 1 {
-                return crashed(life.disk, 253, &[0xA5]);
+                return crashed(life.disk, 329, &[0xA5]);
             }
         }
     }
     Err(Fail::new("the first life isn't cut off"))
 }
 
-// A and B are recovered, and the life ends within the write of C's section, the first call of C's put. The file is left at 260
+// A and B are recovered, and the life ends within the write of C's section, the first call of C's put. The file is left at 336
 // bytes.
 fn second_life(alloc: Global, table: &Arc<Timetable>) -> Result<MemDisk, Fail> {
     for n in 1..40 {
         let disk = first_life(alloc, table)?;
         let life = stopped_life(alloc, table, disk, &[build(2)], n);
         if is_cut_off(&life, 1) && is_front(&life, 2) {
-            return crashed(life.disk, 260, &[0xA5; 7]);
+            return crashed(life.disk, 336, &[0xA5; 7]);
         }
     }
     Err(Fail::new("the second life isn't cut off"))
 }
 
-// A and B are recovered once more, and C is stored. The file has 264 bytes then, and holds A, B and C.
+// A and B are recovered once more, and C is stored. The file has 342 bytes then, and holds A, B and C.
 #[test]
 fn three_lives(rt: HostRuntime) -> Result<(), Fail> {
     let alloc = rt.alloc();
@@ -74,7 +74,7 @@ fn three_lives(rt: HostRuntime) -> Result<(), Fail> {
     assert!(rt; is_front(&third, 2));
     assert_eq!(rt; third.end, End::Done);
     assert_eq!(rt; receipts_of(&third), 1);
-    assert_eq!(rt; bytes_of(alloc, &mut third.disk)?.len(), 264);
+    assert_eq!(rt; bytes_of(alloc, &mut third.disk)?.len(), 342);
     let last = life_of(alloc, &table, third.disk, &[]);
     assert!(rt; is_front(&last, 3));
     assert_eq!(rt; last.end, End::Done);
@@ -89,7 +89,7 @@ fn old_file(alloc: Global) -> Result<MemDisk, Fail> {
     Ok(disk)
 }
 
-// A store is begun in its place. With A and B it has 253 bytes.
+// A store is begun in its place. With A and B it has 329 bytes.
 #[test]
 fn a_life_of_an_old_file(rt: HostRuntime) -> Result<(), Fail> {
     let alloc = rt.alloc();
@@ -97,6 +97,6 @@ fn a_life_of_an_old_file(rt: HostRuntime) -> Result<(), Fail> {
     let mut life = life_of(alloc, &table, old_file(alloc)?, &[build(0), build(1)]);
     assert!(rt; is_front(&life, 0) && life.end == End::Done);
     assert_eq!(rt; receipts_of(&life), 2);
-    assert_eq!(rt; bytes_of(alloc, &mut life.disk)?.len(), 253);
+    assert_eq!(rt; bytes_of(alloc, &mut life.disk)?.len(), 329);
     Ok(())
 }

@@ -21,7 +21,7 @@ const PUT: [(Event, Wanted); 8] = [
     (Event::WriteBody(false), Wanted::Made),
     (Event::SyncBody(false), Wanted::Made),
     (Event::OpenGate(true), Wanted::Failed),
-    (Event::Crash(216, &[0]), Wanted::Crashed),
+    (Event::Crash(272, &[0]), Wanted::Crashed),
     (Event::Restart, Wanted::Restarted(&[])),
 ];
 

@@ -9,13 +9,13 @@ use std::process::Abort;
 use std::test::Fail;
 use work_ledger::Outcome;
 
-const ANY: [u8; 61] = [0xA5; 61];
+const ANY: [u8; 97] = [0xA5; 97];
 
 const OPEN: [u8; 1] = [0xA5];
 
 const SHUT: [u8; 1] = [0x5A];
 
-// The header ends at 155 bytes, and A's section with the gate behind it at 216: 61 places lie open while it is written.
+// The header ends at 175 bytes, and A's section with the gate behind it at 272: 97 places lie open while it is written.
 const BODY: [(Event, Wanted); 14] = [
     (Event::Claim(0), Wanted::Source(0)),
     (Event::HandIn(1, 0), Wanted::NotYours),
@@ -26,9 +26,9 @@ const BODY: [(Event, Wanted); 14] = [
     (Event::WriteBody(false), Wanted::Made),
     (Event::WriteBody(false), Wanted::Idle),
     (Event::Ack(0, Outcome::Discard), Wanted::Idle),
-    (Event::Crash(217, &ANY), Wanted::Idle),
-    (Event::Crash(216, &OPEN), Wanted::Idle),
-    (Event::Crash(200, &ANY), Wanted::Crashed),
+    (Event::Crash(273, &ANY), Wanted::Idle),
+    (Event::Crash(272, &OPEN), Wanted::Idle),
+    (Event::Crash(230, &ANY), Wanted::Crashed),
     (Event::Claim(0), Wanted::Idle),
     (Event::Restart, Wanted::Restarted(&[])),
 ];
@@ -44,7 +44,7 @@ const GATE: [(Event, Wanted); 14] = [
     (Event::Take, Wanted::Idle),
     (Event::Ack(0, Outcome::Keep), Wanted::Idle),
     (Event::Ask(0, 3, 28_800), Wanted::NotStored),
-    (Event::Crash(216, &OPEN), Wanted::Crashed),
+    (Event::Crash(272, &OPEN), Wanted::Crashed),
     (Event::Restart, Wanted::Restarted(&[0])),
     (Event::Restart, Wanted::Idle),
     (
@@ -62,7 +62,7 @@ const SHUT_GATE: [(Event, Wanted); 17] = [
     (Event::WriteBody(false), Wanted::Made),
     (Event::SyncBody(false), Wanted::Made),
     (Event::OpenGate(false), Wanted::Made),
-    (Event::Crash(216, &SHUT), Wanted::Crashed),
+    (Event::Crash(272, &SHUT), Wanted::Crashed),
     (Event::Restart, Wanted::Restarted(&[])),
     (Event::Claim(0), Wanted::Source(0)),
     (Event::HandIn(0, 0), Wanted::Done),
@@ -70,7 +70,7 @@ const SHUT_GATE: [(Event, Wanted); 17] = [
     (Event::WriteBody(false), Wanted::Made),
     (Event::SyncBody(false), Wanted::Made),
     (Event::OpenGate(true), Wanted::Failed),
-    (Event::Crash(216, &SHUT), Wanted::Crashed),
+    (Event::Crash(272, &SHUT), Wanted::Crashed),
     (Event::Restart, Wanted::Restarted(&[])),
     (Event::Ask(0, 3, 28_800), Wanted::NotStored),
 ];
@@ -95,12 +95,12 @@ const PUT: [(Event, Wanted); 20] = [
     (Event::Take, Wanted::Tree(1)),
     (Event::WriteBody(true), Wanted::Failed),
     (Event::SyncBody(false), Wanted::Idle),
-    (Event::Crash(216, &ANY), Wanted::Crashed),
+    (Event::Crash(272, &ANY), Wanted::Crashed),
     (Event::Restart, Wanted::Restarted(&[0])),
 ];
 
-// B's gate is left open in the midst of its write: it is recovered. The file is left at 260 bytes in the midst of the write of C's
-// section, which isn't found; once C is put the file has 264 bytes.
+// B's gate is left open in the midst of its write: it is recovered. The file is left at 336 bytes in the midst of the write of C's
+// section, which isn't found; once C is put the file has 342 bytes.
 const LIVES: [(Event, Wanted); 35] = [
     (Event::Claim(0), Wanted::Source(0)),
     (Event::HandIn(0, 0), Wanted::Done),
@@ -116,13 +116,13 @@ const LIVES: [(Event, Wanted); 35] = [
     (Event::WriteBody(false), Wanted::Made),
     (Event::SyncBody(false), Wanted::Made),
     (Event::OpenGate(true), Wanted::Failed),
-    (Event::Crash(253, &OPEN), Wanted::Crashed),
+    (Event::Crash(329, &OPEN), Wanted::Crashed),
     (Event::Restart, Wanted::Restarted(&[0, 1])),
     (Event::Claim(0), Wanted::Source(2)),
     (Event::HandIn(0, 2), Wanted::Done),
     (Event::Take, Wanted::Tree(2)),
     (Event::WriteBody(true), Wanted::Failed),
-    (Event::Crash(260, &ANY), Wanted::Crashed),
+    (Event::Crash(336, &ANY), Wanted::Crashed),
     (Event::Restart, Wanted::Restarted(&[0, 1])),
     (Event::Claim(0), Wanted::Source(2)),
     (Event::HandIn(0, 2), Wanted::Done),
@@ -133,8 +133,8 @@ const LIVES: [(Event, Wanted); 35] = [
     (Event::SyncGate(false), Wanted::Receipt(2)),
     (Event::Publish, Wanted::Published),
     (Event::Ask(2, 3, 28_800), Wanted::Answer(&[])),
-    (Event::Crash(263, &ANY), Wanted::Idle),
-    (Event::Crash(264, &[]), Wanted::Crashed),
+    (Event::Crash(341, &ANY), Wanted::Idle),
+    (Event::Crash(342, &[]), Wanted::Crashed),
     (Event::Restart, Wanted::Restarted(&[0, 1, 2])),
     (Event::Ask(0, 3, 28_801), Wanted::Answer(&[(32_400, 1)])),
 ];

@@ -35,36 +35,36 @@ struct Stop {
     found: usize,
 }
 
-// B's section lies behind its gate, at 215, and the file has 253 bytes with it. While it isn't synced, each length from 216 on is
+// B's section lies behind its gate, at 271, and the file has 329 bytes with it. While it isn't synced, each length from 272 on is
 // possible. While its gate isn't synced, it is open after two of five fills.
 const STOPS: [Stop; 9] = [
     Stop {
         calls: &[],
-        place: 216,
+        place: 272,
         crashes: 5,
         found: 0,
     },
     Stop {
         calls: &[Event::WriteBody(true)],
-        place: 216,
-        crashes: 190,
+        place: 272,
+        crashes: 290,
         found: 0,
     },
     Stop {
         calls: &[Event::WriteBody(false)],
-        place: 216,
-        crashes: 190,
+        place: 272,
+        crashes: 290,
         found: 0,
     },
     Stop {
         calls: &[Event::WriteBody(false), Event::SyncBody(true)],
-        place: 216,
-        crashes: 190,
+        place: 272,
+        crashes: 290,
         found: 0,
     },
     Stop {
         calls: &[Event::WriteBody(false), Event::SyncBody(false)],
-        place: 215,
+        place: 271,
         crashes: 5,
         found: 0,
     },
@@ -74,7 +74,7 @@ const STOPS: [Stop; 9] = [
             Event::SyncBody(false),
             Event::OpenGate(true),
         ],
-        place: 215,
+        place: 271,
         crashes: 5,
         found: 2,
     },
@@ -84,7 +84,7 @@ const STOPS: [Stop; 9] = [
             Event::SyncBody(false),
             Event::OpenGate(false),
         ],
-        place: 215,
+        place: 271,
         crashes: 5,
         found: 2,
     },
@@ -95,7 +95,7 @@ const STOPS: [Stop; 9] = [
             Event::OpenGate(false),
             Event::SyncGate(true),
         ],
-        place: 215,
+        place: 271,
         crashes: 5,
         found: 2,
     },
@@ -106,7 +106,7 @@ const STOPS: [Stop; 9] = [
             Event::OpenGate(false),
             Event::SyncGate(false),
         ],
-        place: 215,
+        place: 271,
         crashes: 5,
         found: 5,
     },
@@ -182,7 +182,7 @@ fn counts_of(
 ) -> Result<(usize, usize), Fail> {
     let mut crashes = 0_usize;
     let mut found = 0_usize;
-    for len in 0..=260 {
+    for len in 0..=340 {
         for fill in FILLS {
             let crash = Step::Crash(len, filled(alloc, fill, written)?);
             match found_after(alloc, sample, calls, crash)? {

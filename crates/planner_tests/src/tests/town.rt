@@ -17,16 +17,16 @@ pub fn town_of(rt: &HostRuntime) -> Result<Arc<Timetable>, Fail> {
 }
 
 /// An order to build the tree of a stop.
-pub fn build(number: u16) -> Order
-    requires { number < 65534 }
+pub fn build(number: u32) -> Order
+    requires { number < 1000000 }
 {
     Order::Build(StopId::new(number))
 }
 
 /// A question for the journeys from a stop to a stop.
-pub fn ask(from: u16, to: u16, depart: u32) -> Order
-    requires from { from < 65534 }
-    requires to { to < 65534 }
+pub fn ask(from: u32, to: u32, depart: u32) -> Order
+    requires from { from < 1000000 }
+    requires to { to < 1000000 }
 {
     Order::Ask(StopId::new(from), StopId::new(to), depart)
 }

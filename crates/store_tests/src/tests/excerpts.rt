@@ -11,7 +11,7 @@ use std::test::Fail;
 use timetable::{Rides, StopId};
 
 // The text of B's tree with a byte behind it.
-const LONGER: &[u8] = b"\x00\x01\x00\x00\x00\x00\x00";
+const LONGER: &[u8] = b"\x00\x00\x00\x01\x00\x00\x00\x00\x00";
 
 // What comes of opening the file of these texts for the trees of these stops.
 fn excerpt(

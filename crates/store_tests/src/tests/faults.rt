@@ -1,5 +1,7 @@
-//! How a refused put is told.
+//! How a refused put is told, and a refused migration.
 
+use migration::MigrateFault;
+use recovery::RecoverFault;
 use section_store::PutFault;
 use std::test::Fail;
 
@@ -11,6 +13,28 @@ const TEXTS: [(PutFault, &str); 6] = [
     (PutFault::Memory, "P5 Memory"),
     (PutFault::OtherTimetable, "P6 OtherTimetable"),
 ];
+
+const OF_MIGRATIONS: [(MigrateFault, &str); 5] = [
+    (
+        MigrateFault::Old(RecoverFault::OtherTimetable),
+        "old Z2 OtherTimetable",
+    ),
+    (
+        MigrateFault::New(RecoverFault::Damaged(2)),
+        "new Z4 Damaged 2",
+    ),
+    (MigrateFault::OtherList, "M1 OtherList"),
+    (MigrateFault::Put(PutFault::TooLarge), "P2 TooLarge"),
+    (MigrateFault::Put(PutFault::Device), "P3 Device"),
+];
+
+#[test]
+fn texts_of_faults_of_migrations(rt: HostRuntime) -> Result<(), Fail> {
+    for (fault, wanted) in OF_MIGRATIONS {
+        assert_eq!(rt; fault.to_string(rt.alloc())?.as_str(), wanted);
+    }
+    Ok(())
+}
 
 #[test]
 fn texts_of_faults(rt: HostRuntime) -> Result<(), Fail> {

@@ -61,8 +61,8 @@ fn put_at(alloc: Global, sample: &Sample, place: u64) -> Result<PutFault, Fail> 
     }
 }
 
-// The section has 4 bytes for its length and 56 for its text, and a gate on either side. A file has 2 to the power of 40 bytes at most.
-const LAST: u64 = 1_099_511_627_776 - 62;
+// The section has 4 bytes for its length and 92 for its text, and a gate on either side. A file has 2 to the power of 40 bytes at most.
+const LAST: u64 = 1_099_511_627_776 - 98;
 
 #[test]
 fn a_full_file(rt: HostRuntime) -> Result<(), Fail> {
@@ -72,18 +72,18 @@ fn a_full_file(rt: HostRuntime) -> Result<(), Fail> {
     Ok(())
 }
 
-// At which of its four calls a put of A's tree fails in a new store, whose file has 155 bytes; a length; and how many bytes a crash that
+// At which of its four calls a put of A's tree fails in a new store, whose file has 175 bytes; a length; and how many bytes a crash that
 // leaves it may leave in any way. None: no crash leaves that length.
 const OPEN: [(u64, u64, Option<u64>); 9] = [
-    (1, 154, None),
-    (1, 155, Some(0)),
-    (1, 200, Some(45)),
-    (1, 216, Some(61)),
-    (1, 217, None),
-    (2, 216, Some(61)),
-    (3, 215, None),
-    (3, 216, Some(1)),
-    (4, 216, Some(1)),
+    (1, 174, None),
+    (1, 175, Some(0)),
+    (1, 220, Some(45)),
+    (1, 272, Some(97)),
+    (1, 273, None),
+    (2, 272, Some(97)),
+    (3, 271, None),
+    (3, 272, Some(1)),
+    (4, 272, Some(1)),
 ];
 
 // The disk of a new store whose put of A's tree failed at its n-th call.

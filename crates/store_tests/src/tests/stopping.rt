@@ -13,16 +13,16 @@ use std::test::Fail;
 use timetable::Rides;
 
 // At which of its four calls of the disk a put of B's tree fails, how long a crash leaves the file, which byte stands then wherever
-// any may, and how many trees are found. B's section is written to the bytes from 216 on, the gate before it to 215.
+// any may, and how many trees are found. B's section is written to the bytes from 272 on, the gate before it to 271.
 const STOPS: [(u64, u64, u8, usize); 8] = [
-    (1, 216, 0xA5, 1),
-    (1, 253, 0xA5, 1),
-    (2, 230, 0x00, 1),
-    (2, 253, 0xA5, 1),
-    (3, 253, 0x5A, 1),
-    (3, 253, 0xA5, 2),
-    (4, 253, 0x00, 1),
-    (4, 253, 0xA5, 2),
+    (1, 272, 0xA5, 1),
+    (1, 329, 0xA5, 1),
+    (2, 290, 0x00, 1),
+    (2, 329, 0xA5, 1),
+    (3, 329, 0x5A, 1),
+    (3, 329, 0xA5, 2),
+    (4, 329, 0x00, 1),
+    (4, 329, 0xA5, 2),
 ];
 
 // The disk of a store with A's tree, whose put of B's failed at its n-th call.
@@ -63,7 +63,7 @@ fn found_after(
     len: u64,
     byte: u8,
 ) -> Result<(usize, Vec<u8>), Fail> {
-    match stopped(alloc, sample, call)?.crash(len, &[byte; 38]) {
+    match stopped(alloc, sample, call)?.crash(len, &[byte; 58]) {
         Ok(disk) => finished(alloc, sample, disk),
         Err(_) => Err(Fail::new("no such crash")),
     }

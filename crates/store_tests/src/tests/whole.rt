@@ -17,6 +17,15 @@ const LATER: &str =
     T1,C,3,08:30:00,08:30:00\nT2,B,1,08:15:01,08:15:01\nT2,D,2,08:40:01,08:40:01\nT3,A,1,08:05:00,08:05:00\n\
     T3,D,2,09:00:00,09:00:00\n";
 
+/// The timetable of the sample feed with that trip.
+pub fn later(rt: &HostRuntime) -> Result<Timetable, Fail> {
+    let feed = Feed {
+        stop_times: LATER,
+        ..Feed::SAMPLE
+    };
+    Ok(table_of(rt, feed, Span::TUESDAY)?)
+}
+
 // What a store of the sample feed for three rides is opened as for this timetable and so many rides.
 fn opened_for(rt: &HostRuntime, table: Timetable, rides: Rides) -> Result<Answer, Fail> {
     let alloc = rt.alloc();
@@ -27,13 +36,8 @@ fn opened_for(rt: &HostRuntime, table: Timetable, rides: Rides) -> Result<Answer
 
 #[test]
 fn opened_for_something_else(rt: HostRuntime) -> Result<(), Fail> {
-    let feed = Feed {
-        stop_times: LATER,
-        ..Feed::SAMPLE
-    };
-    let later = table_of(&rt, feed, Span::TUESDAY)?;
     assert_eq!(rt;
-        opened_for(&rt, later, Rides::new(3))?,
+        opened_for(&rt, later(&rt)?, Rides::new(3))?,
         Refused(OtherTimetable)
     );
     assert_eq!(rt;
@@ -49,11 +53,13 @@ fn opened_for_something_else(rt: HostRuntime) -> Result<(), Fail> {
 
 // Of source 2: four rides in a row, (0, 1), (1, 2), (2, 3) and (3, 4), with the end 4.
 const FOUR_RIDES: &[u8] =
-    b"\x00\x02\x00\x00\x00\x01\x00\x00\x00\x01\x00\x00\x00\x00\x00\x01\x00\x01\x00\x02\x00\x00\x00\x00\x00\x01\x00\x02\x00\x03\
-    \x00\x00\x00\x00\x00\x01\x00\x03\x00\x04\x00\x01\x00\x04\x00\x00\x00\x00";
+    b"\x00\x00\x00\x02\x00\x00\x00\x01\x00\x00\x00\x00\x00\x00\x00\x01\x00\x00\x00\x00\x00\x00\x00\x01\
+    \x00\x00\x00\x01\x00\x00\x00\x02\x00\x00\x00\x00\x00\x00\x00\x01\
+    \x00\x00\x00\x02\x00\x00\x00\x03\x00\x00\x00\x00\x00\x00\x00\x01\
+    \x00\x00\x00\x03\x00\x00\x00\x04\x00\x00\x00\x01\x00\x00\x00\x04\x00\x00\x00\x00";
 
 // The text of C's tree with a byte behind it.
-const LONGER: &[u8] = b"\x00\x02\x00\x00\x00\x00\x00";
+const LONGER: &[u8] = b"\x00\x00\x00\x02\x00\x00\x00\x00\x00";
 
 // What these texts, each in an open section, are opened as, for three rides
 const LISTS: [(&[&[u8]], Answer); 8] = [
@@ -70,8 +76,8 @@ const LISTS: [(&[&[u8]], Answer); 8] = [
 // and for four.
 const DEEPER_LISTS: [(&[&[u8]], Answer); 1] = [(&[A, FOUR_RIDES], List(2))];
 
-// Goes over lists.
-fn check_lists(
+/// Goes over lists.
+pub fn check_lists(
     rt: &impl Abort,
     alloc: Global,
     own: &Opening,
@@ -98,18 +104,18 @@ fn deeper_lists(rt: HostRuntime) -> Result<(), Fail> {
 
 // What a file of A's tree is opened as with these bytes in place of those from a place on.
 const PATCHES: [(usize, &[u8], Answer); 5] = [
-    (155, b"\xFF\xFF\xFF\xFF", Refused(Damaged(0))),
-    (155, b"\x02\x80\xDE\x87", Refused(Damaged(0))),
+    (175, b"\xFF\xFF\xFF\xFF", Refused(Damaged(0))),
+    (175, b"\x04\xC4\xB4\x09", Refused(Damaged(0))),
     (10, b"\xFF\xFF\xFF\xFF", Refused(OtherTimetable)),
     (0, b"\x00", Begun),
-    (215, b"\xFF", List(1)),
+    (271, b"\xFF", List(1)),
 ];
 
 // Goes over the patches.
 fn check_patches(rt: &impl Abort, alloc: Global, own: &Opening) -> Result<(), Fail> {
     for (place, bytes, wanted) in PATCHES {
         let mut file = file_of(alloc, &own.header, &[A])?;
-        assert_eq!(rt; file.len(), 216);
+        assert_eq!(rt; file.len(), 272);
         for (to, from) in file.iter_mut().skip(place).zip(bytes) {
             *to = *from;
         }
@@ -128,6 +134,7 @@ fn patches(rt: HostRuntime) -> Result<(), Fail> {
 fn texts_of_faults(rt: HostRuntime) -> Result<(), Fail> {
     let cases = [
         (RecoverFault::NotAStore, "Z1 NotAStore"),
+        (RecoverFault::OldVersion, "Z7 OldVersion"),
         (RecoverFault::OtherTimetable, "Z2 OtherTimetable"),
         (RecoverFault::OtherRides, "Z3 OtherRides"),
         (RecoverFault::Damaged(2), "Z4 Damaged 2"),
