@@ -4,6 +4,7 @@ ghost use Rattle.std.specs.Prelude.{◌<◌, ◌≤◌, ◌+◌, ◌≡◌, leng
 ghost use Rattle.std.specs.Arc.{arc_value};
 ghost use Rattle.timetable.specs.Table.{stops_of};
 ghost use Rattle.section_store.specs.Sections.{form_of};
+ghost use Rattle.section_store.specs.declared.version.Version.TheVariants.{Second};
 
 use crate::tests::tree;
 use disk_model::MemDisk;
@@ -25,6 +26,7 @@ struct Waiting {
     taken: Vec<StopId>,
     acks: Vec<Ack>,
     closed: bool,
+    ghost written: { form.version ≡ Second },
     ghost fewer: { length acks.items ≤ length taken.items },
     ghost room: { vec_len taken + vec_len trees ≤ vec_capacity taken },
     ghost room_for_acks: { vec_capacity taken ≤ vec_capacity acks },
@@ -32,6 +34,7 @@ struct Waiting {
 
 impl Waiting {
     fn new(alloc: Global, form: Form, trees: Vec<Finished>) -> Result<Waiting, AllocError>
+        requires { form.version ≡ Second }
         ensures { IfOk result (λ waiting. waiting.form ≡ form) }
     {
         let taken = Vec::with_capacity(alloc, trees.len())?;
