@@ -45,7 +45,7 @@ _tp() {
                     ;;
                 serve) choices="--feed --date --store --workers --format --days --zone --rides --default-walk --help" ;;
                 audit) choices="--feed --date --store --from --all --workers --progress --days --zone --rides --default-walk --help" ;;
-                migrate) choices="--feed --date --store --to --days --zone --rides --default-walk --help" ;;
+                migrate) choices="--feed --date --store --to --progress --days --zone --rides --default-walk --help" ;;
                 help) choices="check stops direct scan build list ask serve audit migrate help" ;;
             esac
             ;;

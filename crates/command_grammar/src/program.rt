@@ -164,6 +164,9 @@ const AUDITORS: &str = "With --all: how many trees are compared at once, 1 to 64
 const AUDIT_PROGRESS: &str =
     "With --all: report how far it is, also if standard error is no terminal";
 
+const MIGRATE_PROGRESS: &str =
+    "Report how far the migration is, also if standard error is no terminal";
+
 const MIGRATE: &str = "Takes the trees of a store of the version before over into a new file";
 
 const MIGRATE_MORE: &str = "\
@@ -385,7 +388,8 @@ fn migrate<'a>(alloc: Global) -> Result<Command<'a>, Error>
 {
     let command = common(alloc, "migrate", MIGRATE)?
         .arg(required(alloc, "store", "OLD", OLD_STORE))?
-        .arg(required(alloc, "to", "NEW", NEW_STORE))?;
+        .arg(required(alloc, "to", "NEW", NEW_STORE))?
+        .arg(flag(alloc, "progress", MIGRATE_PROGRESS))?;
     Ok(command.after_help(MIGRATE_MORE))
 }
 

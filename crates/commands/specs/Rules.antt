@@ -99,7 +99,7 @@ IsTaskDone v style basis k tasks.List old new found = MatchResult found (FindsRe
 IsTaskDone v style basis k (tasks.Audit whose) old new found = IsAuditDone basis k whose old new found
 IsTaskDone v style basis k (tasks.Build workers progress) old new found =
     MatchResult found (FindsReport (ReportsBuilt (IsBuilt basis k old new))) (IsUnbuilt basis k old new)
-IsTaskDone v style basis k (tasks.Migrate path) old new found = IsMigrated v basis k path.now old new found
+IsTaskDone v style basis k (tasks.Migrate path progress) old new found = IsMigrated v basis k path.now old new found
 
 -- what a feed has, and what else is among the names in its folder; or the feed's fault
 abbrev pub IsChecked : (Names → Type 0) → Bool → Feed → Result Told Fault → Type 0

@@ -23,7 +23,7 @@ told_for (tasks.Ask question legs) fault = fault
 told_for tasks.List fault = fault
 told_for (tasks.Audit whose) fault = fault
 told_for (tasks.Build workers progress) fault = fault
-told_for (tasks.Migrate old) fault = in_migration New fault
+told_for (tasks.Migrate old progress) fault = in_migration New fault
 
 -- there was no file in which the store may be opened, and that is the fault
 pub record IsShutOut {D : Type 0} (v : SystemView D) (form : Form) (path : List ℕ) (task : Task) (found : Result Found Fault) (disk : Option D)

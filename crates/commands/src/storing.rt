@@ -50,13 +50,15 @@ fn audit_on<'a, S: System>(
     }
 }
 
-// Takes the store of the version before, in the file of that path, over to the disk of the file; the disk comes back.
+// Takes the store of the version before, in the file of that path, over to the disk of the file; the disk comes back. `shown` is whether
+// the words ask for reports of progress.
 fn migrate_on<'a, S: System>(
     alloc: Global,
     system: &S,
     file: &StoreFile<'a>,
     disk: S::Store,
     old: &'a str,
+    shown: bool,
 ) -> (Result<Found<'a>, Fault<'a>>, S::Store)
     ensures found { S.Store.honest disk → IsMigrated (view_of (S.world system.now) S.Store.honest S.Store.state S.Store.failures
         (telling_of S.Teller.tells S.Teller.reports S.Teller.finds S.Teller.replies S.Teller.faults S.Teller.nears))
@@ -77,7 +79,8 @@ fn migrate_on<'a, S: System>(
                 disk: source,
                 is_new: _,
             } = ready;
-            let (report, _, disk) = take_over(alloc, basis, rides, source, disk);
+            let mut meter = system.meter(shown);
+            let (report, _, disk) = take_over(alloc, basis, rides, source, disk, &mut meter);
             (found_report(report), disk)
         }
     }
@@ -131,7 +134,7 @@ fn on_disk<'a, S: System>(
             let (report, disk) = build(alloc, system.threads(), &building, disk, &mut meter);
             (found_report(report), disk)
         }
-        Task::Migrate { old } => migrate_on(alloc, system, file, disk, old),
+        Task::Migrate { old, progress } => migrate_on(alloc, system, file, disk, old, *progress),
     }
 }
 

@@ -6,6 +6,7 @@ ghost use Rattle.commands.specs.World.{World};
 
 use disk_model::{Disk, FileFault};
 use gtfs_tables::Files;
+use migration::MigrationProgress;
 use precomputing::Progress;
 use std::alloc::Global;
 use std::hash::RandomState;
@@ -17,7 +18,7 @@ use store_audit::AuditProgress;
 use tellers::Teller;
 
 /// What the program finds on its system: folders of feeds, files of stores, threads and randomness. It also has who makes texts in formats,
-/// and who reports the progress of a build or of the audits of all trees. A call is made at its turn, or not at all.
+/// and who reports the progress of a build, of the audits of all trees or of a migration. A call is made at its turn, or not at all.
 pub trait System {
     /// Reads a file of a feed.
     type Reader: Read + Drop;
@@ -28,8 +29,8 @@ pub trait System {
     /// In which workers build.
     type Threads: Threads + Wait + Sync;
 
-    /// Reports the progress of a build, or of the audits of all trees.
-    type Meter: Progress + AuditProgress + Drop;
+    /// Reports the progress of a build, of the audits of all trees, or of a migration.
+    type Meter: Progress + AuditProgress + MigrationProgress + Drop;
 
     /// Makes the texts of formats.
     type Teller: Teller;

@@ -16,6 +16,7 @@ ghost use Rattle.migration.specs.Migration.{IsRead, Migrates, OneIsTooLarge, Sto
 use crate::comparing::begin_with;
 use crate::fault::MigrateFault;
 use crate::migrated::Migrated;
+use crate::progress::MigrationProgress;
 use disk_model::Disk;
 use pattern_tree::PatternTree;
 use recovery::{RecoverFault, read_v1, recover};
@@ -25,11 +26,12 @@ use std::alloc::Global;
 use std::sync::Arc;
 use timetable::{Rides, Timetable};
 
-// Puts the trees from the one of that number on, in order. Those before it are in the store.
-fn put_rest<E: Disk>(
+// Puts the trees from the one of that number on, in order, and reports how many are in the store. Those before it are there.
+fn put_rest<E: Disk, P: MigrationProgress>(
     store: &mut SectionStore<E>,
     trees: &[PatternTree],
     from: usize,
+    progress: &mut P,
 ) -> Result<(), PutFault>
     requires ready { store.old.next ≡ Step.WriteBody }
     requires within { from ≤ length trees.now }
@@ -56,21 +58,24 @@ fn put_rest<E: Disk>(
 {
     goes_on();
     goes_between();
+    progress.migrated(from, trees.len());
     for i in from..trees.len() {
         store.put_tree(&trees[i])?;
+        progress.migrated(i + 1, trees.len());
     }
     Ok(())
 }
 
 /// Takes over the trees of a store of the version before into a store of the version that is written now: reads the old file, recovers
 /// the new one, which may be fresh or hold a beginning of the old list, and puts the rest in order. Stopped at any moment, it goes on
-/// when it is run again. The old file is only read.
-pub fn migrate<D: Disk, E: Disk>(
+/// when it is run again. The old file is only read. `progress` hears how many trees are taken over, but not that no more come.
+pub fn migrate<D: Disk, E: Disk, P: MigrationProgress>(
     alloc: Global,
     source: D,
     target: E,
     table: &Arc<Timetable>,
     rides: Rides,
+    progress: &mut P,
 ) -> Result<Migrated<D, E>, (MigrateFault, D, E)>
     ensures old { D.honest source → MatchResult result
         (λ m. LeavesOnly (D.state source) (D.state m.source) (IsOutcome (D.state source).now))
@@ -112,7 +117,7 @@ pub fn migrate<D: Disk, E: Disk>(
                             if !begin {
                                 return Err((MigrateFault::OtherList, source, store.into_disk()));
                             }
-                            match put_rest(&mut store, &trees, found.len()) {
+                            match put_rest(&mut store, &trees, found.len(), progress) {
                                 Err(fault) => {
                                     Err((MigrateFault::Put(fault), source, store.into_disk()))
                                 }

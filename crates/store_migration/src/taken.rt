@@ -11,7 +11,7 @@ use answer_lines::Report;
 use disk_model::Disk;
 use faults::{Fault, Side, of_migrated};
 use feed_basis::Basis;
-use migration::{MigrateFault, Migrated, migrate};
+use migration::{MigrateFault, Migrated, MigrationProgress, migrate};
 use section_store::PutFault;
 use std::alloc::Global;
 use timetable::Rides;
@@ -41,17 +41,18 @@ fn of_migration<'a>(fault: MigrateFault) -> Fault<'a>
 }
 
 /// Stores the trees of the old disk's file, which is of the version before, in the file of the new one, in the same order. That file is
-/// recovered, or begun if it is fresh; its trees must be the first ones of the old list. It reports how many there are. Both disks come
-/// back.
+/// recovered, or begun if it is fresh; its trees must be the first ones of the old list. The report says how many there are, and `progress`
+/// hears how many are taken over. Both disks come back.
 ///
 /// Of honest disks: nothing is done to the old one but a sync. Stopped before, within or after any call, the new file stands for a
 /// beginning of the old list; the same command goes on from there.
-pub fn take_over<'a, D: Disk, E: Disk>(
+pub fn take_over<'a, D: Disk, E: Disk, P: MigrationProgress>(
     alloc: Global,
     basis: &'a Basis,
     rides: Rides,
     old: D,
     new: E,
+    progress: &mut P,
 ) -> (Result<Report<'a>, Fault<'a>>, D, E)
     ensures taken { D.honest old → E.honest new → MatchResult result.0
         (IsTakenOver basis.now rides (D.state old) (D.state result.1) (E.state new) (E.state result.2))
@@ -62,7 +63,9 @@ pub fn take_over<'a, D: Disk, E: Disk>(
     ensures honest { D.honest old ↔ D.honest result.1 }
     ensures new_honest { E.honest new ↔ E.honest result.2 }
 {
-    match migrate(alloc, old, new, basis.shared(), rides) {
+    let migrated = migrate(alloc, old, new, basis.shared(), rides, progress);
+    progress.ended();
+    match migrated {
         Ok(migrated) => {
             let Migrated { source, store } = migrated;
             let count = store.stored().len();

@@ -5,6 +5,7 @@ use super::teller::Saying;
 use commands::System;
 use disk_model::{FileFault, MemDisk};
 use gtfs_tables::Files;
+use migration::MigrationProgress;
 use precomputing::Progress;
 use std::alloc::Global;
 use std::cell::Cell;
@@ -14,7 +15,7 @@ use std::sync::Wait;
 use std::thread::Threads;
 use store_audit::AuditProgress;
 
-/// Is told how far a build is, or the audits, and does nothing.
+/// Hears how far a build is, the audits or a migration, and does nothing.
 #[derive(Clone, Copy, Debug)]
 pub struct Deaf;
 
@@ -30,7 +31,13 @@ impl AuditProgress for Deaf {
     fn ended(&mut self) {}
 }
 
-/// One feed in each folder, and one store, whose disk is handed out once.
+impl MigrationProgress for Deaf {
+    fn migrated(&mut self, _migrated: usize, _of: usize) {}
+
+    fn ended(&mut self) {}
+}
+
+/// One feed in each folder, one store, and one file to be read only. The disk of each is handed out once.
 #[derive(Drop)]
 pub struct FakeSystem<'t, T: Threads + Wait + Sync> {
     pub threads: &'t T,
@@ -39,6 +46,7 @@ pub struct FakeSystem<'t, T: Threads + Wait + Sync> {
     /// The file of the feed whose reader fails, if one does.
     pub failure: Failure,
     pub store: Cell<Result<MemDisk, FileFault>>,
+    pub old: Cell<Result<MemDisk, FileFault>>,
 }
 
 impl<'t, T: Threads + Wait + Sync> System for FakeSystem<'t, T> {
@@ -90,6 +98,6 @@ impl<'t, T: Threads + Wait + Sync> System for FakeSystem<'t, T> {
     }
 
     fn open_to_read(&self, _path: &str) -> Result<MemDisk, FileFault> {
-        Err(FileFault::Failed)
+        self.old.replace(Err(FileFault::Failed))
     }
 }

@@ -4,7 +4,7 @@ use super::first;
 use super::first::HEADER;
 use disk_model::{Disk, MemDisk};
 use migration::MigrateFault::{self, New, Old, OtherList};
-use migration::migrate;
+use migration::{MigrationProgress, migrate};
 use recovery::RecoverFault::{Damaged, NotAStore, OldVersion};
 use sample_store::{A, B, C, D, E, Sample, TEXTS, bytes_of, file_of};
 use std::alloc::Global;
@@ -20,12 +20,42 @@ pub fn disk_of(alloc: Global, bytes: &[u8]) -> Result<MemDisk, Fail> {
     Ok(disk)
 }
 
+/// What a migration reported: with how many trees it began, how many of how many there were at last, and how many reports came.
+#[derive(Clone, Copy, Debug, PartialEq, Eq)]
+pub struct Heard {
+    first: Option<usize>,
+    last: usize,
+    of: usize,
+    reports: usize,
+}
+
+const NOTHING: Heard = Heard {
+    first: None,
+    last: 0,
+    of: 0,
+    reports: 0,
+};
+
+impl MigrationProgress for Heard {
+    fn migrated(&mut self, migrated: usize, of: usize) {
+        if self.first.is_none() {
+            self.first = Some(migrated);
+        }
+        self.last = migrated;
+        self.of = of;
+        self.reports = self.reports.saturating_add(1);
+    }
+
+    fn ended(&mut self) {}
+}
+
 /// A migration that has ended: how many trees the new store has, or why it wasn't done; the bytes of the old file, and the new disk.
 #[derive(Drop)]
 pub struct Ended {
     pub stored: Result<usize, MigrateFault>,
     pub old: Vec<u8>,
     pub new: MemDisk,
+    pub heard: Heard,
 }
 
 /// Migrates a file of the first version to a disk.
@@ -36,7 +66,16 @@ pub fn migrated(
     target: MemDisk,
 ) -> Result<Ended, Fail> {
     let source = disk_of(alloc, old)?;
-    let (stored, source, new) = match migrate(alloc, source, target, &sample.table, Rides::new(3)) {
+    let mut heard = NOTHING;
+    let ended = migrate(
+        alloc,
+        source,
+        target,
+        &sample.table,
+        Rides::new(3),
+        &mut heard,
+    );
+    let (stored, source, new) = match ended {
         Ok(done) => {
             let stored = done.store.stored().len();
             (Ok(stored), done.source, done.store.into_disk())
@@ -45,7 +84,12 @@ pub fn migrated(
     };
     let mut source = source;
     let old = bytes_of(alloc, &mut source)?;
-    Ok(Ended { stored, old, new })
+    Ok(Ended {
+        stored,
+        old,
+        new,
+        heard,
+    })
 }
 
 // The tree of A's text without its last node, the ride to D, and that text of the first version.
@@ -85,6 +129,35 @@ fn ends_as(
     let mut ended = migrated(alloc, sample, old, disk_of(alloc, new)?)?;
     let left = bytes_of(alloc, &mut ended.new)?;
     Ok(ended.stored == wanted && ended.old.as_slice() == old && left.as_slice() == after)
+}
+
+// What is reported of a migration to a store with so many trees, of so many.
+fn reported(before: usize, all: usize) -> Heard {
+    Heard {
+        first: Some(before),
+        last: all,
+        of: all,
+        reports: all.saturating_sub(before).saturating_add(1),
+    }
+}
+
+#[test]
+fn reports(rt: HostRuntime) -> Result<(), Fail> {
+    let sample = Sample::new(&rt)?;
+    let old = file_of(rt.alloc(), HEADER, &first::TEXTS)?;
+    let rows: [(&[&[u8]], Heard); 4] = [
+        (&[], reported(0, 5)),
+        (&[A, B], reported(2, 5)),
+        (&TEXTS, reported(5, 5)),
+        (&[B], NOTHING),
+    ];
+    for (texts, wanted) in rows {
+        let new = file_of(rt.alloc(), &sample.header, texts)?;
+        let target = disk_of(rt.alloc(), &new)?;
+        let ended = migrated(rt.alloc(), &sample, &old, target)?;
+        assert_eq!(rt; ended.heard, wanted);
+    }
+    Ok(())
 }
 
 // Goes over the lists.

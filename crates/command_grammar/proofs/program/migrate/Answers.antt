@@ -6,8 +6,11 @@ use Rattle.command_grammar.proofs.program.migrate.Goals as goal
 pub returns-clause-shape : goal.returns-clause-shape
 returns-clause-shape c =
     ap app_of_fields c.after_help.ensures
-    ∙ c.in_ok-command.ensures.shape c.required-2.ensures.local
+    ∙ c.in_ok-command.ensures.shape c.flag.ensures.local
+    ∙ ap₂ with_rule (
+    c.in_ok-arg-2.ensures.shape c.required-2.ensures.local
     ∙ ap₂ with_rule (
     c.in_ok-arg.ensures.shape c.required.ensures.local
     ∙ ap₂ with_rule c.in_ok-common.ensures.shape c.required.ensures.rule)
-    c.required-2.ensures.rule
+    c.required-2.ensures.rule)
+    c.flag.ensures.rule
