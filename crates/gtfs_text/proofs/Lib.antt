@@ -1,3 +1,6 @@
+pub mod PackedLines
+pub mod CommaFacts
+pub mod LineFacts
 pub mod MarkFacts
 pub mod RecordFacts
 pub mod SpaceFacts
@@ -6,3 +9,4 @@ pub mod DigitFacts
 pub mod LawFacts
 pub mod PackedFacts
 pub mod TestFacts
+pub mod PlainBytes

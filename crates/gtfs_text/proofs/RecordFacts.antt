@@ -1,11 +1,15 @@
 -- All the records of a text, as csv reads them one by one.
-use Rattle.std.proofs.Common.{◌≡◌, ℕ, suc, ◌+◌, ◌-◌, ◌<◌, ◌≤◌, true, false, not, List, [], ◌∷◌, ◌++◌, length, map, refl, cond, arith, sym, ◌∙◌, ap, Option, Some, None, zero-add, add-zero, ◌&&◌, IsUtf8}
-use Rattle.std.proofs.lemmas.List.{append-nil, length-map}
+use Rattle.std.proofs.Common.{◌≡◌, ℕ, suc, ◌+◌, ◌-◌, ◌<◌, ◌≤◌, Bool, true, false, not, List, [], ◌∷◌, ◌++◌, length, map, refl, cond, arith, sym, ◌∙◌, ap, Option, Some, None, zero-add, add-zero, ◌&&◌, IsUtf8}
+use Rattle.std.proofs.lemmas.List.{append-nil, length-append, length-map}
 use Rattle.std.specs.List.{list_all, position_from}
 use Rattle.std.specs.Str.{is_utf8}
 use Rattle.std.proofs.lemmas.Str.{is_utf8-from_IsUtf8, IsUtf8-from_is_utf8}
 use Rattle.csv.specs.Records.{AllText}
 use Rattle.gtfs_text.specs.Sheets.{without_spaces, is_text, bad_record, table_of, Explains}
+use Rattle.gtfs_text.specs.Reading.{ExplainsAfter}
+use Rattle.gtfs_text.specs.declared.fault.SheetFault.{SheetFault}
+use Rattle.gtfs_text.specs.declared.fault.SheetFault.TheVariants as faults
+use Rattle.std.specs.Prelude.{option_map}
 use Rattle.gtfs_text.specs.Faults.{fault_at}
 use Rattle.csv.specs.Machine.{Read, step, is_end, ends_at_end, next_record, fields_after, field_after}
 use Rattle.csv.specs.Reading.{records, records_from, Reached, default_config, NextIs, ReadsNext, ExplainsRead, source_of, pending_of}
@@ -151,6 +155,45 @@ fault_explained rem a b (kind.Serialize t) xs y rows ec ex h text why = tt
 fault_explained rem a b (kind.Deserialize pos err) xs y rows ec ex h text why = tt
 fault_explained rem a b kind.OutOfMemory xs y rows ec ex h text why = tt
 
--- packed records are as many as those that they unpack to
-pub same_length : {X : Type 0} (f : X → List (List ℕ)) (xs : List X) (rows : List (List (List ℕ))) → map f xs ≡ table_of rows → length xs ≡ length rows
-same_length f xs rows same = sym (length-map xs f) ∙ ap length same ∙ length-map rows (map without_spaces)
+-- packed records are as many as those before them, and those that they unpack to
+pub length_after : {X : Type 0} (f : X → List (List ℕ)) (xs ys : List X) (rows : List (List (List ℕ))) → map f xs ≡ map f ys ++ table_of rows → length xs ≡ length ys + length rows
+length_after f xs ys rows same =
+    sym (length-map xs f) ∙ ap length same ∙ length-append (map f ys) (table_of rows)
+    ∙ ap (λ (n : ℕ). n + length (table_of rows)) (length-map ys f) ∙ ap (λ (n : ℕ). length ys + n) (length-map rows (map without_spaces))
+
+-- what a fault says of the records after others
+pub fault_after : (k : ErrorKind) (before at : ℕ) (found : List (List (List ℕ))) → Explains found (fault_at at k) → ExplainsAfter before found (fault_at (before + at) k)
+fault_after (kind.Utf8 pos err) before at found why = (at, refl, why)
+fault_after (kind.Io e) before at found why = tt
+fault_after (kind.UnequalLengths pos expected len) before at found why = tt
+fault_after (kind.Serialize t) before at found why = tt
+fault_after (kind.Deserialize pos err) before at found why = tt
+fault_after kind.OutOfMemory before at found why = tt
+
+-- a position is counted on from that of the first
+position_on : (p : List (List ℕ) → Bool) (n i : ℕ) (xs : List (List (List ℕ))) → position_from p (n + i) xs ≡ option_map (λ (at : ℕ). n + at) (position_from p i xs)
+position_on p n i [] = refl
+position_on p n i (x ∷ xs) =
+    elim (p x) as (λ t. cond t (Some (n + i)) (position_from p (n + i + 1) xs) ≡ option_map (λ (at : ℕ). n + at) (cond t (Some i) (position_from p (i + 1) xs)))
+    [ true ↦ refl | false ↦ let e : n + i + 1 ≡ n + (i + 1) = omega arith in rw e (position_on p n (i + 1) xs) ]
+
+-- records of text are passed over
+passed : (rows more : List (List (List ℕ))) (i : ℕ) → list_all is_text rows ≡ true
+    → position_from (λ fields. not (is_text fields)) i (rows ++ more) ≡ position_from (λ fields. not (is_text fields)) (i + length rows) more
+passed [] more i utf8 = rw (add-zero i) refl
+passed (r ∷ rs) more i utf8 =
+    elim (is_text r) as (λ t. (t && list_all is_text rs) ≡ true → cond (not t) (Some i) (position_from (λ fields. not (is_text fields)) (i + 1) (rs ++ more))
+    ≡ position_from (λ fields. not (is_text fields)) (i + suc (length rs)) more)
+    [ true ↦ λ k. let e : i + suc (length rs) ≡ (i + 1) + length rs = omega arith in rw e (passed rs more (i + 1) k) | false ↦ λ k. cc k ] utf8
+
+-- the first that isn't UTF-8 comes after them
+pub bad_after : (rows more : List (List (List ℕ))) → list_all is_text rows ≡ true → bad_record (rows ++ more) ≡ option_map (λ (at : ℕ). length rows + at) (bad_record more)
+bad_after rows more utf8 =
+    let e : 0 + length rows ≡ length rows + 0 = omega arith in
+    passed rows more 0 utf8 ∙ ap (λ (n : ℕ). position_from (λ fields. not (is_text fields)) n more) e ∙ position_on (λ fields. not (is_text fields)) (length rows) 0 more
+
+-- what a fault says of all records
+pub explained_after : (rows more : List (List (List ℕ))) (fault : SheetFault) → list_all is_text rows ≡ true → ExplainsAfter (length rows) more fault → Explains (rows ++ more) fault
+explained_after rows more (faults.BadRecord row) utf8 why =
+    bad_after rows more utf8 ∙ ap (option_map (λ (at : ℕ). length rows + at)) why.2 ∙ ap Some (sym why.1)
+explained_after rows more faults.Memory utf8 why = tt

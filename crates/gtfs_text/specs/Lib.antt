@@ -1,5 +1,6 @@
 pub mod Faults
 pub mod Laws
+pub mod Lines
 pub mod Packed
 pub mod Reading
 pub mod Sheets

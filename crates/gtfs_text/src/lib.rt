@@ -7,6 +7,7 @@
 mod commas;
 mod fault;
 pub mod laws;
+mod lines;
 mod marks;
 mod packed;
 mod records;

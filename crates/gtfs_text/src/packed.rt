@@ -7,6 +7,7 @@ ghost use Rattle.std.specs.Prelude.{◌≡◌, ◌<◌, ◌≤◌, ◌++◌, ◌
 ghost use Rattle.std.specs.List.{list_all, position_from};
 ghost use Rattle.std.specs.Str.{bytes_eq};
 ghost use Rattle.csv.specs.Records.{fields_of};
+ghost use Rattle.gtfs_text.specs.Lines.{between_commas};
 ghost use Rattle.gtfs_text.specs.Packed.{long_length, first_field, next_fields, packed_field, unpacked};
 ghost use Rattle.gtfs_text.specs.Sheets.{is_text, without_spaces};
 
@@ -69,6 +70,22 @@ pub(crate) fn pack(row: &StringRecord, packed: &mut Vec<u8>) -> Result<(), Alloc
             push_field(packed, without_spaces(field).as_bytes())?;
         }
     }
+    Ok(())
+}
+
+/// Packs the fields of a line without quotes, without the spaces round them, in place of what was packed.
+pub(crate) fn pack_line(line: &str, packed: &mut Vec<u8>) -> Result<(), AllocError>
+    ensures fields { OnOk result (unpacked packed.new.items ≡ map without_spaces (between_commas line.now)) }
+    ensures packed_text { OnOk result (is_text (unpacked packed.new.items) ≡ true) }
+    ensures text { OnOk result (is_text (between_commas line.now) ≡ true) }
+{
+    packed.clear();
+    let mut rest = line;
+    'fields: while let Some((field, after)) = rest.split_once(',') {
+        push_field(packed, without_spaces(field).as_bytes())?;
+        rest = after;
+    }
+    push_field(packed, without_spaces(rest).as_bytes())?;
     Ok(())
 }
 
