@@ -13,10 +13,16 @@ use Rattle.command_line.specs.declared.format.Style.{Style}
 use Rattle.command_line.specs.declared.job.Plan.{Plan}
 use Rattle.command_line.specs.declared.unread.Unread.{Unread}
 use Rattle.command_line.specs.declared.unread.Unread.TheVariants as unread
+use Rattle.command_line.specs.declared.unread.Word.{Word}
 
 -- a question is asked
 abbrev pub IsAsked : Option Question → Type 0
 IsAsked asked = (question : Question) × (asked ≡ Some question)
+
+-- the word is this option with this text
+pub record IsWord (word : Word) (option text : Text) : Type 0 where
+  pub option_is : word.option.now ≡ option
+  pub text_is : word.text.now ≡ text
 
 -- the day to leave on is named, and is none
 abbrev pub LacksDay : List Row → Type 0
@@ -26,15 +32,18 @@ LacksDay rows = (text : Text) × HasText rows (codes "on") text × (date_of text
 abbrev pub LacksTime : List Row → Date → Type 0
 LacksTime rows first = ((day : Date) × IsDayOf rows first day) × HasNoTime rows (codes "at")
 
--- the first covered day is none; or else the day to leave on is
-abbrev pub IsBadDate : List Row → Plan → Type 0
-IsBadDate rows plan =
-    (date_of plan.settings.date.now ≡ None)
-    ⊎ (((first : Date) × IsDate plan.settings.date.now first) × IsAsked (question_of plan.command) × LacksDay rows)
+-- the word has the first covered day, which is none; or else the day to leave on, which is
+abbrev pub IsBadDate : Word → List Row → Plan → Type 0
+IsBadDate word rows plan =
+    ((date_of plan.settings.date.now ≡ None) × IsWord word (codes "date") plan.settings.date.now)
+    ⊎ (((first : Date) × IsDate plan.settings.date.now first) × IsAsked (question_of plan.command)
+    × ((lacks : LacksDay rows) × IsWord word (codes "on") lacks.0))
 
--- the days are such, and the time is none
-abbrev pub IsBadTime : List Row → Plan → Type 0
-IsBadTime rows plan = (first : Date) × IsDate plan.settings.date.now first × IsAsked (question_of plan.command) × LacksTime rows first
+-- the days are such, and the word has the time, which is none
+abbrev pub IsBadTime : Word → List Row → Plan → Type 0
+IsBadTime word rows plan =
+    (first : Date) × IsDate plan.settings.date.now first × IsAsked (question_of plan.command)
+    × ((lacks : LacksTime rows first) × IsWord word (codes "at") lacks.1.0)
 
 -- a command's name and rows give a plan whose answer has that style, but for days and times, of which this is the fault
 pub record IsMisread (Fault : List Row → Plan → Type 0) (style : Style) (name : Text) (rows : List Row) : Type 0 where
@@ -48,8 +57,8 @@ IsMisreadIn Fault style None = ⊥
 IsMisreadIn Fault style (Some met) = IsMisread Fault style met.0 met.1
 
 -- The words have no job, and what is to be shown goes with such a status; or clap takes them, and they have a job but for a day that is
--- none, or for a time.
+-- none, or for a time: the word that has it is named.
 abbrev pub IsUnread : Kinds → Option (Text × List Row) → Unread → Type 0
 IsUnread kinds met (unread.Shown status) = IsStatus kinds (NamesNoJob met) status
-IsUnread kinds met (unread.BadDate style) = (kinds ≡ []) × IsMisreadIn IsBadDate style met
-IsUnread kinds met (unread.BadTime style) = (kinds ≡ []) × IsMisreadIn IsBadTime style met
+IsUnread kinds met (unread.BadDate style word) = (kinds ≡ []) × IsMisreadIn (IsBadDate word) style met
+IsUnread kinds met (unread.BadTime style word) = (kinds ≡ []) × IsMisreadIn (IsBadTime word) style met

@@ -5,13 +5,14 @@ use Rattle.clap.specs.Words.{Row, Text}
 use Rattle.options.specs.Values.{HasText}
 use Rattle.question_lines.specs.declared.question.Question.{Question}
 use Rattle.command_line.specs.Jobs.{AreTimes, HasPlaces, IsDayOf, IsJobBy, IsOutline}
-use Rattle.command_line.specs.Misreads.{IsAsked, IsBadDate, IsBadTime, IsMisread, LacksDay, LacksTime}
+use Rattle.command_line.specs.Misreads.{IsAsked, IsBadDate, IsBadTime, IsMisread, IsWord, LacksDay, LacksTime}
 use Rattle.command_line.specs.declared.format.Style.{Style}
 use Rattle.command_line.specs.declared.job.Job.{Job}
 use Rattle.command_line.specs.declared.job.Plan.{Plan}
 use Rattle.command_line.specs.declared.question.Places.{Places}
 use Rattle.command_line.specs.declared.unread.Unread.{Unread}
 use Rattle.command_line.specs.declared.unread.Unread.TheVariants as unread
+use Rattle.command_line.specs.declared.unread.Word.{Word}
 use Rattle.command_line.specs.declared.unread.WordFault.{WordFault}
 use Rattle.command_line.specs.declared.unread.WordFault.TheVariants as faults
 
@@ -50,19 +51,25 @@ IsFaultOf {X} Is asked rows first faults.NoJob = (x : X) → ¬ Is x
 IsFaultOf {X} Is asked rows first faults.BadDate = (x : X) × Is x × IsAsked (asked x) × LacksDayIn rows first
 IsFaultOf {X} Is asked rows first faults.BadTime = (x : X) × Is x × IsAsked (asked x) × LacksTimeIn rows first
 
+-- the word has the first covered day, of this text, if that day is none; else it has the day to leave on
+abbrev pub IsDateWord : List Row → Text → Option Date → Word → Type 0
+IsDateWord rows date None word = IsWord word (codes "date") date
+IsDateWord rows date (Some day) word = (text : Text) → HasText rows (codes "on") text → IsWord word (codes "on") text
+
 -- what words at fault end with, in a style
-abbrev pub unread_of : WordFault → Style → Unread
-unread_of faults.NoJob style = unread.Shown 2
-unread_of faults.BadDate style = unread.BadDate style
-unread_of faults.BadTime style = unread.BadTime style
+abbrev pub IsUnreadOf : List Row → Text → Option Date → Style → WordFault → Unread → Type 0
+IsUnreadOf rows date first style faults.NoJob why = why ≡ unread.Shown 2
+IsUnreadOf rows date first style faults.BadDate why = (word : Word) × (why ≡ unread.BadDate style word) × IsDateWord rows date first word
+IsUnreadOf rows date first style faults.BadTime why =
+    (word : Word) × (why ≡ unread.BadTime style word) × ((text : Text) → HasText rows (codes "at") text → IsWord word (codes "at") text)
 
 -- there is no plan, or no job, or one with such a fault
 abbrev pub IsPlanFault : Text → List Row → Unread → Type 0
 IsPlanFault name rows (unread.Shown status) = (status ≡ 2) × ((plan : Plan) → ¬ IsOutline name rows plan)
-IsPlanFault name rows (unread.BadDate style) = IsMisread IsBadDate style name rows
-IsPlanFault name rows (unread.BadTime style) = IsMisread IsBadTime style name rows
+IsPlanFault name rows (unread.BadDate style word) = IsMisread (IsBadDate word) style name rows
+IsPlanFault name rows (unread.BadTime style word) = IsMisread (IsBadTime word) style name rows
 
 abbrev pub IsJobFault : Text → List Row → Unread → Type 0
 IsJobFault name rows (unread.Shown status) = (status ≡ 2) × ((named : Job) → ¬ IsJobBy (IsOutline name rows) name rows named)
-IsJobFault name rows (unread.BadDate style) = IsMisread IsBadDate style name rows
-IsJobFault name rows (unread.BadTime style) = IsMisread IsBadTime style name rows
+IsJobFault name rows (unread.BadDate style word) = IsMisread (IsBadDate word) style name rows
+IsJobFault name rows (unread.BadTime style word) = IsMisread (IsBadTime word) style name rows

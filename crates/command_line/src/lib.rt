@@ -14,6 +14,6 @@ mod workers;
 pub use audited::Audited;
 pub use format::{Format, Style};
 pub use job::{Command, Job, Plan, Search, Task};
-pub use unread::Unread;
+pub use unread::{Unread, Word};
 pub use words::read_words;
 pub use workers::Workers;

@@ -12,29 +12,29 @@ use Rattle.command_line.specs.declared.job.Job.TheVariants as jobs
 use Rattle.command_line.specs.declared.format.Style.{Style}
 use Rattle.command_line.specs.declared.unread.Unread.{Unread}
 use Rattle.command_line.specs.declared.unread.Unread.TheVariants as unread
+use Rattle.command_line.specs.declared.unread.Word.{Word}
 use Rattle.printing.specs.Finished.{IsFaulted, IsFinished, IsShown, StreamsData}
 use Rattle.printing.specs.declared.fault.Voice.{Voice}
 use Rattle.printing.specs.declared.told.Told.{Told}
 use Rattle.faults.specs.declared.fault.Fault.{Fault}
 use Rattle.faults.specs.declared.fault.Fault.TheVariants.{BadDate, BadTime, Memory}
+use Rattle.tellers.specs.Given.{folder_given, word_given}
 use Rattle.tellers.specs.Tellings.{Telling}
 use Rattle.commands.specs.Rules.{AreStops, IsChecked}
 use Rattle.commands.specs.Runs.{IsPlanRun, voice_of}
 use Rattle.commands.specs.World.{SystemView}
 use denote.Ref.{Bor}
 
--- this fault of the words is said in that style
-pub record IsWordFault (t : Telling) (style : Style) (fault : Fault) (old new : StreamsData) (status : ℕ) : Type 0 where
-  pub voice : Voice
-  pub in_style : voice.style ≡ style
-  pub faulted : IsFaulted t voice fault old new status
+-- in that style, of the word that is at fault
+abbrev pub word_voice : Style → Word → Voice
+word_voice style word = record { style = style; given = word_given word }
 
 -- What comes of words that give no job: a text is shown, help on standard output, a fault of the words on standard error; or the fault of
--- a day or of a time is said.
+-- a day or of a time is said, of the word that has it.
 abbrev pub IsRefused : Telling → Unread → StreamsData → StreamsData → ℕ → Type 0
 IsRefused t (unread.Shown meant) old new status = (text : List ℕ) × IsShown text meant old new status
-IsRefused t (unread.BadDate style) old new status = IsWordFault t style BadDate old new status
-IsRefused t (unread.BadTime style) old new status = IsWordFault t style BadTime old new status
+IsRefused t (unread.BadDate style word) old new status = IsFaulted t (word_voice style word) BadDate old new status
+IsRefused t (unread.BadTime style word) old new status = IsFaulted t (word_voice style word) BadTime old new status
 
 -- the words give no job for this cause: help was asked for, or there is a fault of words, or memory ran out
 pub record IsNoJob (t : Telling) (words : List Text) (old new : StreamsData) (status : ℕ) : Type 0 where
@@ -55,7 +55,7 @@ pub record IsPlainRun {D : Type 0} (v : SystemView D) (voice : Voice) (told : Re
 
 -- as lines, over the feed in that folder
 abbrev pub lines_over : Bor (List ℕ) → Voice
-lines_over feed = record { style = styles.Lines; feed = feed }
+lines_over feed = record { style = styles.Lines; given = folder_given feed }
 
 -- What a job leaves, whatever feed its folder holds. Memory may run out as the files of the feed are opened.
 abbrev pub IsJobRun : {D : Type 0} → SystemView D → Option (List ℕ) → Job → StreamsData → StreamsData → ℕ → Option D → Type 0

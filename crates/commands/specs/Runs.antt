@@ -14,6 +14,7 @@ use Rattle.answering.specs.Answers.{ArePoints, IsDirect}
 use Rattle.printing.specs.Finished.{IsFaulted, StreamsData, streams_of}
 use Rattle.printing.specs.declared.fault.Voice.{Voice}
 use Rattle.streams.specs.Streams.{StreamData}
+use Rattle.tellers.specs.Given.{given_by}
 use Rattle.tellers.specs.Tellings.{tells_legs, tells_reply}
 use Rattle.commands.specs.Feeds.{IsGround}
 use Rattle.commands.specs.Found.{IsFoundPrinted}
@@ -24,7 +25,7 @@ use Rattle.commands.specs.World.{SystemView}
 use Rattle.commands.specs.declared.found.Found.{Found}
 
 abbrev pub voice_of : Plan → Voice
-voice_of plan = record { style = plan.style; feed = plan.settings.feed }
+voice_of plan = record { style = plan.style; given = given_by plan }
 
 -- What a command finds, to be told in a style: at the timetable, which takes no store; or over the file of a store. Standard error of before
 -- and after is last.

@@ -41,7 +41,7 @@ pub fn stops<T: Teller>(
     text: Option<&str>,
     all: bool,
 ) -> Result<Told<'static>, Fault<'static>>
-    ensures { AreStops (telling_of T.tells T.reports T.finds T.replies T.faults T.nears) folder.now
+    ensures { AreStops (telling_of T.tells T.reports T.finds T.replies T.faults T.hints) folder.now
         (unwrap_or (option_map (λ t. t.now) text.entry) []) all result }
 {
     match teller.stops(alloc, folder, text.unwrap_or(""), all) {

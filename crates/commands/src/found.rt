@@ -66,7 +66,7 @@ fn in_format<T: Teller>(
     basis: &Basis,
     found: &Found<'_>,
 ) -> Result<Told<'static>, Fault<'static>>
-    ensures { IsToldIn (telling_of T.tells T.reports T.finds T.replies T.faults T.nears) format basis.now found.now result }
+    ensures { IsToldIn (telling_of T.tells T.reports T.finds T.replies T.faults T.hints) format basis.now found.now result }
 {
     let text = match found {
         Found::Answer(question, answer) => {
@@ -97,7 +97,7 @@ fn told<'a, T: Teller>(
     basis: &Basis,
     found: Result<Found<'a>, Fault<'a>>,
 ) -> Result<Told<'a>, Fault<'a>>
-    ensures { IsTold (telling_of T.tells T.reports T.finds T.replies T.faults T.nears) style basis.now found.entry result }
+    ensures { IsTold (telling_of T.tells T.reports T.finds T.replies T.faults T.hints) style basis.now found.entry result }
 {
     let found = match found {
         Ok(found) => found,
@@ -119,7 +119,7 @@ pub fn finish_found<'a, T: Teller, O: Write + Drop, E: Write + Drop>(
     found: Result<Found<'a>, Fault<'a>>,
     streams: &mut Streams<O, E>,
 ) -> u8
-    ensures { IsFoundPrinted (telling_of T.tells T.reports T.finds T.replies T.faults T.nears) voice.now basis.now found.entry
+    ensures { IsFoundPrinted (telling_of T.tells T.reports T.finds T.replies T.faults T.hints) voice.now basis.now found.entry
         (streams_of streams.old.out streams.old.err) (streams_of streams.new.out streams.new.err) result }
 {
     let told = told(alloc, teller, voice.style, plan, basis, found);

@@ -70,10 +70,10 @@ pub fn open_ready<S: System>(
     access: Access,
 ) -> Result<Ready<S::Store>, (Fault<'static>, Option<S::Store>)>
     ensures ready { IfOk result (λ ready. IsReady (view_of (S.world system.now) S.Store.honest S.Store.state S.Store.failures
-        (telling_of S.Teller.tells S.Teller.reports S.Teller.finds S.Teller.replies S.Teller.faults S.Teller.nears))
+        (telling_of S.Teller.tells S.Teller.reports S.Teller.finds S.Teller.replies S.Teller.faults S.Teller.hints))
         (form_over file.now.basis.now file.now.rides) file.now.path.now ready.disk ready.is_new) }
     ensures kept_out { IfErr result (λ e. IsKeptOut (view_of (S.world system.now) S.Store.honest S.Store.state S.Store.failures
-        (telling_of S.Teller.tells S.Teller.reports S.Teller.finds S.Teller.replies S.Teller.faults S.Teller.nears))
+        (telling_of S.Teller.tells S.Teller.reports S.Teller.finds S.Teller.replies S.Teller.faults S.Teller.hints))
         (form_over file.now.basis.now file.now.rides) file.now.path.now e.0 e.1) }
 {
     let mut disk = match open_disk(system, file.path, access) {

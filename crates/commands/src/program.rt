@@ -1,20 +1,20 @@
 //! The program, from its words to both streams.
 
 ghost use Rattle.std.specs.Prelude.{◌≡◌, map};
-ghost use Rattle.commands.specs.Programs.{IsJobRun, IsPlainRun, IsProgramRun, IsRefused};
+ghost use Rattle.commands.specs.Programs.{IsJobRun, IsPlainRun, IsProgramRun, IsRefused, lines_over, word_voice};
 ghost use Rattle.commands.specs.World.{view_of};
-ghost use Rattle.printing.specs.Finished.{streams_of};
+ghost use Rattle.printing.specs.Finished.{IsFaulted, streams_of};
 ghost use Rattle.tellers.specs.Tellings.{telling_of};
 
 use crate::checking::{check, stops};
 use crate::running::{Ended, run_plan, voice_of};
 use crate::system::System;
-use command_line::{Job, Style, Unread, read_words};
+use command_line::{Job, Style, Unread, Word, read_words};
 use faults::Fault;
 use printing::{Streams, Told, Voice, finish, say_no_memory, show, tell_fault};
 use std::alloc::Global;
 use std::io::{BufRead, Write};
-use tellers::Teller;
+use tellers::{Given, Teller};
 
 // Ends with what is told, or its fault, without a store.
 fn ended<S: System, O: Write + Drop, E: Write + Drop>(
@@ -25,7 +25,7 @@ fn ended<S: System, O: Write + Drop, E: Write + Drop>(
     streams: Streams<O, E>,
 ) -> Ended<S::Store, O, E>
     ensures { IsPlainRun (view_of (S.world system.now) S.Store.honest S.Store.state S.Store.failures
-        (telling_of S.Teller.tells S.Teller.reports S.Teller.finds S.Teller.replies S.Teller.faults S.Teller.nears))
+        (telling_of S.Teller.tells S.Teller.reports S.Teller.finds S.Teller.replies S.Teller.faults S.Teller.hints))
         voice.now told.entry (streams_of streams.out streams.err) (streams_of result.streams.out result.streams.err)
         result.status result.store }
 {
@@ -38,6 +38,16 @@ fn ended<S: System, O: Write + Drop, E: Write + Drop>(
     }
 }
 
+// How a command without days is told: as lines.
+fn lines_over<'a>(feed: &'a str) -> Voice<'a>
+    ensures { result ≡ lines_over feed.entry }
+{
+    Voice {
+        style: Style::Lines,
+        given: Given::folder(feed),
+    }
+}
+
 // Does a job.
 fn run_job<S: System, I: BufRead, O: Write + Drop, E: Write + Drop>(
     alloc: Global,
@@ -47,20 +57,18 @@ fn run_job<S: System, I: BufRead, O: Write + Drop, E: Write + Drop>(
     streams: Streams<O, E>,
 ) -> Ended<S::Store, O, E>
     ensures { IsJobRun (view_of (S.world system.now) S.Store.honest S.Store.state S.Store.failures
-        (telling_of S.Teller.tells S.Teller.reports S.Teller.finds S.Teller.replies S.Teller.faults S.Teller.nears))
+        (telling_of S.Teller.tells S.Teller.reports S.Teller.finds S.Teller.replies S.Teller.faults S.Teller.hints))
         (I.remaining input.old) job.now (streams_of streams.out streams.err) (streams_of result.streams.out result.streams.err)
         result.status result.store }
 {
-    let lines = Voice {
-        style: Style::Lines,
-        feed: job.feed(),
-    };
     match job {
         Job::Stops { feed, text, all } => {
+            let lines = lines_over(feed);
             let told = stops(alloc, &system.teller(), feed, *text, *all);
             ended(alloc, system, &lines, told, streams)
         }
         Job::Check { feed } => {
+            let lines = lines_over(feed);
             let told = match system.open_feed(alloc, feed) {
                 Ok(files) => check(alloc, system, feed, files),
                 Err(_) => Err(Fault::Memory),
@@ -74,35 +82,45 @@ fn run_job<S: System, I: BufRead, O: Write + Drop, E: Write + Drop>(
     }
 }
 
-// How a fault of the words is told in a style: it names no folder.
-fn voice_in(style: Style) -> Voice<'static>
-    ensures { result.style ≡ style }
+// Says a fault of the words in a style, with the word that is at fault. Gives the status.
+fn tell_word<T: Teller, O: Write + Drop, E: Write + Drop>(
+    alloc: Global,
+    teller: &T,
+    style: Style,
+    word: Word<'_>,
+    fault: &Fault<'_>,
+    streams: &mut Streams<O, E>,
+) -> u8
+    ensures { IsFaulted (telling_of T.tells T.reports T.finds T.replies T.faults T.hints) (word_voice style word.entry) fault.now
+        (streams_of streams.old.out streams.old.err) (streams_of streams.new.out streams.new.err) result }
 {
-    Voice { style, feed: "" }
+    let voice = Voice {
+        style,
+        given: Given::word(word),
+    };
+    tell_fault(alloc, teller, &voice, fault, &mut streams.err)
 }
 
 // Shows what is to be shown of words that give no job, or says the fault of a day or a time. Gives the status.
 fn refuse_words<T: Teller, O: Write + Drop, E: Write + Drop>(
     alloc: Global,
     teller: &T,
-    why: Unread,
+    why: Unread<'_>,
     shown: &[u8],
     streams: &mut Streams<O, E>,
 ) -> u8
-    ensures { IsRefused (telling_of T.tells T.reports T.finds T.replies T.faults T.nears) why
+    ensures { IsRefused (telling_of T.tells T.reports T.finds T.replies T.faults T.hints) why.entry
         (streams_of streams.old.out streams.old.err) (streams_of streams.new.out streams.new.err) result }
 {
     match why {
         // What is to be shown of them took memory too.
         Unread::Shown(7) => say_no_memory(&mut streams.err),
         Unread::Shown(status) => show(shown, status, streams),
-        Unread::BadDate(style) => {
-            let voice = voice_in(style);
-            tell_fault(alloc, teller, &voice, &Fault::BadDate, &mut streams.err)
+        Unread::BadDate(style, word) => {
+            tell_word(alloc, teller, style, word, &Fault::BadDate, streams)
         }
-        Unread::BadTime(style) => {
-            let voice = voice_in(style);
-            tell_fault(alloc, teller, &voice, &Fault::BadTime, &mut streams.err)
+        Unread::BadTime(style, word) => {
+            tell_word(alloc, teller, style, word, &Fault::BadTime, streams)
         }
     }
 }
@@ -118,7 +136,7 @@ pub fn run_words<'a, S: System, I: BufRead, O: Write + Drop, E: Write + Drop>(
     streams: Streams<O, E>,
 ) -> Ended<S::Store, O, E>
     ensures { IsProgramRun (view_of (S.world system.now) S.Store.honest S.Store.state S.Store.failures
-        (telling_of S.Teller.tells S.Teller.reports S.Teller.finds S.Teller.replies S.Teller.faults S.Teller.nears))
+        (telling_of S.Teller.tells S.Teller.reports S.Teller.finds S.Teller.replies S.Teller.faults S.Teller.hints))
         (I.remaining input.old) (map (λ word. word.now) words.entry.now)
         (streams_of streams.out streams.err) (streams_of result.streams.out result.streams.err) result.status result.store }
 {

@@ -39,7 +39,7 @@ fn serve_by<S: System, R: ReplyTeller, I: BufRead, O: Write + Drop, E: Write + D
     streams: Streams<O, E>,
 ) -> Ended<S::Store, O, E>
     ensures { IsServedBy (view_of (S.world system.now) S.Store.honest S.Store.state S.Store.failures
-        (telling_of S.Teller.tells S.Teller.reports S.Teller.finds S.Teller.replies S.Teller.faults S.Teller.nears))
+        (telling_of S.Teller.tells S.Teller.reports S.Teller.finds S.Teller.replies S.Teller.faults S.Teller.hints))
         site.now.file.basis.now site.now.file.rides site.now.file.path.now voice.now
         (dialogue_of (λ question reply text. R.tells replies.now site.now.file.basis.now question reply text) (R.tells_legs replies.now)
         (I.remaining input.old))
@@ -94,7 +94,7 @@ pub fn run_serve<S: System, I: BufRead, O: Write + Drop, E: Write + Drop>(
     streams: Streams<O, E>,
 ) -> Ended<S::Store, O, E>
     ensures { IsServed (view_of (S.world system.now) S.Store.honest S.Store.state S.Store.failures
-        (telling_of S.Teller.tells S.Teller.reports S.Teller.finds S.Teller.replies S.Teller.faults S.Teller.nears))
+        (telling_of S.Teller.tells S.Teller.reports S.Teller.finds S.Teller.replies S.Teller.faults S.Teller.hints))
         (I.remaining input.old) plan.now.style voice.now site.now.file.basis.now site.now.file.rides site.now.file.path.now
         (streams_of streams.out streams.err) (streams_of result.streams.out result.streams.err) result.status result.store }
 {

@@ -19,6 +19,7 @@ use gtfs_tables::Files;
 use printing::{Streams, Voice, tell_fault};
 use std::alloc::Global;
 use std::io::{BufRead, Write};
+use tellers::given_by;
 use timetable::Rides;
 
 /// What a run of the program leaves: the status to end with, the disk of the store if it was opened, and both streams.
@@ -35,7 +36,7 @@ pub fn voice_of<'a>(plan: &Plan<'a>) -> Voice<'a>
 {
     Voice {
         style: plan.style,
-        feed: plan.settings.feed,
+        given: given_by(plan),
     }
 }
 
@@ -50,7 +51,7 @@ fn run_search<S: System, O: Write + Drop, E: Write + Drop>(
     streams: Streams<O, E>,
 ) -> Ended<S::Store, O, E>
     ensures { IsFoundRun (view_of (S.world system.now) S.Store.honest S.Store.state S.Store.failures
-        (telling_of S.Teller.tells S.Teller.reports S.Teller.finds S.Teller.replies S.Teller.faults S.Teller.nears))
+        (telling_of S.Teller.tells S.Teller.reports S.Teller.finds S.Teller.replies S.Teller.faults S.Teller.hints))
         plan.now basis.now rides search.now (streams_of streams.out streams.err) (streams_of result.streams.out result.streams.err)
         result.status result.store }
 {
@@ -83,7 +84,7 @@ pub fn run_plan<S: System, I: BufRead, O: Write + Drop, E: Write + Drop>(
 ) -> Ended<S::Store, O, E>
     ensures { (feed : Feed) → AreReaders S.Reader.remaining files feed
         → IsPlanRun (view_of (S.world system.now) S.Store.honest S.Store.state S.Store.failures
-        (telling_of S.Teller.tells S.Teller.reports S.Teller.finds S.Teller.replies S.Teller.faults S.Teller.nears))
+        (telling_of S.Teller.tells S.Teller.reports S.Teller.finds S.Teller.replies S.Teller.faults S.Teller.hints))
         (I.remaining input.old) feed plan.now (streams_of streams.out streams.err) (streams_of result.streams.out result.streams.err)
         result.status result.store }
 {

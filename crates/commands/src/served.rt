@@ -26,7 +26,7 @@ fn tell_built<T: Teller, E: Write + Drop>(
     err: &mut Stream<E>,
 ) -> u8
     ensures status { result ≡ built_status built.now }
-    ensures said { (text : List ℕ) × IsBuiltText (telling_of T.tells T.reports T.finds T.replies T.faults T.nears) voice.now built.now text
+    ensures said { (text : List ℕ) × IsBuiltText (telling_of T.tells T.reports T.finds T.replies T.faults T.hints) voice.now built.now text
         × IsSaid text err.old err.new }
 {
     match built {
@@ -71,7 +71,7 @@ pub fn tell_serving<T: Teller, E: Write + Drop>(
     refused: bool,
     err: &mut Stream<E>,
 ) -> u8
-    ensures { IsServingSaid (telling_of T.tells T.reports T.finds T.replies T.faults T.nears) voice.now served.now refused
+    ensures { IsServingSaid (telling_of T.tells T.reports T.finds T.replies T.faults T.hints) voice.now served.now refused
         err.old err.new result }
 {
     match served {

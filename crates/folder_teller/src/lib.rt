@@ -2,6 +2,7 @@
 #![tactic(auto)]
 
 mod fault;
+mod hints;
 mod replies;
 mod teller;
 mod texts;

@@ -1,6 +1,7 @@
 //! Answers, reports and faults in formats beside lines, with the names that the feed's folder has.
 
 use crate::fault::fault_json;
+use crate::hints::hint;
 use crate::replies::{Lookup, MEMORY_REFUSED, reply_text};
 use crate::texts::{asked_by, itinerary_text, line, stops_text};
 use answer_lines::{Answer, Report};
@@ -16,8 +17,8 @@ use question_lines::Question;
 use serving::Reply;
 use std::alloc::{AllocError, Global};
 use std::{format, slice};
-use stop_search::{list_stops, near_stops};
-use tellers::{Asked, Teller};
+use stop_search::list_stops;
+use tellers::{Asked, Given, Teller};
 use told_names::{NameSheets, Names};
 use zone_clock::Clock;
 
@@ -84,18 +85,6 @@ impl<'r> FolderTeller<'r> {
             None => Ok(None),
         }
     }
-
-    // Lines with the stops of a sheet that are near a text.
-    fn near_lines(&self, alloc: Global, folder: &str, id: &str) -> Result<String, AllocError> {
-        let mut lines = String::new(alloc);
-        if let Some(sheet) = open_names(self.rt, alloc, folder, "stops.txt")? {
-            for stop in near_stops(alloc, &sheet, id)? {
-                let line = format!(in alloc; "near: {stop}\n")?;
-                lines.push_str(line.as_str())?;
-            }
-        }
-        Ok(lines)
-    }
 }
 
 // Nothing is claimed of the texts: tests say what they are.
@@ -110,9 +99,9 @@ impl Teller for FolderTeller<'_> {
 
     ghost replies = { λ _ _ _ _ _. Unit {0} };
 
-    ghost faults = { λ _ _ _. Unit {0} };
+    ghost faults = { λ _ _ _ _. Unit {0} };
 
-    ghost nears = { λ _ _ _. Unit {0} };
+    ghost hints = { λ _ _ _. Unit {0} };
 
     fn answer(
         &self,
@@ -182,14 +171,20 @@ impl Teller for FolderTeller<'_> {
         MEMORY_REFUSED
     }
 
-    fn fault(&self, alloc: Global, format: Format, fault: &Fault<'_>) -> Option<String> {
+    fn fault(
+        &self,
+        alloc: Global,
+        format: Format,
+        _given: &Given<'_>,
+        fault: &Fault<'_>,
+    ) -> Option<String> {
         if let Format::Names = format {
             return None;
         }
         line(fault_json(alloc, fault).ok()?).ok()
     }
 
-    fn near(&self, alloc: Global, folder: &str, id: &str) -> Option<String> {
-        self.near_lines(alloc, folder, id).ok()
+    fn hint(&self, alloc: Global, given: &Given<'_>, fault: &Fault<'_>) -> Option<String> {
+        hint(self.rt, alloc, given, fault).ok()
     }
 }

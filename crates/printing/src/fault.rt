@@ -2,71 +2,89 @@
 
 ghost use Rattle.std.specs.Prelude.{◌≡◌, ℕ, List, IfSome, string_bytes};
 ghost use Rattle.faults.specs.Faults.{status_of};
-ghost use Rattle.printing.specs.Faults.{AreFaultLines, IsFaultSaid, IsFormatText, IsNear};
+ghost use Rattle.printing.specs.Faults.{AreFaultLines, IsFaultSaid, IsFormatText, IsHint, has_hint};
 ghost use Rattle.streams.specs.Streams.{IsSaid};
 ghost use Rattle.tellers.specs.Tellings.{telling_of};
 
 use command_line::Style;
 use faults::{Fault, FaultLines};
 use pattern_query::Refusal;
+use service_days::DayFault;
 use std::alloc::Global;
 use std::io::Write;
 use streams::Stream;
-use tellers::Teller;
+use tellers::{Given, Teller};
 
-/// In which style a command tells what it came to, and over the feed of which folder.
+/// In which style a command tells what it came to, and what its words say that a fault may be about.
 #[derive(Clone, Copy, Debug)]
 pub struct Voice<'a> {
     pub style: Style,
-    pub feed: &'a str,
+    pub given: Given<'a>,
 }
 
 // The text of a fault in a format; none if it is told as in lines.
 fn format_text<T: Teller>(
     alloc: Global,
     teller: &T,
-    style: Style,
+    voice: &Voice<'_>,
     fault: &Fault<'_>,
 ) -> Option<String>
-    ensures { IfSome result (λ text. IsFormatText (telling_of T.tells T.reports T.finds T.replies T.faults T.nears) style fault.now
-        (string_bytes text)) }
+    ensures { IfSome result (λ text. IsFormatText (telling_of T.tells T.reports T.finds T.replies T.faults T.hints) voice.now.given
+        voice.now.style fault.now (string_bytes text)) }
 {
-    match style {
+    match voice.style {
         Style::Lines => None,
-        Style::Told(format) => teller.fault(alloc, format, fault),
+        Style::Told(format) => teller.fault(alloc, format, &voice.given, fault),
     }
 }
 
-// Lines with the stops that are near the id that no stop has, if that is the fault.
-fn near_lines<T: Teller>(alloc: Global, teller: &T, feed: &str, fault: &Fault<'_>) -> Option<String>
-    ensures { IfSome result (λ text. IsNear (telling_of T.tells T.reports T.finds T.replies T.faults T.nears) feed.now fault.now
-        (string_bytes text)) }
+// Whether lines may be added to those of a fault.
+fn has_hint(fault: &Fault<'_>) -> bool
+    ensures { result ≡ has_hint fault.now }
 {
     match fault {
-        Fault::Question(Refusal::UnknownStop(id)) => teller.near(alloc, feed, id),
-        _ => None,
+        Fault::BadDate | Fault::BadTime | Fault::Feed(_) => true,
+        Fault::Days(DayFault::BadZone) => true,
+        Fault::Question(Refusal::UnknownStop(_)) => true,
+        _ => false,
     }
+}
+
+// Lines that are added to those of the fault, if there are any.
+fn hint_lines<T: Teller>(
+    alloc: Global,
+    teller: &T,
+    given: &Given<'_>,
+    fault: &Fault<'_>,
+) -> Option<String>
+    ensures { IfSome result (λ text. IsHint (telling_of T.tells T.reports T.finds T.replies T.faults T.hints) given.now fault.now
+        (string_bytes text)) }
+{
+    if !has_hint(fault) {
+        return None;
+    }
+    teller.hint(alloc, given, fault)
 }
 
 // Says a fault by its lines.
 fn say_lines<T: Teller, E: Write + Drop>(
     alloc: Global,
     teller: &T,
-    feed: &str,
+    given: &Given<'_>,
     fault: &Fault<'_>,
     err: &mut Stream<E>,
 )
-    ensures { (text : List ℕ) × AreFaultLines (telling_of T.tells T.reports T.finds T.replies T.faults T.nears) feed.now fault.now text
+    ensures { (text : List ℕ) × AreFaultLines (telling_of T.tells T.reports T.finds T.replies T.faults T.hints) given.now fault.now text
         × IsSaid text err.old err.new }
 {
-    match near_lines(alloc, teller, feed, fault) {
-        Some(near) => err.say(format_args!("{}{near}", FaultLines(fault))),
+    match hint_lines(alloc, teller, given, fault) {
+        Some(hint) => err.say(format_args!("{}{hint}", FaultLines(fault))),
         None => err.say(FaultLines(fault)),
     }
 }
 
-/// Says a fault on standard error, as the voice has it: in a format by the teller's text; else by its lines, and those of stops that are
-/// near an id that no stop has. It gives the status of the fault.
+/// Says a fault on standard error, as the voice has it: in a format by the teller's text; else by its lines, and those that the teller adds
+/// to them. It gives the status of the fault.
 pub fn tell_fault<T: Teller, E: Write + Drop>(
     alloc: Global,
     teller: &T,
@@ -75,11 +93,11 @@ pub fn tell_fault<T: Teller, E: Write + Drop>(
     err: &mut Stream<E>,
 ) -> u8
     ensures status { result ≡ status_of fault.now }
-    ensures said { IsFaultSaid (telling_of T.tells T.reports T.finds T.replies T.faults T.nears) voice.now fault.now err.old err.new }
+    ensures said { IsFaultSaid (telling_of T.tells T.reports T.finds T.replies T.faults T.hints) voice.now fault.now err.old err.new }
 {
-    match format_text(alloc, teller, voice.style, fault) {
+    match format_text(alloc, teller, voice, fault) {
         Some(text) => err.say(text.as_str()),
-        None => say_lines(alloc, teller, voice.feed, fault, err),
+        None => say_lines(alloc, teller, &voice.given, fault, err),
     }
     fault.status()
 }

@@ -79,7 +79,7 @@ pub fn finish<T: Teller, O: Write + Drop, E: Write + Drop>(
     told: Result<Told<'_>, Fault<'_>>,
     streams: &mut Streams<O, E>,
 ) -> u8
-    ensures { IsFinished (telling_of T.tells T.reports T.finds T.replies T.faults T.nears) voice.now told.entry
+    ensures { IsFinished (telling_of T.tells T.reports T.finds T.replies T.faults T.hints) voice.now told.entry
         (streams_of streams.old.out streams.old.err) (streams_of streams.new.out streams.new.err) result }
 {
     match told {

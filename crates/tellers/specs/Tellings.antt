@@ -10,22 +10,23 @@ use Rattle.gtfs_rows.specs.declared.fault.FeedFault.{FeedFault}
 use Rattle.faults.specs.declared.fault.Fault.{Fault}
 use Rattle.faults.specs.declared.fault.Fault.TheVariants as faults
 use Rattle.serving.specs.Tellings.{Telling as ReplyTelling, line_telling}
+use Rattle.tellers.specs.declared.given.Given.{Given}
 
--- Which texts may tell an answer, a report, a reply or a fault in a format; which lines may list the stops of a folder, and which may name
--- those near an id.
+-- Which texts may tell an answer, a report, a reply or a fault in a format; which lines may list the stops of a folder, and which may be
+-- added to those of a fault.
 pub record Telling : Type 1 where
   pub tells : Format → BasisData → Answer → List ℕ → Type 0
   pub reports : Format → Report → List ℕ → Type 0
   pub finds : List ℕ → List ℕ → Bool → List ℕ → Type 0
   pub replies : Format → BasisData → ReplyTelling
-  pub faults : Format → Fault → List ℕ → Type 0
-  pub nears : List ℕ → List ℕ → List ℕ → Type 0
+  pub faults : Format → Given → Fault → List ℕ → Type 0
+  pub hints : Given → Fault → List ℕ → Type 0
 
 abbrev pub telling_of : (Format → BasisData → Answer → List ℕ → Type 0) → (Format → Report → List ℕ → Type 0)
-    → (List ℕ → List ℕ → Bool → List ℕ → Type 0) → (Format → BasisData → ReplyTelling) → (Format → Fault → List ℕ → Type 0)
-    → (List ℕ → List ℕ → List ℕ → Type 0) → Telling
-telling_of tells reports finds replies faults nears =
-    record { tells = tells; reports = reports; finds = finds; replies = replies; faults = faults; nears = nears }
+    → (List ℕ → List ℕ → Bool → List ℕ → Type 0) → (Format → BasisData → ReplyTelling) → (Format → Given → Fault → List ℕ → Type 0)
+    → (Given → Fault → List ℕ → Type 0) → Telling
+telling_of tells reports finds replies faults hints =
+    record { tells = tells; reports = reports; finds = finds; replies = replies; faults = faults; hints = hints }
 
 -- a reply in a style: as lines, or as a format has it
 abbrev pub tells_reply : Telling → Style → BasisData → ReplyTelling

@@ -10,8 +10,10 @@ ghost use Rattle.question_lines.specs.declared.question.Question.{Question};
 ghost use Rattle.serving.specs.Printed.{no_memory};
 ghost use Rattle.serving.specs.Tellings.{Telling};
 ghost use Rattle.tellers.specs.Tellings.{IsStopsFault, tells_legs};
+ghost use Rattle.tellers.specs.declared.given.Given.{Given as GivenData};
 
 use crate::asked::Asked;
+use crate::given::Given;
 use answer_lines::{Answer, Report};
 use command_line::{Format, Plan, Style};
 use faults::Fault;
@@ -20,7 +22,8 @@ use question_lines::Question;
 use serving::Reply;
 use std::alloc::{AllocError, Global};
 
-/// Makes the texts of answers, reports, replies and faults in formats beside lines, and of lists of stops. A text ends with a line's end.
+/// Makes the texts of answers, reports, replies and faults in formats beside lines, of lists of stops, and what is added to the lines of a
+/// fault. A text ends with a line's end.
 /// Its ghosts say which texts may be made of what; who calls it relies on no more.
 pub trait Teller: Copy {
     /// What names and times of replies are looked up in.
@@ -34,9 +37,9 @@ pub trait Teller: Copy {
 
     ghost replies: { Format → BasisData → Telling };
 
-    ghost faults: { Format → Fault → List ℕ → Type 0 };
+    ghost faults: { Format → GivenData → Fault → List ℕ → Type 0 };
 
-    ghost nears: { List ℕ → List ℕ → List ℕ → Type 0 };
+    ghost hints: { GivenData → Fault → List ℕ → Type 0 };
 
     /// The text of an answer in a format. It fails only if memory runs out.
     fn answer(
@@ -91,13 +94,20 @@ pub trait Teller: Copy {
     fn memory_refused(&self, format: Format) -> &'static str
         ensures { (basis : BasisData) → (question : Option Question) → replies format basis question no_memory result.now };
 
-    /// The text of a fault in a format; none if it is told as in lines.
-    fn fault(&self, alloc: Global, format: Format, fault: &Fault<'_>) -> Option<String>
-        ensures { IfSome result (λ text. faults format fault.now (string_bytes text)) };
+    /// The text of a fault in a format, by what the words say; none if it is told as in lines.
+    fn fault(
+        &self,
+        alloc: Global,
+        format: Format,
+        given: &Given<'_>,
+        fault: &Fault<'_>,
+    ) -> Option<String>
+        ensures { IfSome result (λ text. faults format given.now fault.now (string_bytes text)) };
 
-    /// Lines with the stops in the folder that are near an id which no stop has; none if there are none.
-    fn near(&self, alloc: Global, folder: &str, id: &str) -> Option<String>
-        ensures { IfSome result (λ text. nears folder.now id.now (string_bytes text)) };
+    /// Lines that are added to those of a fault: what the words or the feed have at its place, or what may be meant. None if there is
+    /// nothing to add.
+    fn hint(&self, alloc: Global, given: &Given<'_>, fault: &Fault<'_>) -> Option<String>
+        ensures { IfSome result (λ text. hints given.now fault.now (string_bytes text)) };
 }
 
 /// Whether the rides and walks of journeys are told: a format tells them, whether or not the words ask for them.

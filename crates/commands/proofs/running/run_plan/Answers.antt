@@ -12,7 +12,7 @@ pub returns-in-Err : goal.returns-in-Err
 returns-in-Err g c = λ feed h.
     let plan = c.args.plan.now in
     let fault = c.in-Err.fault in
-    let t = telling_of g.S.Teller.Teller.tells g.S.Teller.Teller.reports g.S.Teller.Teller.finds g.S.Teller.Teller.replies g.S.Teller.Teller.faults g.S.Teller.Teller.nears in
+    let t = telling_of g.S.Teller.Teller.tells g.S.Teller.Teller.reports g.S.Teller.Teller.finds g.S.Teller.Teller.replies g.S.Teller.Teller.faults g.S.Teller.Teller.hints in
     inl (
       refl,
       fault,
@@ -29,7 +29,7 @@ pub returns-in-Find : goal.returns-in-Find
 returns-in-Find g c = λ feed h.
     let plan = c.args.plan.now in
     let basis = c.in-Ok.basis in
-    let t = telling_of g.S.Teller.Teller.tells g.S.Teller.Teller.reports g.S.Teller.Teller.finds g.S.Teller.Teller.replies g.S.Teller.Teller.faults g.S.Teller.Teller.nears in
+    let t = telling_of g.S.Teller.Teller.tells g.S.Teller.Teller.reports g.S.Teller.Teller.finds g.S.Teller.Teller.replies g.S.Teller.Teller.faults g.S.Teller.Teller.hints in
     let v = view_of (g.S.System.world c.args.system.now) g.S.Store.Disk.honest g.S.Store.Disk.state g.S.Store.Disk.failures t in
     let ended = c.run_search.result in
     let old = streams_of c.args.streams.out c.args.streams.err in
@@ -46,7 +46,7 @@ returns g c = λ feed h.
     let plan = c.args.plan.now in
     let basis = c.in-Ok.basis in
     let input = g.I.Read.remaining c.args.input.now in
-    let t = telling_of g.S.Teller.Teller.tells g.S.Teller.Teller.reports g.S.Teller.Teller.finds g.S.Teller.Teller.replies g.S.Teller.Teller.faults g.S.Teller.Teller.nears in
+    let t = telling_of g.S.Teller.Teller.tells g.S.Teller.Teller.reports g.S.Teller.Teller.finds g.S.Teller.Teller.replies g.S.Teller.Teller.faults g.S.Teller.Teller.hints in
     let v = view_of (g.S.System.world c.args.system.now) g.S.Store.Disk.honest g.S.Store.Disk.state g.S.Store.Disk.failures t in
     let ended = c.run_serve.result in
     let old = streams_of c.args.streams.out c.args.streams.err in

@@ -20,7 +20,7 @@ returns-in-Err-clause-found g c = λ honest. inl (record {
 pub returns-in-Err-clause-device : goal.returns-in-Err-clause-device
 returns-in-Err-clause-device g c =
     let v = view_of (g.S.System.world c.args.system.now) g.S.Store.Disk.honest g.S.Store.Disk.state g.S.Store.Disk.failures
-    (telling_of g.S.Teller.Teller.tells g.S.Teller.Teller.reports g.S.Teller.Teller.finds g.S.Teller.Teller.replies g.S.Teller.Teller.faults g.S.Teller.Teller.nears) in
+    (telling_of g.S.Teller.Teller.tells g.S.Teller.Teller.reports g.S.Teller.Teller.finds g.S.Teller.Teller.replies g.S.Teller.Teller.faults g.S.Teller.Teller.hints) in
     let failures = g.S.Store.Disk.failures c.args.disk in
     subst (OnlyFailing failures failures) (sym c.in_migration.ensures)
     (kept_out_fails failures failures v (form_over c.args.file.now.basis.now c.args.file.now.rides) c.args.old.now c.in-Err.fault c.in-Err.field-0-1

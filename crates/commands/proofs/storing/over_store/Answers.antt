@@ -10,7 +10,7 @@ use Rattle.tellers.specs.Tellings.{telling_of}
 pub returns-after-reads : goal.returns-after-reads
 returns-after-reads g c =
     let v = view_of (g.S.System.world c.args.system.now) g.S.Store.Disk.honest g.S.Store.Disk.state g.S.Store.Disk.failures
-    (telling_of g.S.Teller.Teller.tells g.S.Teller.Teller.reports g.S.Teller.Teller.finds g.S.Teller.Teller.replies g.S.Teller.Teller.faults g.S.Teller.Teller.nears) in
+    (telling_of g.S.Teller.Teller.tells g.S.Teller.Teller.reports g.S.Teller.Teller.finds g.S.Teller.Teller.replies g.S.Teller.Teller.faults g.S.Teller.Teller.hints) in
     let is_new = c.in-Ok.ready.is_new in
     let reads = only_reads c.args.task.now in
     let says : c.if-reads.say_new ≡ reads && is_new = elim c.if-reads.branch [

@@ -1,0 +1,47 @@
+-- What the words say that a fault may be about.
+use Rattle.std.specs.Prelude.{ℕ, List, Option, None, Some}
+use denote.Ref.{Bor}
+use Rattle.question_lines.specs.declared.question.Question.{Question}
+use Rattle.command_line.specs.declared.job.Command.{Command}
+use Rattle.command_line.specs.declared.job.Command.TheVariants as commands
+use Rattle.command_line.specs.declared.job.Plan.{Plan}
+use Rattle.command_line.specs.declared.job.Search.{Search}
+use Rattle.command_line.specs.declared.job.Search.TheVariants as searches
+use Rattle.command_line.specs.declared.job.Task.{Task}
+use Rattle.command_line.specs.declared.job.Task.TheVariants as tasks
+use Rattle.command_line.specs.declared.unread.Word.{Word}
+use Rattle.tellers.specs.declared.given.Given.{Given}
+use Rattle.tellers.specs.declared.given.Places.{Places}
+
+-- the places of a question
+abbrev pub places_of : Question → Places
+places_of question = record { from = question.from; to = question.to }
+
+-- those that a task, a search or a command asks about
+abbrev pub task_places : Task → Option Places
+task_places (tasks.Ask question legs) = Some (places_of question)
+task_places tasks.List = None
+task_places (tasks.Audit whose) = None
+task_places (tasks.Build workers progress) = None
+task_places (tasks.Migrate old progress) = None
+
+abbrev pub search_places : Search → Option Places
+search_places (searches.Direct question) = Some (places_of question)
+search_places (searches.Scan question legs) = Some (places_of question)
+search_places (searches.Stored store task) = task_places task
+
+abbrev pub command_places : Command → Option Places
+command_places (commands.Find search) = search_places search
+command_places (commands.Serve store workers) = None
+
+-- the words of a plan: the feed, the zone and the places
+abbrev pub given_by : Plan → Given
+given_by plan = record { feed = Some plan.settings.feed; zone = Some plan.settings.zone; places = command_places plan.command; word = None }
+
+-- those of a command without days: the feed
+abbrev pub folder_given : Bor (List ℕ) → Given
+folder_given feed = record { feed = Some feed; zone = None; places = None; word = None }
+
+-- those of a fault of the words: the word that is at fault
+abbrev pub word_given : Word → Given
+word_given word = record { feed = None; zone = None; places = None; word = Some word }
