@@ -73,8 +73,8 @@ impl Columns {
     }
 }
 
-// What a row has in a column: nothing where there is no such column.
-fn text_in<'a>(sheet: &'a Sheet, row: usize, column: Option<usize>) -> &'a str
+/// What a row has in a column: nothing where there is no such column.
+pub(crate) fn text_in<'a>(sheet: &'a Sheet, row: usize, column: Option<usize>) -> &'a str
     requires { row < length sheet.now }
 {
     match column {
