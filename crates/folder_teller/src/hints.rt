@@ -1,7 +1,9 @@
 //! Lines that are added to those of a fault.
 
+use crate::parts::{parts_line, parts_of};
 use faults::Fault;
 use feed_names::open_names;
+use gtfs_tables::FaultKind;
 use pattern_query::Refusal;
 use service_days::DayFault;
 use shown_ids::Shown;
@@ -16,22 +18,6 @@ const MOST: usize = 20;
 
 /// A zone that is told of if the words don't name one.
 const ZONE: &str = "Europe/Berlin";
-
-// The line of an option or a column at fault, with the text that stands there.
-fn given_line(alloc: Global, name: &str, text: &str) -> Result<String, AllocError> {
-    format!(in alloc; "given: {name} \"{}\"\n", Shown(text))
-}
-
-// The line of the word at fault, if there is one.
-fn word_hint(alloc: Global, given: &Given<'_>) -> Result<String, AllocError> {
-    match &given.word {
-        Some(word) => {
-            let option = format!(in alloc; "--{}", word.option)?;
-            given_line(alloc, option.as_str(), word.text)
-        }
-        None => Ok(String::new(alloc)),
-    }
-}
 
 // Whether a byte may stand in the name of a zone.
 fn is_of_name(byte: u8) -> bool {
@@ -50,12 +36,11 @@ fn names_zone(text: &str) -> bool {
     }
 }
 
-// The zone that was given, and how its rule is got.
+// How the rule of a zone is got, if a name was given in its place.
 fn zone_hint(alloc: Global, zone: &str) -> Result<String, AllocError> {
     let name = if names_zone(zone) { zone } else { ZONE };
     format!(in alloc;
-        "given: --zone \"{}\"\n--zone takes a POSIX rule. `tail -n 1 /usr/share/zoneinfo/{name}` prints that of {name}.\n",
-        Shown(zone)
+        "--zone takes a POSIX rule. `tail -n 1 /usr/share/zoneinfo/{name}` prints that of {name}.\n"
     )
 }
 
@@ -117,6 +102,26 @@ fn place_hint(
     }
 }
 
+// What is said of a fault beside what stands at its place.
+fn note(
+    rt: &HostRuntime,
+    alloc: Global,
+    given: &Given<'_>,
+    fault: &Fault<'_>,
+) -> Result<String, AllocError> {
+    match (fault, given.feed, given.zone) {
+        (Fault::Days(DayFault::BadZone), _, Some(zone)) => zone_hint(alloc, zone),
+        (Fault::Feed(fault), Some(folder), _) => match fault.kind {
+            FaultKind::MissingFile | FaultKind::ReadFailed => folder_hint(rt, alloc, folder),
+            _ => Ok(String::new(alloc)),
+        },
+        (Fault::Question(Refusal::UnknownStop(id)), Some(folder), _) => {
+            place_hint(rt, alloc, folder, id)
+        }
+        _ => Ok(String::new(alloc)),
+    }
+}
+
 /// The lines that are added to those of a fault: none if there is nothing to add. It fails only if memory runs out.
 pub(crate) fn hint(
     rt: &HostRuntime,
@@ -124,13 +129,9 @@ pub(crate) fn hint(
     given: &Given<'_>,
     fault: &Fault<'_>,
 ) -> Result<String, AllocError> {
-    match (fault, given.feed, given.zone) {
-        (Fault::BadDate | Fault::BadTime, _, _) => word_hint(alloc, given),
-        (Fault::Days(DayFault::BadZone), _, Some(zone)) => zone_hint(alloc, zone),
-        (Fault::Feed(_), Some(folder), _) => folder_hint(rt, alloc, folder),
-        (Fault::Question(Refusal::UnknownStop(id)), Some(folder), _) => {
-            place_hint(rt, alloc, folder, id)
-        }
-        _ => Ok(String::new(alloc)),
-    }
+    let parts = parts_of(rt, alloc, given, fault)?;
+    let mut lines = parts_line(alloc, parts.as_slice())?;
+    let note = note(rt, alloc, given, fault)?;
+    lines.push_str(note.as_str())?;
+    Ok(lines)
 }

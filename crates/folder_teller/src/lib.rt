@@ -3,6 +3,7 @@
 
 mod fault;
 mod hints;
+mod parts;
 mod replies;
 mod teller;
 mod texts;
