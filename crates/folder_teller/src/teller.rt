@@ -175,13 +175,13 @@ impl Teller for FolderTeller<'_> {
         &self,
         alloc: Global,
         format: Format,
-        _given: &Given<'_>,
+        given: &Given<'_>,
         fault: &Fault<'_>,
     ) -> Option<String> {
         if let Format::Names = format {
             return None;
         }
-        line(fault_json(alloc, fault).ok()?).ok()
+        line(fault_json(self.rt, alloc, given, fault).ok()?).ok()
     }
 
     fn hint(&self, alloc: Global, given: &Given<'_>, fault: &Fault<'_>) -> Option<String> {

@@ -11,7 +11,7 @@ mod plain;
 mod stop_map;
 mod time;
 
-pub use fault::{FaultText, fault_text_json};
+pub use fault::{FaultText, GivenText, NamedStop, fault_text_json};
 pub use geo::geojson;
 pub use itinerary::{Frequency, Itinerary, Journey, Kind, Leg, Place, Route, Stay, StopList, Trip};
 pub use people::people_text;
