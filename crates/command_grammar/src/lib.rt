@@ -2,5 +2,6 @@
 #![tactic(auto)]
 
 mod program;
+mod texts;
 
 pub use program::matches_of;
