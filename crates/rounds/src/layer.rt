@@ -9,6 +9,7 @@ ghost use Rattle.rounds.specs.Serving.{Served};
 ghost use Rattle.rounds.specs.Row.{arrivals_of, settled_of};
 ghost use Rattle.rounds.specs.Layers.{IsSized, IsBegunNext, Begins, Stepped, Ridden};
 
+use crate::guesses::Guesses;
 use crate::label::Label;
 use crate::noted::Noted;
 use crate::row::{Row, join};
@@ -23,16 +24,19 @@ use timetable::{LATEST_MOMENT, StopId, Timetable};
 pub struct Layer {
     pub rode: Row,
     pub ready: Row,
+    // Guesses for the scans whose rides alight here.
+    pub guesses: Guesses,
 }
 
 impl Layer {
-    /// Nothing is known, at so many stops.
-    pub fn empty(alloc: Global, stops: usize) -> Result<Self, AllocError>
+    /// Nothing is known, at so many stops; and there are so many lines.
+    pub fn empty(alloc: Global, stops: usize, lines: usize) -> Result<Self, AllocError>
         ensures { IfOk result (IsSized stops) }
     {
         Ok(Layer {
             rode: Row::empty(alloc, stops)?,
             ready: Row::empty(alloc, stops)?,
+            guesses: Guesses::new(alloc, lines)?,
         })
     }
 
@@ -91,7 +95,15 @@ pub fn ride_on(
     ensures same { length noted.new ≡ length noted.old }
 {
     join(&before.rode, &mut after.rode);
-    ride_lines(table, lines, &before.ready, known, noted, &mut after.rode);
+    ride_lines(
+        table,
+        lines,
+        &before.ready,
+        known,
+        noted,
+        &mut after.guesses,
+        &mut after.rode,
+    );
     walk_on(table, Stay::Free, &after.rode, round);
     walk_on(table, Stay::Change, &after.rode, &mut after.ready);
 }

@@ -5,6 +5,7 @@
 mod best;
 mod boarding;
 mod events;
+mod guesses;
 mod label;
 mod labels;
 pub mod laws;

@@ -54,14 +54,19 @@ fn no_rounds(alloc: Global, stops: usize, rides: Rides) -> Result<Vec<Row>, Allo
 }
 
 // A layer before any ride, and one for each ride.
-fn no_layers(alloc: Global, stops: usize, rides: Rides) -> Result<Vec<Layer>, AllocError>
+fn no_layers(
+    alloc: Global,
+    stops: usize,
+    lines: usize,
+    rides: Rides,
+) -> Result<Vec<Layer>, AllocError>
     ensures count { IfOk result (λ layers. length layers.items ≡ rides + 1) }
     ensures sized { IfOk result (λ layers. All (IsSized stops) layers.items) }
 {
     let count = rides.number() as usize + 1;
     let mut layers = Vec::with_capacity(alloc, count)?;
     for _ in 0..count {
-        layers.push(Layer::empty(alloc, stops)?)?;
+        layers.push(Layer::empty(alloc, stops, lines)?)?;
     }
     Ok(layers)
 }
@@ -238,11 +243,12 @@ impl Scratch {
         ensures rides { IfOk result (λ scratch. rides_of scratch ≡ rides) }
     {
         let stops = table.stops();
-        let noted = Noted::none(alloc, lines.lines().len())?;
+        let count = lines.lines().len();
+        let noted = Noted::none(alloc, count)?;
         Ok(Scratch {
             rides,
             lines,
-            layers: no_layers(alloc, stops, rides)?,
+            layers: no_layers(alloc, stops, count, rides)?,
             noted,
             source: StopId::new(0),
             rounds: no_rounds(alloc, stops, rides)?,

@@ -18,8 +18,8 @@ line-requires c =
 pub position-requires : goal.position-requires
 position-requires c = inside c.lines-number-items.result.now (length c.args.noted.now) c.loop-number.number-index c.lines-number-items.ensures.within c.loop-number-test.true
 
-pub ride_line-requires-clause-line : goal.ride_line-requires-clause-line
-ride_line-requires-clause-line c =
+pub ride_line-found-requires-clause-line : goal.ride_line-found-requires-clause-line
+ride_line-found-requires-clause-line c =
     let number = get_or c.lines-number-items.result.now c.loop-number.number-index 0 in
     let within = inside c.lines-number-items.result.now (length c.args.noted.now) c.loop-number.number-index c.lines-number-items.ensures.within c.loop-number-test.true in
     subst (IsLine c.args.table.now) (sym c.line.ensures) (c.requires.lines.each number no_line (omega (arith, within, c.requires.size)))
@@ -37,10 +37,10 @@ loop-number-preserved c =
     let n = c.loop-number.number-index in
     let number = get_or listed n 0 in
     record {
-      scanned = lines_more c.args.table.now c.args.lines.now c.args.noted.now listed c.args.ready.now.marks c.args.rode.now.marks c.loop-number.rode.marks c.ride_line.new.rode.marks
+      scanned = lines_more c.args.table.now c.args.lines.now c.args.noted.now listed c.args.ready.now.marks c.args.rode.now.marks c.loop-number.rode.marks c.ride_line-found.new.rode.marks
           n number c.position.result c.line.result.now c.loop-number-test.true (get_or_default listed n 0 number c.loop-number-test.true)
-          c.line.ensures c.position.ensures inv.scanned c.ride_line.ensures.scanned;
-      same = same_then c.args.rode.now c.loop-number.rode c.ride_line.new.rode inv.same c.ride_line.ensures.same;
+          c.line.ensures c.position.ensures inv.scanned c.ride_line-found.ensures.scanned;
+      same = same_then c.args.rode.now c.loop-number.rode c.ride_line-found.new.rode inv.same c.ride_line-found.ensures.same;
     }
 
 pub returns-clause-scanned : goal.returns-clause-scanned
