@@ -1,12 +1,13 @@
 //! The labels of all stops.
 
-ghost use Rattle.std.specs.Prelude.{◌≡◌, ℕ, ◌<◌, ◌↔◌, IfOk, IfSome, IsNone, length, replicate, slice_set, Option, Some, None};
-ghost use Rattle.rounds.specs.Mark.{Mark, at, arrival_of};
+ghost use Rattle.std.specs.Prelude.{◌≡◌, ℕ, ◌<◌, ◌↔◌, IfOk, IfSome, IsNone, IsSome, length, replicate, slice_set, Option, Some, None};
+ghost use Rattle.rounds.specs.Mark.{Mark, at, arrival_of, moved};
 ghost use Rattle.rounds.specs.Row.{when};
 
 use crate::label::Label;
 use std::alloc::{AllocError, Global};
 use std::marker::Model;
+use timetable::StopId;
 
 /// A label of each stop, or none. When one is at each stop stands in a list of its own too, since that is looked at far more
 /// often than the rides; a stop without a moment there has no label, whatever stands in its place. Once it is made it takes no memory.
@@ -59,6 +60,17 @@ pub fn clear_moments(moments: &mut [Option<u32>])
     }
 }
 
+// Writes a label at the moment, with one ride more if there is one, over the one that lies there.
+fn write(place: &mut Option<Label>, label: &Label, arrival: u32, ride: Option<(StopId, StopId)>)
+    requires { IsSome ride → length label.now.path < 8 }
+    ensures { place.new ≡ Some (moved label.now arrival ride) }
+{
+    match place {
+        Some(here) => here.set(label, arrival, ride),
+        None => *place = Some(Label::moved(label, arrival, ride)),
+    }
+}
+
 impl Labels {
     /// No labels, at so many stops.
     pub fn empty(alloc: Global, stops: usize) -> Result<Self, AllocError>
@@ -99,12 +111,13 @@ impl Labels {
         }
     }
 
-    /// Puts the label at the stop of this number.
-    pub fn put(&mut self, stop: usize, label: Label)
-        requires { stop < length self.old }
-        ensures { self.new ≡ slice_set self.old stop (Some label) }
+    /// Puts the label at the stop of this number, at another moment and with one ride more if there is one.
+    pub fn put(&mut self, stop: usize, label: &Label, arrival: u32, ride: Option<(StopId, StopId)>)
+        requires known { stop < length self.old }
+        requires short { IsSome ride → length label.now.path < 8 }
+        ensures { self.new ≡ slice_set self.old stop (Some (moved label.now arrival ride)) }
     {
-        self.arrivals[stop] = Some(label.arrival());
-        self.labels[stop] = Some(label);
+        self.arrivals[stop] = Some(arrival);
+        write(&mut self.labels[stop], label, arrival, ride);
     }
 }

@@ -1,9 +1,9 @@
 //! Labels of all stops, and which of them were lowered.
 
-ghost use Rattle.std.specs.Prelude.{◌≡◌, ℕ, ◌+◌, ◌<◌, ◌≤◌, ◌^◌, ◌↔◌, ◌⊎◌, ◌++◌, ◌∷◌, [], length, slice_set, replicate, Option, Some, None, IfOk, IfSome, IsNone, IsTrue, vec_len, vec_capacity};
+ghost use Rattle.std.specs.Prelude.{◌≡◌, ℕ, ◌+◌, ◌<◌, ◌≤◌, ◌^◌, ◌↔◌, ◌⊎◌, ◌++◌, ◌∷◌, [], length, slice_set, replicate, Option, Some, None, IfOk, IfSome, IsNone, IsSome, IsTrue, vec_len, vec_capacity};
 ghost use Rattle.std.specs.List.{Contains};
 ghost use Rattle.timetable.specs.Front.{IsSooner};
-ghost use Rattle.rounds.specs.Mark.{Mark, By, at, arrival_of, is_by};
+ghost use Rattle.rounds.specs.Mark.{Mark, By, at, arrival_of, is_by, moved};
 ghost use Rattle.rounds.specs.Moves.{ridden_to};
 ghost use Rattle.rounds.specs.Row.{SameRow, arrivals_of, settled_of, lowered_in, when};
 ghost use Rattle.rounds.specs.Layers.{Joined, IsBelow};
@@ -146,18 +146,19 @@ impl Row {
         }
     }
 
-    // Puts the label at the stop, where none is as early.
-    fn put(&mut self, stop: StopId, label: Label)
+    // Puts the label at the stop, at a moment where none is as early, and with one ride more if there is one.
+    fn put(&mut self, stop: StopId, label: &Label, arrival: u32, ride: Option<(StopId, StopId)>)
         requires known { stop < length self.old.marks }
-        requires sooner { ¬ By (at self.old.marks stop) label.arrival }
-        ensures marks { self.new.marks ≡ slice_set self.old.marks stop (Some label) }
+        requires sooner { ¬ By (at self.old.marks stop) arrival }
+        requires short { IsSome ride → length label.now.path < 8 }
+        ensures marks { self.new.marks ≡ slice_set self.old.marks stop (Some (moved label.now arrival ride)) }
         ensures settled { self.new.settled ≡ self.old.settled }
     {
         let number = stop.number();
         if !is_sooner(self.labels.arrival(number), self.settled[number]) {
             list(stop, &mut self.lowered);
         }
-        self.labels.put(number, label);
+        self.labels.put(number, label, arrival, ride);
     }
 
     /// Puts the label at the stop, unless one there is as early. Nothing is copied where one is.
@@ -166,7 +167,7 @@ impl Row {
         ensures { self.new ≡ lowered_in self.old stop label.now }
     {
         if !self.is_by(stop, label.arrival()) {
-            self.put(stop, label.copy());
+            self.put(stop, label, label.arrival(), None);
         }
     }
 
@@ -177,7 +178,7 @@ impl Row {
         ensures { self.new ≡ lowered_in self.old stop (record { arrival = label.now.arrival + seconds; path = label.now.path }) }
     {
         if !self.is_by(stop, label.arrival() + seconds) {
-            self.put(stop, label.later(seconds));
+            self.put(stop, label, label.arrival() + seconds, None);
         }
     }
 
@@ -189,7 +190,7 @@ impl Row {
         ensures { self.new ≡ lowered_in self.old to (ridden_to from label.now to arrival) }
     {
         if !self.is_by(to, arrival) {
-            self.put(to, label.ridden(from, to, arrival));
+            self.put(to, label, arrival, Some((from, to)));
         }
     }
 }

@@ -1,5 +1,5 @@
-use Rattle.std.proofs.Common.{Option, ◌≡◌, ◌<◌, ℕ, Some, List, length, set, arith, ◌∙◌, ap}
-use Rattle.rounds.specs.Mark.{Mark}
+use Rattle.std.proofs.Common.{Option, ◌≡◌, ◌<◌, ℕ, Some, List, length, set, arith, refl, ◌∙◌, ap}
+use Rattle.rounds.specs.Mark.{Mark, moved}
 use Rattle.rounds.specs.Labels.{AreAgreed, with_moments}
 use Rattle.rounds.proofs.LabelSteps.{with_length, with_put, agreed_put}
 use Rattle.rounds.proofs.labels.Labels.put.Goals as goal
@@ -15,14 +15,14 @@ within moments labels marks stop is same lt =
 pub index_mut-requires : goal.index_mut-requires
 index_mut-requires c =
     let i = c.self.inside in
-    let lt = within i.arrivals.items i.labels.items c.args.self.now c.args.stop c.self.invariant c.self.view_is c.requires in
+    let lt = within i.arrivals.items i.labels.items c.args.self.now c.args.stop c.self.invariant c.self.view_is c.requires.known in
     let len = i.arrivals.ok.0 in
     omega (arith, lt, len)
 
 pub index_mut-requires-2 : goal.index_mut-requires-2
 index_mut-requires-2 c =
     let i = c.self.inside in
-    let lt = within i.arrivals.items i.labels.items c.args.self.now c.args.stop c.self.invariant c.self.view_is c.requires in
+    let lt = within i.arrivals.items i.labels.items c.args.self.now c.args.stop c.self.invariant c.self.view_is c.requires.known in
     let size = c.self.invariant.size in
     let len = i.labels.ok.0 in
     omega (arith, lt, size, len)
@@ -30,11 +30,11 @@ index_mut-requires-2 c =
 pub invariant_of-self : goal.invariant_of-self
 invariant_of-self c =
     let i = c.self.inside in
-    let lt = within i.arrivals.items i.labels.items c.args.self.now c.args.stop c.self.invariant c.self.view_is c.requires in
-    agreed_put i.arrivals.items i.labels.items c.args.stop c.arrival.result c.args.label c.arrival.ensures lt c.self.invariant
+    let lt = within i.arrivals.items i.labels.items c.args.self.now c.args.stop c.self.invariant c.self.view_is c.requires.known in
+    rw c.write.ensures (agreed_put i.arrivals.items i.labels.items c.args.stop c.args.arrival (moved c.args.label.now c.args.arrival c.args.ride) refl lt c.self.invariant)
 
 pub returns : goal.returns
 returns c =
     let i = c.self.inside in
-    with_put i.arrivals.items i.labels.items c.args.stop c.arrival.result c.args.label c.self.invariant.size
-    ∙ ap (λ (ms : List (Option Mark)). set ms c.args.stop (Some c.args.label)) c.self.view_is
+    rw c.write.ensures (with_put i.arrivals.items i.labels.items c.args.stop c.args.arrival (moved c.args.label.now c.args.arrival c.args.ride) c.self.invariant.size
+    ∙ ap (λ (ms : List (Option Mark)). set ms c.args.stop (Some (moved c.args.label.now c.args.arrival c.args.ride))) c.self.view_is)

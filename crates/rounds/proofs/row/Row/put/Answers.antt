@@ -1,7 +1,7 @@
 use Rattle.std.proofs.Common.{◌≡◌, ◌<◌, ◌++◌, ◌∷◌, [], ℕ, Option, Some, List, slice_set, vec_capacity, length, get_or, arith, sym, ◌∙◌, ap, subst, true≢false}
 use Rattle.timetable.specs.Front.{IsSooner}
 use Rattle.std.proofs.lemmas.List.{get_or_default}
-use Rattle.rounds.specs.Mark.{Mark, at, By, arrival_of}
+use Rattle.rounds.specs.Mark.{Mark, at, By, arrival_of, moved}
 use Rattle.rounds.specs.Row.{RowData, IsRow, when}
 use Rattle.rounds.proofs.RowSteps.{has_room, put_new, put_again}
 use Rattle.rounds.proofs.row.Row.put.Goals as goal
@@ -42,14 +42,14 @@ invariant_of-self c =
     let is = c.self.invariant in
     let marks = ap (λ (x : RowData). x.marks) c.self.view_is in
     let known = within c.args.self.now i.labels c.args.stop n c.number-number.ensures.value marks c.requires.known in
-    let none = no_sooner c.args.self.now i.labels c.args.stop n c.args.label.arrival c.number-number.ensures.value marks c.requires.sooner in
+    let none = no_sooner c.args.self.now i.labels c.args.stop n c.args.arrival c.number-number.ensures.value marks c.requires.sooner in
     elim c.if-not-is_sooner.branch [
       | then-not-is_sooner w ↦
           let here = λ (h : IsSooner (arrival_of (at i.labels n)) (when i.settled.items n)). true≢false (sym (c.is_sooner.ensures.1 ((sooner_read i.labels i.settled.items n _ _ known is.size c.arrival.ensures c.index.ensures).0 h)) ∙ w.if-not-is_sooner.true) in
           rw (c.put.ensures, w.self-inside-is, w.list.ensures.items)
-          (subst (λ k. IsRow (slice_set i.labels n (Some c.args.label)) i.settled.items (i.lowered.items ++ k ∷ []) (vec_capacity w.list.new.listed)) c.number-number.ensures.value
-          (put_new i.labels i.settled.items i.lowered.items _ n is known here _ c.args.label w.list.ensures.room none))
+          (subst (λ k. IsRow (slice_set i.labels n (Some (moved c.args.label.now c.args.arrival c.args.ride))) i.settled.items (i.lowered.items ++ k ∷ []) (vec_capacity w.list.new.listed)) c.number-number.ensures.value
+          (put_new i.labels i.settled.items i.lowered.items _ n is known here _ (moved c.args.label.now c.args.arrival c.args.ride) w.list.ensures.room none))
       | else-not-is_sooner w ↦
-          rw (c.put.ensures, w.self-inside-is) (put_again i.labels i.settled.items i.lowered.items _ n c.args.label is known none
+          rw (c.put.ensures, w.self-inside-is) (put_again i.labels i.settled.items i.lowered.items _ n (moved c.args.label.now c.args.arrival c.args.ride) is known none
           ((sooner_read i.labels i.settled.items n _ _ known is.size c.arrival.ensures c.index.ensures).1 (c.is_sooner.ensures.0 w.if-not-is_sooner.false)))
     ]
