@@ -147,6 +147,7 @@ impl Row {
     }
 
     // Puts the label at the stop, at a moment where none is as early, and with one ride more if there is one.
+    #[inline(always)]
     fn put(&mut self, stop: StopId, label: &Label, arrival: u32, ride: Option<(StopId, StopId)>)
         requires known { stop < length self.old.marks }
         requires sooner { ¬ By (at self.old.marks stop) arrival }
