@@ -11,7 +11,7 @@ use std::marker::Model;
 /// How many instances a search looks at from the one that was guessed.
 const REACH: usize = 6;
 
-/// For each line a guess which of its instances one boards first: the one of the last scan. A search tests it, so that any guess
+/// For each line a guess which of its instances one boards: the one that was boarded last. A search tests it, so that any guess
 /// will do. Once they are made they take no memory.
 #[derive(Debug, Drop)]
 pub struct Guesses {
