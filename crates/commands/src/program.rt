@@ -38,7 +38,7 @@ fn ended<S: System, O: Write + Drop, E: Write + Drop>(
     }
 }
 
-// How a command without days is told: as lines.
+// How a command without days is printed: as lines.
 fn lines_over<'a>(feed: &'a str) -> Voice<'a>
     ensures { result ≡ lines_over feed.entry }
 {

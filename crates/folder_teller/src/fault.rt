@@ -125,7 +125,7 @@ pub(crate) fn question_fault_json(
     fault_text_json(alloc, &told)
 }
 
-// What stands at the place of a fault, as it is told.
+// What stands at the place of a fault, as JSON has it.
 fn given_texts<'p>(alloc: Global, parts: &'p [Part]) -> Result<Vec<GivenText<'p>>, AllocError> {
     let mut texts = Vec::with_capacity(alloc, parts.len())?;
     for part in parts {
@@ -141,7 +141,7 @@ fn given_texts<'p>(alloc: Global, parts: &'p [Part]) -> Result<Vec<GivenText<'p>
     Ok(texts)
 }
 
-// Stops as they are told.
+// Stops as JSON has them.
 fn named_stops<'s>(alloc: Global, stops: &[StopRow<'s>]) -> Result<Vec<NamedStop<'s>>, AllocError> {
     let mut named = Vec::with_capacity(alloc, stops.len())?;
     for stop in stops {

@@ -13,10 +13,10 @@ use std::{format, fs};
 use stop_search::{StopRow, near_stops, station_stops};
 use tellers::Given;
 
-/// How many stops of a station are told.
+/// How many stops of a station are printed.
 const MOST: usize = 20;
 
-/// A zone that is told of if the words don't name one.
+/// The zone that is named if the words name none.
 const ZONE: &str = "Europe/Berlin";
 
 // Whether a byte may stand in the name of a zone.

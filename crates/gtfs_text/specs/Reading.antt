@@ -17,7 +17,8 @@ text_left reader = unwrap_or (source_of (λ (r : UpToCommas). Some r.bytes.now) 
 abbrev pub records_left : Reader UpToCommas → List (List (List ℕ))
 records_left reader = records default_config (text_left reader)
 
--- what a fault says of the records that are read after so many: which of them is the first that isn't UTF-8, and nothing if memory was refused
+-- what a fault says of records that are read after `count` others: which of them is the first that isn't UTF-8, and nothing if memory was
+-- refused
 abbrev pub ExplainsAfter : ℕ → List (List (List ℕ)) → SheetFault → Type 0
 ExplainsAfter count records (fault.BadRecord row) = (at : ℕ) × (row ≡ count + at) × (bad_record records ≡ Some at)
 ExplainsAfter count records fault.Memory = Unit {0}
