@@ -15,7 +15,7 @@ use std::io::Write;
 use streams::Stream;
 use tellers::{Given, Teller};
 
-/// In which style a command tells what it came to, and what its words say that a fault may be about.
+/// In which style a command reports what it came to, and what its words say that a fault may be about.
 #[derive(Clone, Copy, Debug)]
 pub struct Voice<'a> {
     pub style: Style,

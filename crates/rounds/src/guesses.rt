@@ -27,7 +27,7 @@ impl Model for Guesses {
 }
 
 impl Guesses {
-    /// The first instance of each of so many lines.
+    /// The first instance of each of `lines` lines.
     pub fn new(alloc: Global, lines: usize) -> Result<Self, AllocError> {
         Ok(Guesses {
             instances: vec![in alloc; 0; lines]?,

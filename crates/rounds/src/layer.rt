@@ -29,7 +29,7 @@ pub struct Layer {
 }
 
 impl Layer {
-    /// Nothing is known, at so many stops; and there are so many lines.
+    /// Nothing is known yet, of `stops` stops and `lines` lines.
     pub fn empty(alloc: Global, stops: usize, lines: usize) -> Result<Self, AllocError>
         ensures { IfOk result (IsSized stops) }
     {

@@ -1,4 +1,4 @@
-//! What a command tells in formats beside its lines, and what it adds to the lines of a fault: who makes these texts.
+//! What a command prints in formats beside its lines, and what it adds to the lines of a fault: who makes these texts.
 #![tactic(auto)]
 
 mod asked;

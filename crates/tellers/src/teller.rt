@@ -94,7 +94,7 @@ pub trait Teller: Copy {
     fn memory_refused(&self, format: Format) -> &'static str
         ensures { (basis : BasisData) → (question : Option Question) → replies format basis question no_memory result.now };
 
-    /// The text of a fault in a format, by what the words say; none if it is told as in lines.
+    /// The text of a fault in a format, by what the words say; none if it is printed as lines.
     fn fault(
         &self,
         alloc: Global,

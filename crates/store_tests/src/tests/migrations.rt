@@ -131,7 +131,7 @@ fn ends_as(
     Ok(ended.stored == wanted && ended.old.as_slice() == old && left.as_slice() == after)
 }
 
-// What is reported of a migration to a store with so many trees, of so many.
+// What is reported of a migration of `all` trees to a store that has the first `before` of them.
 fn reported(before: usize, all: usize) -> Heard {
     Heard {
         first: Some(before),
