@@ -5,3 +5,4 @@ mod program;
 mod texts;
 
 pub use program::matches_of;
+pub use texts::FAULT_TABLE;

@@ -4,15 +4,15 @@ ghost use Rattle.std.specs.Prelude.{◌≡◌, codes, false, IfOk, IfErr, IsOkAn
 ghost use Rattle.clap.specs.Words.{app_of, rule_of, kind_of, subcommand_of, subcommand_rows_of, fault_of, with_subcommand, FailsBy};
 ghost use Rattle.clap.specs.declared.error.kind.ErrorKind.TheVariants.{OutOfMemory};
 ghost use Rattle.clap.specs.declared.builder.command.Command.TheViews.{out-Command as fields_of};
-ghost use Rattle.command_grammar.specs.CommandLine.{ask_app, audit_app, build_app, building_app, check_app, journey_app, list_app};
-ghost use Rattle.command_grammar.specs.CommandLine.{migrate_app, program_app, ranged_rule, scan_app, serve_app, stops_app, store_app, text_rule};
+ghost use Rattle.command_grammar.specs.CommandLine.{ask_app, audit_app, build_app, building_app, check_app, faults_app, journey_app};
+ghost use Rattle.command_grammar.specs.CommandLine.{list_app, migrate_app, program_app, ranged_rule, scan_app, serve_app, stops_app, store_app, text_rule};
 
 use crate::texts::{
     ABOUT, ALL, ASK, ASK_MORE, ASK_USAGE, AT, AUDIT, AUDIT_ALL, AUDIT_MORE, AUDIT_PROGRESS,
     AUDIT_USAGE, AUDITED, AUDITORS, BUILD, BUILD_MORE, CHECK, CHECK_MORE, DIRECT, DIRECT_MORE,
-    FAULTS, FEED, FORMAT, FROM, LEGS, LIST, LIST_MORE, MIGRATE, MIGRATE_MORE, MIGRATE_PROGRESS,
-    NAMES, NEW_STORE, OLD_STORE, ON, PROGRESS, SCAN, SCAN_MORE, SERVE, SERVE_MORE, STOPS,
-    STOPS_MORE, STORE, TEXT, TO, VERSION, WORKERS,
+    FAULT_TABLE, FAULTS, FEED, FORMAT, FROM, HEADER, LEGS, LIST, LIST_MORE, MIGRATE, MIGRATE_MORE,
+    MIGRATE_PROGRESS, MORE, NAMES, NEW_STORE, OLD_STORE, ON, PLAIN_FORMAT, PROGRESS, SCAN,
+    SCAN_MORE, SERVE, SERVE_MORE, STOPS, STOPS_MORE, STORE, TEXT, TO, VERSION, WEEK, WORKERS,
 };
 use clap::builder::ValueParser;
 use clap::{Arg, ArgMatches, Command, Error};
@@ -27,7 +27,9 @@ fn check<'a>(alloc: Global) -> Result<Command<'a>, Error>
 {
     let command = Command::new(alloc, "check")
         .about(CHECK)
-        .arg(required(alloc, "feed", "DIR", FEED))?;
+        .arg(required(alloc, "feed", "DIR", FEED))?
+        .arg(optional(alloc, "date", "YYYYMMDD", WEEK))?
+        .arg(optional(alloc, "format", "FORMAT", PLAIN_FORMAT))?;
     Ok(command.after_help(CHECK_MORE))
 }
 
@@ -49,6 +51,8 @@ fn stops<'a>(alloc: Global) -> Result<Command<'a>, Error>
         .about(STOPS)
         .arg(required(alloc, "feed", "DIR", FEED))?
         .arg(flag(alloc, "all", ALL))?
+        .arg(flag(alloc, "header", HEADER))?
+        .arg(optional(alloc, "format", "FORMAT", FORMAT))?
         .arg(word(alloc, "text", "TEXT", TEXT))?;
     Ok(command.after_help(STOPS_MORE))
 }
@@ -122,9 +126,9 @@ fn build<'a>(alloc: Global) -> Result<Command<'a>, Error>
     ensures local { IfOk result (λ c. (fields_of c).has_globals ≡ false) }
     ensures err { IfErr result (λ e. kind_of e ≡ OutOfMemory) }
 {
-    let command = building(alloc, "build", BUILD, BUILD_MORE)?.arg(flag(
-        alloc, "progress", PROGRESS,
-    ))?;
+    let command = building(alloc, "build", BUILD, BUILD_MORE)?
+        .arg(flag(alloc, "progress", PROGRESS))?
+        .arg(optional(alloc, "format", "FORMAT", FORMAT))?;
     Ok(command)
 }
 
@@ -209,6 +213,16 @@ fn migrate<'a>(alloc: Global) -> Result<Command<'a>, Error>
     Ok(command.after_help(MIGRATE_MORE))
 }
 
+// The command that prints the faults.
+fn faults<'a>(alloc: Global) -> Command<'a>
+    ensures shape { app_of result ≡ faults_app }
+    ensures local { (fields_of result).has_globals ≡ false }
+{
+    Command::new(alloc, "faults")
+        .about(FAULTS)
+        .after_help(FAULT_TABLE)
+}
+
 // The program with one more command, if that could be made.
 fn with_command<'a>(
     program: Command<'a>,
@@ -230,7 +244,7 @@ fn program<'a>(alloc: Global) -> Result<Command<'a>, Error>
     let program = Command::new(alloc, "tp")
         .version(VERSION)
         .about(ABOUT)
-        .after_help(FAULTS)
+        .after_help(MORE)
         .subcommand_required(true);
     let program = with_command(program, check(alloc))?;
     let program = with_command(program, stops(alloc))?;
@@ -242,6 +256,7 @@ fn program<'a>(alloc: Global) -> Result<Command<'a>, Error>
     let program = with_command(program, serve(alloc))?;
     let program = with_command(program, audit(alloc))?;
     let program = with_command(program, migrate(alloc))?;
+    let program = with_command(program, Ok(faults(alloc)))?;
     Ok(program)
 }
 

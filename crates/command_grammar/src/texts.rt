@@ -4,13 +4,19 @@ pub(crate) const VERSION: &str = "0.1.0";
 
 pub(crate) const ABOUT: &str = "Plans journeys over a GTFS Schedule feed.";
 
-pub(crate) const FAULTS: &str = "\
+pub(crate) const MORE: &str = "\
 Example: tp scan --feed demo/feed-m --date 20240102 --from A --to D --at 08:00:00
 
 An answer is lines of ids. With --names, scan and ask print rides and walks with names, for people.
-With --format json, direct, scan, list, ask and serve print JSON. With --format geojson, all of these
-but direct print GeoJSON for a map.
+With --format json, all commands but audit and migrate print JSON. With --format geojson, stops, scan,
+build, list, ask and serve print GeoJSON for a map.
 
+A fault is a line on standard error. `tp help faults` lists the faults and the statuses.";
+
+pub(crate) const FAULTS: &str = "Lists the faults that tp reports, and its statuses";
+
+/// The faults that the program reports, and the statuses that it ends with.
+pub const FAULT_TABLE: &str = "\
 A fault is a line on standard error: its code and its name, and for a fault of the feed the file and
 the row. Row 0 is the header or the whole file. For a file of migrate, old or new stands before the
 code. The faults are:
@@ -56,9 +62,15 @@ Prints how many stops, stations, services, trips, calls, transfers and frequenci
 how many rows of stop_times.txt and transfers.txt were skipped; then `missing FILE` for each
 optional file that isn't there, and `unread NAME` for what else is in the folder, or `unlisted` if
 that can't be listed. If the feed is at fault, only its first fault is reported. A service counts if
-a trip names it.
+a trip names it. Of the days it prints the first and the last day of service, and how many trips run
+on each of seven days: those around --date, or else the first ones from the first day of service on.
 
 Example: tp check --feed demo/feed-m";
+
+pub(crate) const WEEK: &str =
+    "The day around which trips are counted, three days before it and after it";
+
+pub(crate) const PLAIN_FORMAT: &str = "lines, or json for machines";
 
 pub(crate) const FEED: &str = "The folder of the feed's files";
 
@@ -193,6 +205,8 @@ Example: tp stops --feed demo/feed-m a";
 pub(crate) const TEXT: &str = "What the id or name contains; all stops without it";
 
 pub(crate) const ALL: &str = "Print all of them";
+
+pub(crate) const HEADER: &str = "Print a line with the names of the fields first";
 
 pub(crate) const WORKERS: &str =
     "How many trees are built at once, each in a thread of its own, 1 to 64";

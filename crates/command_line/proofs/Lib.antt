@@ -1,4 +1,5 @@
 pub mod DayFacts
 pub mod FaultFacts
+pub mod FeedFacts
 pub mod NameFacts
 pub mod PlanFacts

@@ -1,5 +1,5 @@
 -- Why words give no job, and which fault of theirs is reported: one of `clap`, or else that they name no job, or else the first covered
--- day, or else the day to leave on, or else the time.
+-- day or the date of a check, or else the day to leave on, or else the time.
 use Rattle.std.specs.Prelude.{◌≡◌, ◌⊎◌, [], List, Option, None, Some, codes}
 use Rattle.jiff.specs.Types.{Date}
 use Rattle.clap.specs.Words.{Kinds, Row, Text}
@@ -8,7 +8,9 @@ use Rattle.options.specs.Statuses.{IsStatus}
 use Rattle.options.specs.Values.{HasText}
 use Rattle.question_lines.specs.declared.question.Question.{Question}
 use Rattle.command_line.specs.Days.{HasNoTime, IsDate}
+use Rattle.command_line.specs.FeedWords.{HasCheckWords}
 use Rattle.command_line.specs.Jobs.{IsDayOf, IsOutline, NamesNoJob, question_of}
+use Rattle.command_line.specs.declared.feed_check.FeedCheck.{FeedCheck}
 use Rattle.command_line.specs.declared.format.Style.{Style}
 use Rattle.command_line.specs.declared.job.Plan.{Plan}
 use Rattle.command_line.specs.declared.unread.Unread.{Unread}
@@ -32,6 +34,10 @@ LacksDay rows = (text : Text) × HasText rows (codes "on") text × (date_of text
 abbrev pub LacksTime : List Row → Date → Type 0
 LacksTime rows first = ((day : Date) × IsDayOf rows first day) × HasNoTime rows (codes "at")
 
+-- the date of a check is named, and is none
+abbrev pub NamesNoDate : List Row → Type 0
+NamesNoDate rows = (text : Text) × HasText rows (codes "date") text × (date_of text ≡ None)
+
 -- the word has the first covered day, which is none; or else the day to leave on, which is
 abbrev pub IsBadDate : Word → List Row → Plan → Type 0
 IsBadDate word rows plan =
@@ -52,6 +58,18 @@ pub record IsMisread (Fault : List Row → Plan → Type 0) (style : Style) (nam
   pub told : plan.style ≡ style
   pub fault : Fault rows plan
 
+-- The words of a check that answers in that style, but for its date, which is none: the word has it.
+pub record IsCheckMisread (word : Word) (style : Style) (rows : List Row) : Type 0 where
+  pub check : FeedCheck
+  pub outline : HasCheckWords rows check
+  pub told : check.style ≡ style
+  pub lacks : NamesNoDate rows
+  pub is_word : IsWord word (codes "date") lacks.0
+
+abbrev pub IsCheckMisreadIn : Word → Style → Option (Text × List Row) → Type 0
+IsCheckMisreadIn word style None = ⊥
+IsCheckMisreadIn word style (Some met) = (met.0 ≡ codes "check") × IsCheckMisread word style met.1
+
 abbrev pub IsMisreadIn : (List Row → Plan → Type 0) → Style → Option (Text × List Row) → Type 0
 IsMisreadIn Fault style None = ⊥
 IsMisreadIn Fault style (Some met) = IsMisread Fault style met.0 met.1
@@ -60,5 +78,6 @@ IsMisreadIn Fault style (Some met) = IsMisread Fault style met.0 met.1
 -- none, or for a time: the word that has it is named.
 abbrev pub IsUnread : Kinds → Option (Text × List Row) → Unread → Type 0
 IsUnread kinds met (unread.Shown status) = IsStatus kinds (NamesNoJob met) status
-IsUnread kinds met (unread.BadDate style word) = (kinds ≡ []) × IsMisreadIn (IsBadDate word) style met
+IsUnread kinds met (unread.BadDate style word) =
+    (kinds ≡ []) × (IsMisreadIn (IsBadDate word) style met ⊎ IsCheckMisreadIn word style met)
 IsUnread kinds met (unread.BadTime style word) = (kinds ≡ []) × IsMisreadIn (IsBadTime word) style met

@@ -5,7 +5,8 @@ use Rattle.clap.specs.Words.{Row, Text}
 use Rattle.options.specs.Values.{HasText}
 use Rattle.question_lines.specs.declared.question.Question.{Question}
 use Rattle.command_line.specs.Jobs.{AreTimes, HasPlaces, IsDayOf, IsJobBy, IsOutline}
-use Rattle.command_line.specs.Misreads.{IsAsked, IsBadDate, IsBadTime, IsMisread, IsWord, LacksDay, LacksTime}
+use Rattle.command_line.specs.FeedWords.{HasCheckWords}
+use Rattle.command_line.specs.Misreads.{IsAsked, IsBadDate, IsBadTime, IsCheckMisread, IsMisread, IsWord, LacksDay, LacksTime}
 use Rattle.command_line.specs.declared.format.Style.{Style}
 use Rattle.command_line.specs.declared.job.Job.{Job}
 use Rattle.command_line.specs.declared.job.Plan.{Plan}
@@ -70,6 +71,8 @@ IsPlanFault name rows (unread.BadDate style word) = IsMisread (IsBadDate word) s
 IsPlanFault name rows (unread.BadTime style word) = IsMisread (IsBadTime word) style name rows
 
 abbrev pub IsJobFault : Text → List Row → Unread → Type 0
-IsJobFault name rows (unread.Shown status) = (status ≡ 2) × ((named : Job) → ¬ IsJobBy (IsOutline name rows) name rows named)
-IsJobFault name rows (unread.BadDate style word) = IsMisread (IsBadDate word) style name rows
+IsJobFault name rows (unread.Shown status) =
+    (status ≡ 2) × ((named : Job) → ¬ IsJobBy (IsOutline name rows) (HasCheckWords rows) name rows named)
+IsJobFault name rows (unread.BadDate style word) =
+    IsMisread (IsBadDate word) style name rows ⊎ ((name ≡ codes "check") × IsCheckMisread word style rows)
 IsJobFault name rows (unread.BadTime style word) = IsMisread (IsBadTime word) style name rows

@@ -3,17 +3,21 @@
 
 mod asked_workers;
 mod audited;
+mod feed_check;
 mod format;
 mod job;
 mod migrated;
 mod question;
+mod stop_search;
 mod unread;
 mod words;
 mod workers;
 
 pub use audited::Audited;
+pub use feed_check::FeedCheck;
 pub use format::{Format, Style};
 pub use job::{Command, Job, Plan, Search, Task};
+pub use stop_search::StopSearch;
 pub use unread::{Unread, Word};
 pub use words::read_words;
 pub use workers::Workers;

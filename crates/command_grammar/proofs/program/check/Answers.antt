@@ -6,5 +6,11 @@ use Rattle.command_grammar.proofs.program.check.Goals as goal
 pub returns-clause-shape : goal.returns-clause-shape
 returns-clause-shape c =
     ap app_of_fields c.after_help.ensures
-    ∙ c.in_ok-command.ensures.shape c.required.ensures.local
-    ∙ ap₂ with_rule (ap app_of_fields c.about.ensures ∙ c.new.ensures.app) c.required.ensures.rule
+    ∙ c.in_ok-command.ensures.shape c.optional-2.ensures.local
+    ∙ ap₂ with_rule (
+    c.in_ok-arg-2.ensures.shape c.optional.ensures.local
+    ∙ ap₂ with_rule (
+    c.in_ok-arg.ensures.shape c.required.ensures.local
+    ∙ ap₂ with_rule (ap app_of_fields c.about.ensures ∙ c.new.ensures.app) c.required.ensures.rule)
+    c.optional.ensures.rule)
+    c.optional-2.ensures.rule

@@ -4,7 +4,7 @@ use Rattle.clap.specs.Words.{App, app_of, with_subcommand}
 use Rattle.clap.specs.Simple.{app_of_fields}
 use Rattle.clap.specs.declared.builder.command.Command.{Command}
 use Rattle.clap.specs.declared.error.Error.{Error}
-use Rattle.command_grammar.specs.CommandLine.{ask_app, audit_app, build_app, check_app, journey_app, list_app, migrate_app, needs_subcommand, scan_app, serve_app, stops_app, tells_version}
+use Rattle.command_grammar.specs.CommandLine.{ask_app, audit_app, build_app, check_app, faults_app, journey_app, list_app, migrate_app, needs_subcommand, scan_app, serve_app, stops_app, tells_version}
 use Rattle.command_grammar.proofs.program.program.Goals as goal
 
 -- a program with a command more whose command line is known
@@ -27,6 +27,9 @@ returns-clause-shape c =
     let eight : Command = c.in_ok-program-8.program in
     let nine : Command = c.in_ok-program-9.program in
     let ten : Command = c.in_ok-program-10.program in
+    let eleven : Command = c.in_ok-program-11.program in
+    added (Ok c.faults.result) ten eleven faults_app c.in_ok-program-11.ensures.shape c.faults.ensures.shape
+    ∙ ap (λ (a : App). with_subcommand a faults_app.top) (
     added c.migrate.result nine ten migrate_app c.in_ok-program-10.ensures.shape c.migrate.ensures.shape
     ∙ ap (λ (a : App). with_subcommand a migrate_app.top) (
     added c.audit.result eight nine audit_app c.in_ok-program-9.ensures.shape c.audit.ensures.shape
@@ -49,4 +52,4 @@ returns-clause-shape c =
     ∙ ap (λ (a : App). with_subcommand a check_app.top) (
     ap app_of_fields c.subcommand_required-program.ensures
     ∙ ap needs_subcommand (ap app_of_fields c.after_help.ensures ∙ ap app_of_fields c.about.ensures
-    ∙ ap app_of_fields c.version.ensures ∙ ap tells_version c.new.ensures.app)))))))))))
+    ∙ ap app_of_fields c.version.ensures ∙ ap tells_version c.new.ensures.app))))))))))))

@@ -8,9 +8,15 @@ returns-clause-shape c =
     ap app_of_fields c.after_help.ensures
     ∙ c.in_ok-command.ensures.shape c.word.ensures.local
     ∙ ap₂ with_rule (
+    c.in_ok-arg-4.ensures.shape c.optional.ensures.local
+    ∙ ap₂ with_rule (
+    c.in_ok-arg-3.ensures.shape c.flag-2.ensures.local
+    ∙ ap₂ with_rule (
     c.in_ok-arg-2.ensures.shape c.flag.ensures.local
     ∙ ap₂ with_rule (
     c.in_ok-arg.ensures.shape c.required.ensures.local
     ∙ ap₂ with_rule (ap app_of_fields c.about.ensures ∙ c.new.ensures.app) c.required.ensures.rule)
     c.flag.ensures.rule)
+    c.flag-2.ensures.rule)
+    c.optional.ensures.rule)
     c.word.ensures.rule

@@ -1,0 +1,32 @@
+-- The words of commands over a feed as a whole, which take no covered days.
+use Rattle.std.specs.Prelude.{◌≡◌, ◌↔◌, IsTrue, List, Option, None, Some, MatchOption, codes}
+use Rattle.std.specs.Option.{option_map}
+use Rattle.jiff.specs.Types.{Date}
+use Rattle.clap.specs.Words.{Row, Text, first_of}
+use Rattle.options.specs.Values.{HasFlag, HasText}
+use Rattle.command_line.specs.Days.{IsDate}
+use Rattle.command_line.specs.Formats.{IsPlainStyle, IsStyle}
+use Rattle.command_line.specs.declared.feed_check.FeedCheck.{FeedCheck}
+use Rattle.command_line.specs.declared.stop_search.StopSearch.{StopSearch}
+
+-- the words of a check, whatever date they say
+pub record HasCheckWords (rows : List Row) (check : FeedCheck) : Type 0 where
+  pub feed : HasText rows (codes "feed") check.feed.now
+  pub style : IsPlainStyle rows check.style
+
+-- the date that the words name, if they name one
+abbrev pub IsNamedDate : List Row → Option Date → Type 0
+IsNamedDate rows date =
+    MatchOption (first_of (codes "date") rows) (date ≡ None) (λ text. (day : Date) × (date ≡ Some day) × IsDate text day)
+
+-- the words ask for this check
+abbrev pub IsCheck : List Row → FeedCheck → Type 0
+IsCheck rows check = HasCheckWords rows check × IsNamedDate rows check.date
+
+-- the words ask for these stops
+pub record HasSearchedStops (rows : List Row) (search : StopSearch) : Type 0 where
+  pub feed : HasText rows (codes "feed") search.feed.now
+  pub text : option_map (λ text. text.now) search.text ≡ first_of (codes "text") rows
+  pub all : IsTrue search.all ↔ HasFlag rows (codes "all")
+  pub header : IsTrue search.header ↔ HasFlag rows (codes "header")
+  pub style : IsStyle rows search.style

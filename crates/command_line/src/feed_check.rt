@@ -1,0 +1,58 @@
+//! What is told of a feed as a whole.
+
+ghost use Rattle.std.specs.Prelude.{IfErr, IfOk};
+ghost use Rattle.clap.specs.Words.{rows_of, found_of};
+ghost use Rattle.command_line.specs.FeedWords.{IsCheck};
+ghost use Rattle.command_line.specs.FeedReadings.{IsCheckFault};
+
+use crate::format::{Style, plain_style_of};
+use crate::unread::{Unread, Word};
+use clap::ArgMatches;
+use gtfs_text::date;
+use jiff::civil::Date;
+use options::text_of;
+
+/// What is told of a feed as a whole.
+#[derive(Clone, Copy, Debug, PartialEq, Eq)]
+pub struct FeedCheck<'a> {
+    /// The folder of the feed.
+    pub feed: &'a str,
+    /// The date around which the trips of a day are counted: from the first day of service on, if there is none.
+    pub date: Option<Date>,
+    /// How it is told: as lines, or as JSON.
+    pub style: Style,
+}
+
+/// The check that the words ask for. Its date may be none of the calendar. A fault that words are shown for has status 2.
+pub(crate) fn check_of<'a>(found: &ArgMatches<'a>) -> Result<FeedCheck<'a>, Unread<'a>>
+    ensures check { IfOk result (IsCheck (rows_of (found_of found.now))) }
+    ensures fault { IfErr result (IsCheckFault (rows_of (found_of found.now))) }
+{
+    let Some(feed) = text_of(found, "feed") else {
+        return Err(Unread::Shown(2));
+    };
+    let Some(style) = plain_style_of(found) else {
+        return Err(Unread::Shown(2));
+    };
+    let Some(text) = text_of(found, "date") else {
+        return Ok(FeedCheck {
+            feed,
+            date: None,
+            style,
+        });
+    };
+    match date(text) {
+        Some(day) => Ok(FeedCheck {
+            feed,
+            date: Some(day),
+            style,
+        }),
+        None => Err(Unread::BadDate(
+            style,
+            Word {
+                option: "date",
+                text,
+            },
+        )),
+    }
+}
