@@ -21,15 +21,21 @@ pub struct Time {
 pub struct Shown {
     pub moment: Timestamp,
     pub offset: Offset,
+    /// Whether the offset is known. Else the moment is taken by local time, with no offset.
+    pub is_placed: bool,
 }
 
 impl Time {
-    /// By the zone's clock with its offset, as ISO 8601 has it: `2024-01-03T01:10:00+01:00`.
+    /// By the zone's clock with its offset, as ISO 8601 has it: `2024-01-03T01:10:00+01:00`. If the offset isn't known, it is left out.
     pub(crate) fn iso(&self) -> Option<ArrayString<38>> {
-        match self.shown {
-            Some(shown) => Some(shown.moment.display_with_offset(shown.offset)),
-            None => None,
+        let shown = self.shown?;
+        if shown.is_placed {
+            return Some(shown.moment.display_with_offset(shown.offset));
         }
+        let mut text = ArrayString::new();
+        // It has 19 bytes, since the moment is one of whole seconds.
+        let _ = write!(text, "{}", shown.offset.to_datetime(shown.moment));
+        Some(text)
     }
 
     /// The service day and its time with a space between them: `20240102 25:10:00`.

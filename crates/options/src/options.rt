@@ -102,7 +102,7 @@ pub fn common<'a>(alloc: Global, name: &'a str, about: &'a str) -> Result<Comman
     ensures err { IfErr result (λ e. kind_of e ≡ OutOfMemory) }
 {
     let command = of_feed(alloc, name, about)?
-        .arg(defaulted(alloc, "zone", "RULE", "UTC0", ZONE))?
+        .arg(defaulted(alloc, "zone", "RULE", "<-00>0", ZONE))?
         .arg(number(alloc, "rides", "K", "3", 1, 8, RIDES))?
         .arg(number(alloc, "default-walk", "SECONDS", "120", 0, 86_400, WALK))?;
     Ok(command)

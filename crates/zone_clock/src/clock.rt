@@ -6,17 +6,24 @@ use jiff::civil::{Date, DateTime};
 use jiff::tz::TimeZone;
 use jiff::{Error, SignedDuration};
 
+// The rule of a local time whose offset from UTC isn't known (the abbreviation `-00` of the tz database, "Theory and pragmatics").
+const UNPLACED: &str = "<-00>0";
+
 /// The clock of a zone.
 #[derive(Clone, Copy)]
 pub struct Clock {
     zone: TimeZone<'static>,
+    // Whether it is known how far the zone is from UTC.
+    is_placed: bool,
 }
 
 impl Clock {
-    /// The clock of a zone's POSIX rule, as `CET-1CEST,M3.5.0,M10.5.0/3`; that of UTC if the text is none.
+    /// The clock of a zone's POSIX rule, as `CET-1CEST,M3.5.0,M10.5.0/3`; that of UTC if the text is none. Of the rule `<-00>0` it isn't
+    /// known how far local time is from UTC.
     pub fn of(rule: &str) -> Clock {
         Clock {
             zone: TimeZone::posix(rule).unwrap_or(TimeZone::UTC),
+            is_placed: rule != UNPLACED,
         }
     }
 
@@ -34,6 +41,7 @@ impl Clock {
         Ok(Shown {
             moment,
             offset: self.zone.to_offset(moment),
+            is_placed: self.is_placed,
         })
     }
 }
