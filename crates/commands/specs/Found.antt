@@ -1,6 +1,7 @@
 -- How what a command finds is told.
 use Rattle.std.specs.Prelude.{◌≡◌, ◌⊎◌, ℕ, List, Result, Ok, Err, String, string_bytes}
 use Rattle.std.specs.Global.{Global}
+use Rattle.answer_lines.specs.Reports.{report_status}
 use Rattle.command_line.specs.declared.format.Format.{Format}
 use Rattle.command_line.specs.declared.format.Style.{Style}
 use Rattle.command_line.specs.declared.format.Style.TheVariants as styles
@@ -30,10 +31,15 @@ abbrev pub IsTextOf : Telling → Format → BasisData → Found → List ℕ �
 IsTextOf t format basis (founds.Answer question answer) text = t.tells format basis answer text
 IsTextOf t format basis (founds.Report report) text = t.reports format report text
 
+-- the status to end with: that of a report
+abbrev pub found_status : Found → ℕ
+found_status (founds.Answer question answer) = 0
+found_status (founds.Report report) = report_status report
+
 -- as a text in a format, or memory ran out as it was made
 abbrev pub IsToldIn : Telling → Format → BasisData → Found → Result Told Fault → Type 0
 IsToldIn t format basis found told =
-    ((text : String Global) × (told ≡ Ok (tolds.Text text)) × IsTextOf t format basis found (string_bytes text))
+    ((text : String Global) × (told ≡ Ok (tolds.Text text (found_status found))) × IsTextOf t format basis found (string_bytes text))
     ⊎ (told ≡ Err faults.Memory)
 
 -- what is found, in a style

@@ -1,6 +1,8 @@
+pub mod Checks
 pub mod World
 pub mod Feeds
 pub mod Files
+pub mod Idle
 pub mod Rules
 pub mod Found
 pub mod Stored

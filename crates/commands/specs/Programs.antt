@@ -1,26 +1,25 @@
 -- What the program leaves, from its words on.
 use Rattle.std.specs.Prelude.{◌≡◌, ◌⊎◌, ℕ, List, [], Option, None, Result, Err}
-use Rattle.std.specs.Option.{option_map, unwrap_or}
 use Rattle.clap.specs.Words.{Text, fault_of, subcommand_of}
 use Rattle.gtfs_tables.specs.Feed.{Feed}
 use Rattle.command_grammar.specs.CommandLine.{program_app}
 use Rattle.command_line.specs.Jobs.{IsJob}
 use Rattle.command_line.specs.Misreads.{IsUnread}
-use Rattle.command_line.specs.declared.format.Style.TheVariants as styles
 use Rattle.command_line.specs.declared.job.Job.{Job}
 use Rattle.command_line.specs.declared.job.Job.TheVariants as jobs
 use Rattle.command_line.specs.declared.format.Style.{Style}
 use Rattle.command_line.specs.declared.unread.Unread.{Unread}
 use Rattle.command_line.specs.declared.unread.Unread.TheVariants as unread
 use Rattle.command_line.specs.declared.unread.Word.{Word}
-use Rattle.printing.specs.Finished.{IsFaulted, IsFinished, IsShown, StreamsData}
+use Rattle.printing.specs.Finished.{IsFaulted, IsFinished, IsShown, IsWritten, StreamsData}
 use Rattle.printing.specs.declared.fault.Voice.{Voice}
 use Rattle.printing.specs.declared.told.Told.{Told}
+use Rattle.printing.specs.declared.told.Told.TheVariants as tolds
 use Rattle.faults.specs.declared.fault.Fault.{Fault}
 use Rattle.faults.specs.declared.fault.Fault.TheVariants.{BadDate, BadTime, Memory}
 use Rattle.tellers.specs.Given.{folder_given, word_given}
 use Rattle.tellers.specs.Tellings.{Telling}
-use Rattle.commands.specs.Rules.{AreStops, IsChecked}
+use Rattle.commands.specs.Checks.{AreStops, IsChecked}
 use Rattle.commands.specs.Runs.{IsPlanRun, voice_of}
 use Rattle.commands.specs.World.{SystemView}
 use denote.Ref.{Bor}
@@ -53,19 +52,25 @@ pub record IsPlainRun {D : Type 0} (v : SystemView D) (voice : Voice) (told : Re
   pub finished : IsFinished v.telling voice told old new status
   pub none : disk ≡ None
 
--- as lines, over the feed in that folder
-abbrev pub lines_over : Bor (List ℕ) → Voice
-lines_over feed = record { style = styles.Lines; given = folder_given feed }
+-- in that style, over the feed in that folder
+abbrev pub folder_voice : Style → Bor (List ℕ) → Voice
+folder_voice style feed = record { style = style; given = folder_given feed }
+
+-- the faults and the statuses are printed, and no store was opened
+abbrev pub AreFaultsListed : {D : Type 0} → StreamsData → StreamsData → ℕ → Option D → Type 0
+AreFaultsListed old new status disk = IsWritten tolds.Faults old new status × (disk ≡ None)
 
 -- What a job leaves, whatever feed its folder holds. Memory may run out as the files of the feed are opened.
 abbrev pub IsJobRun : {D : Type 0} → SystemView D → Option (List ℕ) → Job → StreamsData → StreamsData → ℕ → Option D → Type 0
-IsJobRun v input (jobs.Check folder) old new status disk =
-    (told : Result Told Fault) × IsPlainRun v (lines_over folder) told old new status disk
+IsJobRun v input jobs.Faults old new status disk = AreFaultsListed old new status disk
+IsJobRun v input (jobs.Check check) old new status disk =
+    (told : Result Told Fault) × IsPlainRun v (folder_voice check.style check.feed) told old new status disk
     × ((told ≡ Err Memory)
-    ⊎ ((feed : Feed) → v.world.holds folder.now feed → IsChecked (v.world.lists folder.now) v.world.keyed feed told))
-IsJobRun v input (jobs.Stops folder text all) old new status disk =
-    (told : Result Told Fault) × IsPlainRun v (lines_over folder) told old new status disk
-    × AreStops v.telling folder.now (unwrap_or (option_map (λ t. t.now) text) []) all told
+    ⊎ ((feed : Feed) → v.world.holds check.feed.now feed
+    → IsChecked v.telling (v.world.lists check.feed.now) v.world.keyed feed check told))
+IsJobRun v input (jobs.Stops search) old new status disk =
+    (told : Result Told Fault) × IsPlainRun v (folder_voice search.style search.feed) told old new status disk
+    × AreStops v.telling search told
 IsJobRun v input (jobs.Plan plan) old new status disk =
     IsPlainRun v (voice_of plan) (Err Memory) old new status disk
     ⊎ ((feed : Feed) → v.world.holds plan.settings.feed.now feed → IsPlanRun v input feed plan old new status disk)

@@ -1,31 +1,24 @@
 -- What each command may find, or which fault it has.
-use Rattle.std.specs.Prelude.{◌≡◌, ◌↔◌, ◌⊎◌, ℕ, Bool, true, List, Option, Result, Err, IfErr, MatchResult, String, string_bytes}
-use Rattle.std.specs.Global.{Global}
+use Rattle.std.specs.Prelude.{◌≡◌, ◌↔◌, ◌⊎◌, ℕ, Bool, List, Option, Result, Err, IfErr, MatchResult}
 use Rattle.disk_model.specs.Disk.{State, Grew}
 use Rattle.disk_model.specs.Image.{IsOutcome}
 use Rattle.disk_model.specs.Moments.{LeavesOnly}
-use Rattle.gtfs_tables.specs.Feed.{Feed}
 use Rattle.question_lines.specs.declared.question.Question.{Question}
 use Rattle.faults.specs.Faults.{in_migration}
 use Rattle.faults.specs.declared.fault.Fault.{Fault}
 use Rattle.faults.specs.declared.migrating.Side.TheVariants.{Old}
 use Rattle.feed_basis.specs.Basis.{BasisData}
 use Rattle.feed_basis.specs.Ids.{stop_alone}
-use Rattle.feed_report.specs.Counts.{AreCounts, IsCheckFault}
-use Rattle.feed_report.specs.Reports.{Names}
-use Rattle.feed_report.specs.declared.report.FeedReport.{FeedReport}
 use Rattle.answer_lines.specs.declared.answer.Answer.{Answer}
 use Rattle.answer_lines.specs.declared.report.Report.{Report}
 use Rattle.answering.specs.Answers.{IsAnswered}
 use Rattle.answering.specs.Refusals.{IsUnanswered, NoneMissing}
-use Rattle.printing.specs.declared.told.Told.{Told}
-use Rattle.printing.specs.declared.told.Told.TheVariants as tolds
 use Rattle.store_answers.specs.Asked.{IsStoredAnswer, IsStoredRefusal}
 use Rattle.store_answers.specs.Audited.{IsAllAudited, IsAudited, IsUnaudited}
 use Rattle.store_building.specs.Builds.{IsBuilt, IsUnbuilt, ReportsBuilt}
 use Rattle.store_answers.specs.Listings.{IsListed}
 use Rattle.service_days.specs.Answers.{IsMoment}
-use Rattle.tellers.specs.Tellings.{IsStopsFault, Telling, tells_legs}
+use Rattle.tellers.specs.Tellings.{tells_legs}
 use Rattle.store_migration.specs.Migrations.{IsTakenOver, IsUntaken, TellsOldDevice}
 use Rattle.store_terms.specs.Stores.{IsUntold, form_over}
 use Rattle.command_line.specs.declared.audited.Audited.{Audited}
@@ -100,14 +93,3 @@ IsTaskDone v style basis k (tasks.Audit whose) old new found = IsAuditDone basis
 IsTaskDone v style basis k (tasks.Build workers progress) old new found =
     MatchResult found (FindsReport (ReportsBuilt (IsBuilt basis k old new))) (IsUnbuilt basis k old new)
 IsTaskDone v style basis k (tasks.Migrate path progress) old new found = IsMigrated v basis k path.now old new found
-
--- what a feed has, and what else is among the names in its folder; or the feed's fault
-abbrev pub IsChecked : (Names → Type 0) → Bool → Feed → Result Told Fault → Type 0
-IsChecked lists keyed feed told =
-    MatchResult told (λ told. (report : FeedReport) × (told ≡ tolds.Feed report) × AreCounts feed report.counts × (keyed ≡ true) × lists report.names)
-    (IsCheckFault keyed feed)
-
--- the lines of the stops of a folder that a text finds, or why there are none
-abbrev pub AreStops : Telling → List ℕ → List ℕ → Bool → Result Told Fault → Type 0
-AreStops t folder text all told =
-    MatchResult told (λ told. (lines : String Global) × (told ≡ tolds.Text lines) × t.finds folder text all (string_bytes lines)) IsStopsFault

@@ -18,6 +18,7 @@ use Rattle.tellers.specs.Given.{given_by}
 use Rattle.tellers.specs.Tellings.{tells_legs, tells_reply}
 use Rattle.commands.specs.Feeds.{IsGround}
 use Rattle.commands.specs.Found.{IsFoundPrinted}
+use Rattle.commands.specs.Idle.{IsIdleSaid}
 use Rattle.commands.specs.Rules.{IsStopAnswer}
 use Rattle.commands.specs.Served.{IsNoLookup, IsServedBy, dialogue_of}
 use Rattle.commands.specs.Stored.{IsOverStore}
@@ -60,10 +61,17 @@ IsCommandRun v input plan basis (commands.Find search) old new status disk =
 IsCommandRun v input plan basis (commands.Serve store workers) old new status disk =
     IsServed v input plan.style (voice_of plan) basis plan.settings.rides store.now old new status disk
 
+-- standard error says if no trip runs on the covered days, and then the command is done
+pub record IsRunOver {D : Type 0} (v : SystemView D) (input : Option (List ℕ)) (plan : Plan) (basis : BasisData) (old new : StreamsData)
+    (status : ℕ) (disk : Option D) : Type 0 where
+  pub noticed : StreamData
+  pub idle : IsIdleSaid basis.idle old.err noticed
+  pub command : IsCommandRun v input plan basis plan.command (streams_of old.out noticed) new status disk
+
 -- What a run leaves, in the order in which faults are looked for: the feed and its days; then the store, and then the question.
 -- The store is opened only if the feed and its days are without fault.
 abbrev pub IsPlanRun : {D : Type 0} → SystemView D → Option (List ℕ) → Feed → Plan → StreamsData → StreamsData → ℕ → Option D → Type 0
 IsPlanRun v input feed plan old new status disk =
     ((disk ≡ None) × (fault : Fault) × IsBasisFault v.world.keyed feed plan.settings plan.first fault
     × IsFaulted v.telling (voice_of plan) fault old new status)
-    ⊎ ((basis : BasisData) × IsGround v.world.keyed feed plan basis × IsCommandRun v input plan basis plan.command old new status disk)
+    ⊎ ((basis : BasisData) × IsGround v.world.keyed feed plan basis × IsRunOver v input plan basis old new status disk)

@@ -1,11 +1,10 @@
 //! What a feed has.
 
-ghost use Rattle.std.specs.Prelude.{[], option_map, unwrap_or};
 ghost use Rattle.gtfs_tables.specs.Feed.{Feed, AreReaders};
-ghost use Rattle.commands.specs.Rules.{AreStops, IsChecked};
-ghost use Rattle.tellers.specs.Tellings.{telling_of};
+ghost use Rattle.commands.specs.Checks.{AreStops, IsChecked, IsFeedTold};
 
 use crate::system::System;
+use command_line::{FeedCheck, StopSearch, Style};
 use faults::Fault;
 use feed_report::{FeedReport, counts_of};
 use gtfs_tables::Files;
@@ -13,39 +12,61 @@ use printing::Told;
 use std::alloc::Global;
 use tellers::Teller;
 
+// What the feed in a folder has, in the style.
+fn told_feed<T: Teller>(
+    alloc: Global,
+    teller: &T,
+    style: Style,
+    folder: &str,
+    report: FeedReport,
+) -> Result<Told<'static>, Fault<'static>>
+    ensures { IsFeedTold T.telling style report.entry result }
+{
+    match style {
+        Style::Lines => Ok(Told::Feed(report)),
+        Style::Told(format) => match teller.feed(alloc, format, folder, &report) {
+            Ok(text) => Ok(Told::Text { text, status: 0 }),
+            Err(_) => Err(Fault::Memory),
+        },
+    }
+}
+
 /// What the feed has, and what else is among the names in its folder, which are looked for only if it is without fault.
 pub fn check<S: System>(
     alloc: Global,
     system: &S,
-    folder: &str,
+    check: &FeedCheck<'_>,
     files: Files<S::Reader>,
 ) -> Result<Told<'static>, Fault<'static>>
     ensures { (feed : Feed) → AreReaders S.Reader.remaining files feed
-        → IsChecked ((S.world system.now).lists folder.now) (S.world system.now).keyed feed result }
+        → IsChecked S.Teller.telling ((S.world system.now).lists check.now.feed.now) (S.world system.now).keyed feed check.now result }
 {
-    let counts = match counts_of(alloc, system.hash_keys(), files) {
+    let counts = match counts_of(alloc, system.hash_keys(), check.date, files) {
         Ok(counts) => counts,
         Err(fault) => return Err(fault),
     };
-    match system.list_folder(folder) {
-        Ok(names) => Ok(Told::Feed(FeedReport { counts, names })),
+    match system.list_folder(check.feed) {
+        Ok(names) => told_feed(
+            alloc,
+            &system.teller(),
+            check.style,
+            check.feed,
+            FeedReport { counts, names },
+        ),
         Err(_) => Err(Fault::Memory),
     }
 }
 
-/// The stops and stations in a folder whose id or name contains a text, the first of them or all; all are meant if there is no text.
+/// The stops and stations that are searched for.
 pub fn stops<T: Teller>(
     alloc: Global,
     teller: &T,
-    folder: &str,
-    text: Option<&str>,
-    all: bool,
+    search: &StopSearch<'_>,
 ) -> Result<Told<'static>, Fault<'static>>
-    ensures { AreStops (telling_of T.tells T.reports T.finds T.replies T.faults T.hints) folder.now
-        (unwrap_or (option_map (λ t. t.now) text.entry) []) all result }
+    ensures { AreStops T.telling search.now result }
 {
-    match teller.stops(alloc, folder, text.unwrap_or(""), all) {
-        Ok(lines) => Ok(Told::Text(lines)),
+    match teller.stops(alloc, search) {
+        Ok(text) => Ok(Told::Text { text, status: 0 }),
         Err(fault) => Err(fault),
     }
 }

@@ -2,7 +2,6 @@
 
 ghost use Rattle.commands.specs.Runs.{IsSearchFound};
 ghost use Rattle.commands.specs.World.{view_of};
-ghost use Rattle.tellers.specs.Tellings.{telling_of};
 
 use crate::found::{Found, found_answer};
 use crate::opening::StoreFile;
@@ -30,7 +29,7 @@ pub fn find<'a, S: System, E: Write + Drop>(
     err: &mut Stream<E>,
 ) -> (Result<Found<'a>, Fault<'a>>, Option<S::Store>)
     ensures { IsSearchFound (view_of (S.world system.now) S.Store.honest S.Store.state S.Store.failures
-        (telling_of S.Teller.tells S.Teller.reports S.Teller.finds S.Teller.replies S.Teller.faults S.Teller.hints))
+        S.Teller.telling)
         style basis.now rides search.now result.0 result.1 err.old err.new }
 {
     match search {

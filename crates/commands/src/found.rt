@@ -1,9 +1,8 @@
 //! What a command finds, and how it is told.
 
 ghost use Rattle.std.specs.Prelude.{◌≡◌};
-ghost use Rattle.commands.specs.Found.{IsFoundPrinted, IsTold, IsToldIn, found_by, lines_of};
+ghost use Rattle.commands.specs.Found.{IsFoundPrinted, IsTold, IsToldIn, found_by, found_status, lines_of};
 ghost use Rattle.printing.specs.Finished.{streams_of};
-ghost use Rattle.tellers.specs.Tellings.{telling_of};
 
 use answer_lines::{Answer, Report};
 use command_line::{Format, Plan, Style};
@@ -57,6 +56,16 @@ fn as_lines<'a>(found: Found<'a>) -> Told<'a>
     }
 }
 
+// The status to end with: that of a report.
+fn found_status(found: &Found<'_>) -> u8
+    ensures { result ≡ found_status found.now }
+{
+    match found {
+        Found::Answer(..) => 0,
+        Found::Report(report) => report.status(),
+    }
+}
+
 // What is found, as a text in a format.
 fn in_format<T: Teller>(
     alloc: Global,
@@ -66,7 +75,7 @@ fn in_format<T: Teller>(
     basis: &Basis,
     found: &Found<'_>,
 ) -> Result<Told<'static>, Fault<'static>>
-    ensures { IsToldIn (telling_of T.tells T.reports T.finds T.replies T.faults T.hints) format basis.now found.now result }
+    ensures { IsToldIn T.telling format basis.now found.now result }
 {
     let text = match found {
         Found::Answer(question, answer) => {
@@ -83,7 +92,10 @@ fn in_format<T: Teller>(
         }
     };
     match text {
-        Ok(text) => Ok(Told::Text(text)),
+        Ok(text) => Ok(Told::Text {
+            text,
+            status: found_status(found),
+        }),
         Err(_) => Err(Fault::Memory),
     }
 }
@@ -97,7 +109,7 @@ fn told<'a, T: Teller>(
     basis: &Basis,
     found: Result<Found<'a>, Fault<'a>>,
 ) -> Result<Told<'a>, Fault<'a>>
-    ensures { IsTold (telling_of T.tells T.reports T.finds T.replies T.faults T.hints) style basis.now found.entry result }
+    ensures { IsTold T.telling style basis.now found.entry result }
 {
     let found = match found {
         Ok(found) => found,
@@ -119,7 +131,7 @@ pub fn finish_found<'a, T: Teller, O: Write + Drop, E: Write + Drop>(
     found: Result<Found<'a>, Fault<'a>>,
     streams: &mut Streams<O, E>,
 ) -> u8
-    ensures { IsFoundPrinted (telling_of T.tells T.reports T.finds T.replies T.faults T.hints) voice.now basis.now found.entry
+    ensures { IsFoundPrinted T.telling voice.now basis.now found.entry
         (streams_of streams.old.out streams.old.err) (streams_of streams.new.out streams.new.err) result }
 {
     let told = told(alloc, teller, voice.style, plan, basis, found);

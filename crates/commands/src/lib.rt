@@ -4,6 +4,7 @@
 mod checking;
 mod finding;
 mod found;
+mod idling;
 mod opening;
 mod program;
 mod replies;

@@ -4,7 +4,6 @@ ghost use Rattle.std.specs.Prelude.{◌≡◌, IfOk, IfErr};
 ghost use Rattle.commands.specs.Files.{IsKeptOut, IsNoticed, IsReady, of_file};
 ghost use Rattle.commands.specs.World.{view_of};
 ghost use Rattle.store_terms.specs.Stores.{form_over};
-ghost use Rattle.tellers.specs.Tellings.{telling_of};
 
 use crate::system::System;
 use disk_model::{Disk, FileFault};
@@ -70,10 +69,10 @@ pub fn open_ready<S: System>(
     access: Access,
 ) -> Result<Ready<S::Store>, (Fault<'static>, Option<S::Store>)>
     ensures ready { IfOk result (λ ready. IsReady (view_of (S.world system.now) S.Store.honest S.Store.state S.Store.failures
-        (telling_of S.Teller.tells S.Teller.reports S.Teller.finds S.Teller.replies S.Teller.faults S.Teller.hints))
+        S.Teller.telling)
         (form_over file.now.basis.now file.now.rides) file.now.path.now ready.disk ready.is_new) }
     ensures kept_out { IfErr result (λ e. IsKeptOut (view_of (S.world system.now) S.Store.honest S.Store.state S.Store.failures
-        (telling_of S.Teller.tells S.Teller.reports S.Teller.finds S.Teller.replies S.Teller.faults S.Teller.hints))
+        S.Teller.telling)
         (form_over file.now.basis.now file.now.rides) file.now.path.now e.0 e.1) }
 {
     let mut disk = match open_disk(system, file.path, access) {

@@ -1,17 +1,17 @@
 //! The program, from its words to both streams.
 
 ghost use Rattle.std.specs.Prelude.{◌≡◌, map};
-ghost use Rattle.commands.specs.Programs.{IsJobRun, IsPlainRun, IsProgramRun, IsRefused, lines_over, word_voice};
+ghost use Rattle.commands.specs.Programs.{AreFaultsListed, IsJobRun, IsPlainRun, IsProgramRun, IsRefused, folder_voice, word_voice};
 ghost use Rattle.commands.specs.World.{view_of};
 ghost use Rattle.printing.specs.Finished.{IsFaulted, streams_of};
-ghost use Rattle.tellers.specs.Tellings.{telling_of};
 
 use crate::checking::{check, stops};
 use crate::running::{Ended, run_plan, voice_of};
 use crate::system::System;
 use command_line::{Job, Style, Unread, Word, read_words};
+use disk_model::Disk;
 use faults::Fault;
-use printing::{Streams, Told, Voice, finish, say_no_memory, show, tell_fault};
+use printing::{Streams, Told, Voice, finish, print, say_no_memory, show, tell_fault};
 use std::alloc::Global;
 use std::io::{BufRead, Write};
 use tellers::{Given, Teller};
@@ -25,7 +25,7 @@ fn ended<S: System, O: Write + Drop, E: Write + Drop>(
     streams: Streams<O, E>,
 ) -> Ended<S::Store, O, E>
     ensures { IsPlainRun (view_of (S.world system.now) S.Store.honest S.Store.state S.Store.failures
-        (telling_of S.Teller.tells S.Teller.reports S.Teller.finds S.Teller.replies S.Teller.faults S.Teller.hints))
+        S.Teller.telling)
         voice.now told.entry (streams_of streams.out streams.err) (streams_of result.streams.out result.streams.err)
         result.status result.store }
 {
@@ -38,13 +38,30 @@ fn ended<S: System, O: Write + Drop, E: Write + Drop>(
     }
 }
 
-// How a command without days is printed: as lines.
-fn lines_over<'a>(feed: &'a str) -> Voice<'a>
-    ensures { result ≡ lines_over feed.entry }
+// How a command over a feed as a whole is told.
+fn folder_voice<'a>(style: Style, feed: &'a str) -> Voice<'a>
+    ensures { result ≡ folder_voice style feed.entry }
 {
     Voice {
-        style: Style::Lines,
+        style,
         given: Given::folder(feed),
+    }
+}
+
+// Prints the faults and the statuses of the program.
+fn list_faults<D: Disk + Drop, O: Write + Drop, E: Write + Drop>(
+    alloc: Global,
+    streams: Streams<O, E>,
+) -> Ended<D, O, E>
+    ensures { AreFaultsListed (streams_of streams.out streams.err) (streams_of result.streams.out result.streams.err)
+        result.status result.store }
+{
+    let mut streams = streams;
+    let status = print(alloc, Told::Faults, &mut streams);
+    Ended {
+        status,
+        store: None,
+        streams,
     }
 }
 
@@ -56,24 +73,24 @@ fn run_job<S: System, I: BufRead, O: Write + Drop, E: Write + Drop>(
     input: &mut I,
     streams: Streams<O, E>,
 ) -> Ended<S::Store, O, E>
-    ensures { IsJobRun (view_of (S.world system.now) S.Store.honest S.Store.state S.Store.failures
-        (telling_of S.Teller.tells S.Teller.reports S.Teller.finds S.Teller.replies S.Teller.faults S.Teller.hints))
+    ensures { IsJobRun (view_of (S.world system.now) S.Store.honest S.Store.state S.Store.failures S.Teller.telling)
         (I.remaining input.old) job.now (streams_of streams.out streams.err) (streams_of result.streams.out result.streams.err)
         result.status result.store }
 {
     match job {
-        Job::Stops { feed, text, all } => {
-            let lines = lines_over(feed);
-            let told = stops(alloc, &system.teller(), feed, *text, *all);
-            ended(alloc, system, &lines, told, streams)
+        Job::Faults => list_faults(alloc, streams),
+        Job::Stops(search) => {
+            let voice = folder_voice(search.style, search.feed);
+            let told = stops(alloc, &system.teller(), search);
+            ended(alloc, system, &voice, told, streams)
         }
-        Job::Check { feed } => {
-            let lines = lines_over(feed);
-            let told = match system.open_feed(alloc, feed) {
-                Ok(files) => check(alloc, system, feed, files),
+        Job::Check(asked) => {
+            let voice = folder_voice(asked.style, asked.feed);
+            let told = match system.open_feed(alloc, asked.feed) {
+                Ok(files) => check(alloc, system, asked, files),
                 Err(_) => Err(Fault::Memory),
             };
-            ended(alloc, system, &lines, told, streams)
+            ended(alloc, system, &voice, told, streams)
         }
         Job::Plan(plan) => match system.open_feed(alloc, plan.settings.feed) {
             Ok(files) => run_plan(alloc, system, plan, files, input, streams),
@@ -91,7 +108,7 @@ fn tell_word<T: Teller, O: Write + Drop, E: Write + Drop>(
     fault: &Fault<'_>,
     streams: &mut Streams<O, E>,
 ) -> u8
-    ensures { IsFaulted (telling_of T.tells T.reports T.finds T.replies T.faults T.hints) (word_voice style word.entry) fault.now
+    ensures { IsFaulted T.telling (word_voice style word.entry) fault.now
         (streams_of streams.old.out streams.old.err) (streams_of streams.new.out streams.new.err) result }
 {
     let voice = Voice {
@@ -109,7 +126,7 @@ fn refuse_words<T: Teller, O: Write + Drop, E: Write + Drop>(
     shown: &[u8],
     streams: &mut Streams<O, E>,
 ) -> u8
-    ensures { IsRefused (telling_of T.tells T.reports T.finds T.replies T.faults T.hints) why.entry
+    ensures { IsRefused T.telling why.entry
         (streams_of streams.old.out streams.old.err) (streams_of streams.new.out streams.new.err) result }
 {
     match why {
@@ -136,7 +153,7 @@ pub fn run_words<'a, S: System, I: BufRead, O: Write + Drop, E: Write + Drop>(
     streams: Streams<O, E>,
 ) -> Ended<S::Store, O, E>
     ensures { IsProgramRun (view_of (S.world system.now) S.Store.honest S.Store.state S.Store.failures
-        (telling_of S.Teller.tells S.Teller.reports S.Teller.finds S.Teller.replies S.Teller.faults S.Teller.hints))
+        S.Teller.telling)
         (I.remaining input.old) (map (λ word. word.now) words.entry.now)
         (streams_of streams.out streams.err) (streams_of result.streams.out result.streams.err) result.status result.store }
 {

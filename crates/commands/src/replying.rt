@@ -5,7 +5,6 @@ ghost use Rattle.commands.specs.Runs.{IsServed};
 ghost use Rattle.commands.specs.Served.{IsServedBy, dialogue_of};
 ghost use Rattle.commands.specs.World.{view_of};
 ghost use Rattle.printing.specs.Finished.{streams_of};
-ghost use Rattle.tellers.specs.Tellings.{telling_of};
 
 use crate::opening::{Access, Ready, StoreFile, open_ready, say_new};
 use crate::replies::FormatReplies;
@@ -39,7 +38,7 @@ fn serve_by<S: System, R: ReplyTeller, I: BufRead, O: Write + Drop, E: Write + D
     streams: Streams<O, E>,
 ) -> Ended<S::Store, O, E>
     ensures { IsServedBy (view_of (S.world system.now) S.Store.honest S.Store.state S.Store.failures
-        (telling_of S.Teller.tells S.Teller.reports S.Teller.finds S.Teller.replies S.Teller.faults S.Teller.hints))
+        S.Teller.telling)
         site.now.file.basis.now site.now.file.rides site.now.file.path.now voice.now
         (dialogue_of (λ question reply text. R.tells replies.now site.now.file.basis.now question reply text) (R.tells_legs replies.now)
         (I.remaining input.old))
@@ -94,7 +93,7 @@ pub fn run_serve<S: System, I: BufRead, O: Write + Drop, E: Write + Drop>(
     streams: Streams<O, E>,
 ) -> Ended<S::Store, O, E>
     ensures { IsServed (view_of (S.world system.now) S.Store.honest S.Store.state S.Store.failures
-        (telling_of S.Teller.tells S.Teller.reports S.Teller.finds S.Teller.replies S.Teller.faults S.Teller.hints))
+        S.Teller.telling)
         (I.remaining input.old) plan.now.style voice.now site.now.file.basis.now site.now.file.rides site.now.file.path.now
         (streams_of streams.out streams.err) (streams_of result.streams.out result.streams.err) result.status result.store }
 {

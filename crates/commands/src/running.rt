@@ -2,13 +2,13 @@
 
 ghost use Rattle.std.specs.Prelude.{◌≡◌};
 ghost use Rattle.gtfs_tables.specs.Feed.{Feed, AreReaders};
-ghost use Rattle.commands.specs.Runs.{IsFoundRun, IsPlanRun, voice_of};
+ghost use Rattle.commands.specs.Runs.{IsCommandRun, IsFoundRun, IsPlanRun, voice_of};
 ghost use Rattle.commands.specs.World.{view_of};
 ghost use Rattle.printing.specs.Finished.{streams_of};
-ghost use Rattle.tellers.specs.Tellings.{telling_of};
 
 use crate::finding::find;
 use crate::found::finish_found;
+use crate::idling::say_idle;
 use crate::opening::StoreFile;
 use crate::replying::{Site, run_serve};
 use crate::system::System;
@@ -51,7 +51,7 @@ fn run_search<S: System, O: Write + Drop, E: Write + Drop>(
     streams: Streams<O, E>,
 ) -> Ended<S::Store, O, E>
     ensures { IsFoundRun (view_of (S.world system.now) S.Store.honest S.Store.state S.Store.failures
-        (telling_of S.Teller.tells S.Teller.reports S.Teller.finds S.Teller.replies S.Teller.faults S.Teller.hints))
+        S.Teller.telling)
         plan.now basis.now rides search.now (streams_of streams.out streams.err) (streams_of result.streams.out result.streams.err)
         result.status result.store }
 {
@@ -68,8 +68,38 @@ fn run_search<S: System, O: Write + Drop, E: Write + Drop>(
     }
 }
 
+// Does the command of a plan over the timetable, and over the disk of the store that it names.
+fn run_command<S: System, I: BufRead, O: Write + Drop, E: Write + Drop>(
+    alloc: Global,
+    system: &S,
+    plan: &Plan<'_>,
+    basis: &Basis,
+    input: &mut I,
+    streams: Streams<O, E>,
+) -> Ended<S::Store, O, E>
+    ensures { IsCommandRun (view_of (S.world system.now) S.Store.honest S.Store.state S.Store.failures S.Teller.telling)
+        (I.remaining input.old) plan.now basis.now plan.now.command (streams_of streams.out streams.err)
+        (streams_of result.streams.out result.streams.err) result.status result.store }
+{
+    let rides = Rides::new(plan.settings.rides);
+    match &plan.command {
+        Command::Find(search) => run_search(alloc, system, plan, basis, rides, search, streams),
+        Command::Serve { store, workers } => {
+            let site = Site {
+                file: StoreFile {
+                    path: store,
+                    basis,
+                    rides,
+                },
+                workers: *workers,
+            };
+            run_serve(alloc, system, plan, &voice_of(plan), &site, input, streams)
+        }
+    }
+}
+
 /// Does the plan over the feed's files, and over the disk of the store that it names, which is opened only if the feed and its days are
-/// without fault. Questions that are asked line by line stand in `input`.
+/// without fault. Questions that are asked line by line stand in `input`. Standard error says if no trip runs on the covered days.
 ///
 /// The status is 0 if it is done; 1 if the feed or its days are at fault, or the system gives no randomness for hash keys; 3 if a stop has
 /// no tree, since it would be too large, memory was refused for it, or the questions ended before it was
@@ -83,39 +113,25 @@ pub fn run_plan<S: System, I: BufRead, O: Write + Drop, E: Write + Drop>(
     streams: Streams<O, E>,
 ) -> Ended<S::Store, O, E>
     ensures { (feed : Feed) → AreReaders S.Reader.remaining files feed
-        → IsPlanRun (view_of (S.world system.now) S.Store.honest S.Store.state S.Store.failures
-        (telling_of S.Teller.tells S.Teller.reports S.Teller.finds S.Teller.replies S.Teller.faults S.Teller.hints))
+        → IsPlanRun (view_of (S.world system.now) S.Store.honest S.Store.state S.Store.failures S.Teller.telling)
         (I.remaining input.old) feed plan.now (streams_of streams.out streams.err) (streams_of result.streams.out result.streams.err)
         result.status result.store }
 {
-    let voice = voice_of(plan);
+    let mut streams = streams;
     let hash_keys = system.hash_keys();
-    let basis = match basis_of(alloc, hash_keys, &plan.settings, plan.first, files) {
-        Ok(basis) => basis,
+    match basis_of(alloc, hash_keys, &plan.settings, plan.first, files) {
+        Ok(basis) => {
+            say_idle(&basis.idle, &mut streams.err);
+            run_command(alloc, system, plan, &basis, input, streams)
+        }
         Err(fault) => {
-            let mut streams = streams;
             let teller = system.teller();
-            let status = tell_fault(alloc, &teller, &voice, &fault, &mut streams.err);
-            return Ended {
+            let status = tell_fault(alloc, &teller, &voice_of(plan), &fault, &mut streams.err);
+            Ended {
                 status,
                 store: None,
                 streams,
-            };
-        }
-    };
-    let rides = Rides::new(plan.settings.rides);
-    match &plan.command {
-        Command::Find(search) => run_search(alloc, system, plan, &basis, rides, search, streams),
-        Command::Serve { store, workers } => {
-            let site = Site {
-                file: StoreFile {
-                    path: store,
-                    basis: &basis,
-                    rides,
-                },
-                workers: *workers,
-            };
-            run_serve(alloc, system, plan, &voice, &site, input, streams)
+            }
         }
     }
 }

@@ -3,7 +3,6 @@
 ghost use Rattle.std.specs.Prelude.{◌≡◌, ℕ, List};
 ghost use Rattle.commands.specs.Served.{IsBuiltText, IsServingSaid, built_status, end_text, status_after};
 ghost use Rattle.streams.specs.Streams.{IsSaid};
-ghost use Rattle.tellers.specs.Tellings.{telling_of};
 
 use answer_lines::Built;
 use faults::Fault;
@@ -26,7 +25,7 @@ fn tell_built<T: Teller, E: Write + Drop>(
     err: &mut Stream<E>,
 ) -> u8
     ensures status { result ≡ built_status built.now }
-    ensures said { (text : List ℕ) × IsBuiltText (telling_of T.tells T.reports T.finds T.replies T.faults T.hints) voice.now built.now text
+    ensures said { (text : List ℕ) × IsBuiltText T.telling voice.now built.now text
         × IsSaid text err.old err.new }
 {
     match built {
@@ -71,7 +70,7 @@ pub fn tell_serving<T: Teller, E: Write + Drop>(
     refused: bool,
     err: &mut Stream<E>,
 ) -> u8
-    ensures { IsServingSaid (telling_of T.tells T.reports T.finds T.replies T.faults T.hints) voice.now served.now refused
+    ensures { IsServingSaid T.telling voice.now served.now refused
         err.old err.new result }
 {
     match served {

@@ -5,7 +5,6 @@ ghost use Rattle.commands.specs.Rules.{IsAuditDone, IsMigrated, IsTaskDone};
 ghost use Rattle.commands.specs.Stored.{IsOverStore, told_for};
 ghost use Rattle.commands.specs.World.{view_of};
 ghost use Rattle.store_terms.specs.Stores.{OnlyFailing};
-ghost use Rattle.tellers.specs.Tellings.{telling_of};
 
 use crate::found::{Found, found_answer, found_report};
 use crate::opening::{Access, Ready, StoreFile, open_ready, say_new};
@@ -61,7 +60,7 @@ fn migrate_on<'a, S: System>(
     shown: bool,
 ) -> (Result<Found<'a>, Fault<'a>>, S::Store)
     ensures found { S.Store.honest disk → IsMigrated (view_of (S.world system.now) S.Store.honest S.Store.state S.Store.failures
-        (telling_of S.Teller.tells S.Teller.reports S.Teller.finds S.Teller.replies S.Teller.faults S.Teller.hints))
+        S.Teller.telling)
         file.now.basis.now file.now.rides old.now (S.Store.state disk) (S.Store.state result.1) result.0 }
     ensures device { IfErr result.0 (OnlyFailing (S.Store.failures disk) (S.Store.failures result.1)) }
     ensures honest { S.Store.honest disk ↔ S.Store.honest result.1 }
@@ -106,7 +105,7 @@ fn on_disk<'a, S: System>(
     task: &Task<'a>,
 ) -> (Result<Found<'a>, Fault<'a>>, S::Store)
     ensures found { S.Store.honest disk → IsTaskDone (view_of (S.world system.now) S.Store.honest S.Store.state S.Store.failures
-        (telling_of S.Teller.tells S.Teller.reports S.Teller.finds S.Teller.replies S.Teller.faults S.Teller.hints))
+        S.Teller.telling)
         style file.now.basis.now file.now.rides task.now (S.Store.state disk) (S.Store.state result.1) result.0 }
     ensures device { IfErr result.0 (OnlyFailing (S.Store.failures disk) (S.Store.failures result.1)) }
     ensures honest { S.Store.honest disk ↔ S.Store.honest result.1 }
@@ -149,7 +148,7 @@ pub fn over_store<'a, S: System, E: Write + Drop>(
     err: &mut Stream<E>,
 ) -> (Result<Found<'a>, Fault<'a>>, Option<S::Store>)
     ensures { IsOverStore (view_of (S.world system.now) S.Store.honest S.Store.state S.Store.failures
-        (telling_of S.Teller.tells S.Teller.reports S.Teller.finds S.Teller.replies S.Teller.faults S.Teller.hints))
+        S.Teller.telling)
         style file.now.basis.now file.now.rides file.now.path.now task.now result.0 result.1 err.old err.new }
 {
     let reads = task.only_reads();

@@ -3,7 +3,7 @@
 use crate::parts::{Part, parts_of};
 use faults::{Fault, file_name};
 use feed_names::open_names;
-use itinerary_texts::{FaultText, GivenText, NamedStop, fault_text_json};
+use feed_texts::{FaultText, GivenText, NamedStop, fault_text_json};
 use pattern_query::Refusal;
 use question_lines::Question;
 use std::alloc::{AllocError, Global};

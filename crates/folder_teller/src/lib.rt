@@ -2,6 +2,7 @@
 #![tactic(auto)]
 
 mod fault;
+mod found;
 mod hints;
 mod parts;
 mod replies;

@@ -1,23 +1,27 @@
 //! Answers, reports and faults in formats beside lines, with the names that the feed's folder has.
 
+ghost use Rattle.tellers.specs.Tellings.{any_text};
+
 use crate::fault::fault_json;
+use crate::found::{feed_text, found_text};
 use crate::hints::hint;
 use crate::replies::{Lookup, MEMORY_REFUSED, reply_text};
 use crate::texts::{asked_by, itinerary_text, line, stops_text};
 use answer_lines::{Answer, Report};
-use command_line::{Format, Plan};
+use command_line::{Format, Plan, StopSearch};
 use faults::Fault;
 use feed_basis::Basis;
 use feed_names::open_names;
+use feed_report::FeedReport;
+use feed_texts::{BuildCount, ListedStop, StopList};
 use gtfs_tables::{FaultKind, FeedFault, FeedFile};
-use itineraries::{Asked as AskedFor, itinerary_of, stop_list_of};
-use itinerary_texts::{Itinerary, StopList};
+use itineraries::{Asked as AskedFor, itinerary_of, places_of};
+use itinerary_texts::Itinerary;
 use options::Settings;
 use question_lines::Question;
 use serving::Reply;
 use std::alloc::{AllocError, Global};
-use std::{format, slice};
-use stop_search::list_stops;
+use std::slice;
 use tellers::{Asked, Given, Teller};
 use told_names::{NameSheets, Names};
 use zone_clock::Clock;
@@ -58,30 +62,32 @@ impl<'r> FolderTeller<'r> {
     }
 
     // The stops of these ids, with the names that the folder has.
-    fn stop_list<'a>(
+    fn listed_by_ids(
         &self,
         alloc: Global,
         folder: &str,
-        command: &'a str,
         ids: &[&str],
-    ) -> Result<StopList<'a>, AllocError> {
+    ) -> Result<Vec<ListedStop>, AllocError> {
         let sheets = self.sheets(alloc, folder)?;
-        stop_list_of(alloc, &sheets, command, ids)
+        let mut stops = Vec::with_capacity(alloc, ids.len())?;
+        for place in places_of(alloc, &sheets, ids)? {
+            stops.push(ListedStop {
+                place,
+                station: None,
+            })?;
+        }
+        Ok(stops)
     }
 
-    // The stops and stations of a sheet, as lines: none if there is no sheet.
-    fn listed(
-        &self,
-        alloc: Global,
-        folder: &str,
-        text: &str,
-        all: bool,
-    ) -> Result<Option<String>, AllocError> {
-        match open_names(self.rt, alloc, folder, "stops.txt")? {
-            Some(sheet) => {
-                let listing = list_stops(alloc, &sheet, text, all)?;
-                Ok(Some(format!(in alloc; "{listing}")?))
-            }
+    // The stops and stations that are searched for, as they are told: none if there is no sheet of stops.
+    fn found(&self, alloc: Global, search: &StopSearch<'_>) -> Result<Option<String>, AllocError> {
+        let sheets = NameSheets {
+            stops: open_names(self.rt, alloc, search.feed, "stops.txt")?,
+            trips: None,
+            routes: None,
+        };
+        match &sheets.stops {
+            Some(sheet) => Ok(Some(found_text(alloc, &sheets, sheet, search)?)),
             None => Ok(None),
         }
     }
@@ -91,17 +97,7 @@ impl<'r> FolderTeller<'r> {
 impl Teller for FolderTeller<'_> {
     type Lookup = Lookup;
 
-    ghost tells = { λ _ _ _ _. Unit {0} };
-
-    ghost reports = { λ _ _ _. Unit {0} };
-
-    ghost finds = { λ _ _ _ _. Unit {0} };
-
-    ghost replies = { λ _ _ _ _ _. Unit {0} };
-
-    ghost faults = { λ _ _ _ _. Unit {0} };
-
-    ghost hints = { λ _ _ _. Unit {0} };
+    ghost telling = { any_text };
 
     fn answer(
         &self,
@@ -125,19 +121,36 @@ impl Teller for FolderTeller<'_> {
         folder: &str,
         report: &Report<'_>,
     ) -> Result<String, AllocError> {
-        let list = self.stop_list(alloc, folder, command, report.stops())?;
+        let built = match report {
+            Report::Built(built) => Some(BuildCount {
+                stored: built.stored,
+                of: built.of,
+            }),
+            _ => None,
+        };
+        let list = StopList {
+            command,
+            built,
+            stops: self.listed_by_ids(alloc, folder, report.stops())?,
+            more: None,
+        };
         stops_text(alloc, format, &list)
     }
 
-    fn stops(
+    // There is no map of a feed as a whole, so each format is JSON here.
+    fn feed(
         &self,
         alloc: Global,
-        folder: &str,
-        text: &str,
-        all: bool,
-    ) -> Result<String, Fault<'static>> {
-        match self.listed(alloc, folder, text, all) {
-            Ok(Some(lines)) => Ok(lines),
+        _format: Format,
+        _folder: &str,
+        report: &FeedReport,
+    ) -> Result<String, AllocError> {
+        feed_text(alloc, report)
+    }
+
+    fn stops(&self, alloc: Global, search: &StopSearch<'_>) -> Result<String, Fault<'static>> {
+        match self.found(alloc, search) {
+            Ok(Some(text)) => Ok(text),
             Ok(None) => Err(Fault::Feed(FeedFault::new(
                 FaultKind::MissingFile,
                 FeedFile::Stops,

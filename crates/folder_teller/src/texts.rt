@@ -2,10 +2,9 @@
 
 use answer_lines::DayTime;
 use command_line::Format;
+use feed_texts::{StopList, stop_list_geojson, stop_list_json};
 use itineraries::Asked;
-use itinerary_texts::{
-    Itinerary, StopList, geojson, itinerary_json, people_text, stops_geojson, stops_json,
-};
+use itinerary_texts::{Itinerary, geojson, itinerary_json, people_text};
 use question_lines::Question;
 use std::alloc::{AllocError, Global};
 
@@ -50,7 +49,7 @@ pub(crate) fn stops_text(
     list: &StopList<'_>,
 ) -> Result<String, AllocError> {
     match format {
-        Format::GeoJson => line(stops_geojson(alloc, list)?),
-        Format::Names | Format::Json => line(stops_json(alloc, list)?),
+        Format::GeoJson => line(stop_list_geojson(alloc, list)?),
+        Format::Names | Format::Json => line(stop_list_json(alloc, list)?),
     }
 }

@@ -6,4 +6,4 @@ mod repeats;
 mod telling;
 mod through;
 
-pub use telling::{Asked, itinerary_by, itinerary_of, stop_list_of};
+pub use telling::{Asked, itinerary_by, itinerary_of, places_of};

@@ -4,9 +4,7 @@ use crate::repeats::frequency_of;
 use crate::through::stops_between;
 use answer_lines::{Answer, DayTime, Point, Stage};
 use feed_basis::Basis;
-use itinerary_texts::{
-    Frequency, Itinerary, Journey, Kind, Leg, Place, Stay, StopList, Time, Trip,
-};
+use itinerary_texts::{Frequency, Itinerary, Journey, Kind, Leg, Place, Stay, Time, Trip};
 use std::alloc::{AllocError, Global};
 use told_names::{NameSheets, Names};
 use zone_clock::Clock;
@@ -336,13 +334,11 @@ pub fn itinerary_by<'a>(
 }
 
 /// Stops with the names that the sheets have. It fails only if memory runs out.
-pub fn stop_list_of<'a>(
+pub fn places_of(
     alloc: Global,
     sheets: &NameSheets,
-    command: &'a str,
     ids: &[&str],
-) -> Result<StopList<'a>, AllocError> {
+) -> Result<Vec<Place>, AllocError> {
     let names = Names::of(alloc, sheets, ids, &[])?;
-    let stops = names.places(alloc, ids)?;
-    Ok(StopList { command, stops })
+    names.places(alloc, ids)
 }

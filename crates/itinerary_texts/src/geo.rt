@@ -1,15 +1,15 @@
 //! Journeys on a map: GeoJSON (RFC 7946).
 
 use crate::itinerary::{Itinerary, Journey, Leg, Place, Trip};
-use crate::json_writer::JsonWriter;
 use crate::plain::{write_iso, write_kind};
+use json_writer::JsonWriter;
 use std::alloc::{AllocError, Global};
 
 /// A position: its longitude and its latitude, in degrees (RFC 7946, section 3.1.1).
-pub(crate) type Position = (f64, f64);
+pub type Position = (f64, f64);
 
 /// The position of a place, if the feed has one.
-pub(crate) fn position_of(place: &Place) -> Option<Position> {
+pub fn position_of(place: &Place) -> Option<Position> {
     Some((place.longitude?, place.latitude?))
 }
 
@@ -31,7 +31,7 @@ fn positions_of(alloc: Global, leg: &Leg) -> Result<Vec<Position>, AllocError> {
 }
 
 /// Begins a collection (RFC 7946, section 3.3), to which features come.
-pub(crate) fn begin_features(out: &mut JsonWriter) {
+pub fn begin_features(out: &mut JsonWriter) {
     out.begin_object();
     out.member("type", &"FeatureCollection");
     out.name("features");
@@ -39,13 +39,13 @@ pub(crate) fn begin_features(out: &mut JsonWriter) {
 }
 
 /// Ends the collection.
-pub(crate) fn end_features(out: &mut JsonWriter) {
+pub fn end_features(out: &mut JsonWriter) {
     out.end_list();
     out.end_object();
 }
 
 /// Begins a feature (RFC 7946, section 3.2), whose geometry comes next.
-pub(crate) fn begin_feature(out: &mut JsonWriter) {
+pub fn begin_feature(out: &mut JsonWriter) {
     out.begin_object();
     out.member("type", &"Feature");
     out.name("geometry");

@@ -95,10 +95,3 @@ pub struct Itinerary<'a> {
     pub departure: Time,
     pub journeys: Vec<Journey>,
 }
-
-/// The stops whose trees are stored.
-#[derive(Drop)]
-pub struct StopList<'a> {
-    pub command: &'a str,
-    pub stops: Vec<Place>,
-}

@@ -1,10 +1,8 @@
-//! Answers and lists of stops as JSON.
+//! Answers as JSON.
 
-use crate::itinerary::{
-    Frequency, Itinerary, Journey, Kind, Leg, Place, Route, Stay, StopList, Trip,
-};
-use crate::json_writer::JsonWriter;
+use crate::itinerary::{Frequency, Itinerary, Journey, Kind, Leg, Place, Route, Stay, Trip};
 use crate::time::Time;
+use json_writer::JsonWriter;
 use std::alloc::{AllocError, Global};
 
 /// Writes how one gets on.
@@ -16,14 +14,19 @@ pub(crate) fn write_kind(out: &mut JsonWriter, kind: Kind) {
     out.member("kind", &kind);
 }
 
-// Writes a stop or a station.
-fn write_place(out: &mut JsonWriter, place: &Place) {
-    out.begin_object();
+/// Writes the members of a stop or a station.
+pub fn write_place_members(out: &mut JsonWriter, place: &Place) {
     out.member("id", &place.id);
     out.member("name", &place.name);
     out.member("platform", &place.platform);
     out.member("latitude", &place.latitude);
     out.member("longitude", &place.longitude);
+}
+
+// Writes a stop or a station.
+fn write_place(out: &mut JsonWriter, place: &Place) {
+    out.begin_object();
+    write_place_members(out, place);
     out.end_object();
 }
 
@@ -160,29 +163,9 @@ fn write_itinerary(out: &mut JsonWriter, itinerary: &Itinerary<'_>) {
     out.end_object();
 }
 
-// Writes a list of stops.
-fn write_stops(out: &mut JsonWriter, list: &StopList<'_>) {
-    out.begin_object();
-    out.member("command", &list.command);
-    out.name("stops");
-    out.begin_list();
-    for place in &list.stops {
-        write_place(out, place);
-    }
-    out.end_list();
-    out.end_object();
-}
-
 /// An answer as an object of JSON, on one line, without a line's end. It fails only if memory runs out.
 pub fn itinerary_json(alloc: Global, itinerary: &Itinerary<'_>) -> Result<String, AllocError> {
     let mut out = JsonWriter::new(alloc);
     write_itinerary(&mut out, itinerary);
-    out.into_text()
-}
-
-/// A list of stops as an object of JSON, on one line, without a line's end. It fails only if memory runs out.
-pub fn stops_json(alloc: Global, list: &StopList<'_>) -> Result<String, AllocError> {
-    let mut out = JsonWriter::new(alloc);
-    write_stops(&mut out, list);
     out.into_text()
 }

@@ -4,7 +4,6 @@ ghost use Rattle.std.specs.Prelude.{◌≡◌, ℕ, List, IfSome, string_bytes};
 ghost use Rattle.faults.specs.Faults.{status_of};
 ghost use Rattle.printing.specs.Faults.{AreFaultLines, IsFaultSaid, IsFormatText, IsHint, has_hint};
 ghost use Rattle.streams.specs.Streams.{IsSaid};
-ghost use Rattle.tellers.specs.Tellings.{telling_of};
 
 use command_line::Style;
 use faults::{Fault, FaultLines};
@@ -29,7 +28,7 @@ fn format_text<T: Teller>(
     voice: &Voice<'_>,
     fault: &Fault<'_>,
 ) -> Option<String>
-    ensures { IfSome result (λ text. IsFormatText (telling_of T.tells T.reports T.finds T.replies T.faults T.hints) voice.now.given
+    ensures { IfSome result (λ text. IsFormatText T.telling voice.now.given
         voice.now.style fault.now (string_bytes text)) }
 {
     match voice.style {
@@ -57,7 +56,7 @@ fn hint_lines<T: Teller>(
     given: &Given<'_>,
     fault: &Fault<'_>,
 ) -> Option<String>
-    ensures { IfSome result (λ text. IsHint (telling_of T.tells T.reports T.finds T.replies T.faults T.hints) given.now fault.now
+    ensures { IfSome result (λ text. IsHint T.telling given.now fault.now
         (string_bytes text)) }
 {
     if !has_hint(fault) {
@@ -74,7 +73,7 @@ fn say_lines<T: Teller, E: Write + Drop>(
     fault: &Fault<'_>,
     err: &mut Stream<E>,
 )
-    ensures { (text : List ℕ) × AreFaultLines (telling_of T.tells T.reports T.finds T.replies T.faults T.hints) given.now fault.now text
+    ensures { (text : List ℕ) × AreFaultLines T.telling given.now fault.now text
         × IsSaid text err.old err.new }
 {
     match hint_lines(alloc, teller, given, fault) {
@@ -93,7 +92,7 @@ pub fn tell_fault<T: Teller, E: Write + Drop>(
     err: &mut Stream<E>,
 ) -> u8
     ensures status { result ≡ status_of fault.now }
-    ensures said { IsFaultSaid (telling_of T.tells T.reports T.finds T.replies T.faults T.hints) voice.now fault.now err.old err.new }
+    ensures said { IsFaultSaid T.telling voice.now fault.now err.old err.new }
 {
     match format_text(alloc, teller, voice, fault) {
         Some(text) => err.say(text.as_str()),

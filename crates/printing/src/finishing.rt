@@ -2,7 +2,6 @@
 
 ghost use Rattle.std.specs.Prelude.{◌≡◌};
 ghost use Rattle.printing.specs.Finished.{IsFinished, IsNoMemory, IsShown, IsUnwritten, IsWritten, streams_of};
-ghost use Rattle.tellers.specs.Tellings.{telling_of};
 
 use crate::fault::{Voice, tell_fault};
 use crate::output::Streams;
@@ -35,8 +34,8 @@ pub fn say_unwritten<E: Write + Drop>(err: &mut Stream<E>) -> u8
     8
 }
 
-// Prints what is told, or says why that couldn't be. Gives the status.
-fn print<O: Write + Drop, E: Write + Drop>(
+/// Prints what is told, or says why that couldn't be. Gives the status.
+pub fn print<O: Write + Drop, E: Write + Drop>(
     alloc: Global,
     told: Told<'_>,
     streams: &mut Streams<O, E>,
@@ -79,7 +78,7 @@ pub fn finish<T: Teller, O: Write + Drop, E: Write + Drop>(
     told: Result<Told<'_>, Fault<'_>>,
     streams: &mut Streams<O, E>,
 ) -> u8
-    ensures { IsFinished (telling_of T.tells T.reports T.finds T.replies T.faults T.hints) voice.now told.entry
+    ensures { IsFinished T.telling voice.now told.entry
         (streams_of streams.old.out streams.old.err) (streams_of streams.new.out streams.new.err) result }
 {
     match told {

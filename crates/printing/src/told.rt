@@ -4,6 +4,7 @@ ghost use Rattle.std.specs.Prelude.{◌≡◌, Some};
 ghost use Rattle.printing.specs.Told.{told_status, told_text};
 
 use answer_lines::{Answer, Report};
+use command_grammar::FAULT_TABLE;
 use feed_report::FeedReport;
 use std::fmt;
 
@@ -16,8 +17,10 @@ pub enum Told<'a> {
     Answer(Answer),
     /// What a store has, or what came of a build.
     Report(Report<'a>),
-    /// A text that a teller made.
-    Text(String),
+    /// The faults and the statuses of the program.
+    Faults,
+    /// A text that a teller made, and the status to end with.
+    Text { text: String, status: u8 },
 }
 
 impl Told<'_> {
@@ -27,7 +30,8 @@ impl Told<'_> {
     {
         match self {
             Told::Report(report) => report.status(),
-            Told::Feed(_) | Told::Answer(_) | Told::Text(_) => 0,
+            Told::Text { status, .. } => *status,
+            Told::Feed(_) | Told::Answer(_) | Told::Faults => 0,
         }
     }
 }
@@ -40,7 +44,8 @@ impl fmt::Display for Told<'_> {
             Told::Feed(report) => write!(f, "{report}"),
             Told::Answer(answer) => writeln!(f, "{answer}"),
             Told::Report(report) => write!(f, "{report}"),
-            Told::Text(text) => write!(f, "{text}"),
+            Told::Faults => writeln!(f, "{FAULT_TABLE}"),
+            Told::Text { text, .. } => write!(f, "{text}"),
         }
     }
 }

@@ -9,7 +9,7 @@ mod station;
 mod stop;
 
 pub use fold::{folded, is_part};
-pub use list::{Listing, list_stops};
+pub use list::{FIELDS, Listing, list_stops};
 pub use near::near_stops;
 pub use station::station_stops;
 pub use stop::StopRow;

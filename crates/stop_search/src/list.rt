@@ -9,11 +9,14 @@ use std::fmt;
 /// How many stops are listed where not all are asked for.
 const MOST: usize = 20;
 
-/// The stops and stations that are listed, and how many more there are. Shown as a line for each, and `more N` where there are more.
-#[derive(Debug, Drop)]
+/// The names of the fields of a line, as stops.txt has them.
+pub const FIELDS: &str = "stop_id\tstop_name\tparent_station\tstop_lat\tstop_lon";
+
+/// The stops and stations that are listed, and how many more there are. Shown as a line for each, and `more N` if there are more.
+#[derive(Drop)]
 pub struct Listing<'a> {
-    stops: Vec<StopRow<'a>>,
-    more: usize,
+    pub stops: Vec<StopRow<'a>>,
+    pub more: usize,
 }
 
 impl fmt::Display for Listing<'_> {

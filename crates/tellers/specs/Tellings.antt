@@ -5,28 +5,37 @@ use Rattle.answer_lines.specs.declared.report.Report.{Report}
 use Rattle.command_line.specs.declared.format.Format.{Format}
 use Rattle.command_line.specs.declared.format.Style.{Style}
 use Rattle.command_line.specs.declared.format.Style.TheVariants as styles
+use Rattle.command_line.specs.declared.stop_search.StopSearch.{StopSearch}
 use Rattle.feed_basis.specs.Basis.{BasisData}
+use Rattle.feed_report.specs.declared.report.FeedReport.{FeedReport}
 use Rattle.gtfs_rows.specs.declared.fault.FeedFault.{FeedFault}
 use Rattle.faults.specs.declared.fault.Fault.{Fault}
 use Rattle.faults.specs.declared.fault.Fault.TheVariants as faults
 use Rattle.serving.specs.Tellings.{Telling as ReplyTelling, line_telling}
 use Rattle.tellers.specs.declared.given.Given.{Given}
 
--- Which texts may tell an answer, a report, a reply or a fault in a format; which lines may list the stops of a folder, and which may be
--- added to those of a fault.
+-- Which texts may tell an answer, a report, what a feed has, a reply or a fault in a format; which may list the stops that are searched
+-- for, and which lines may be added to those of a fault.
 pub record Telling : Type 1 where
   pub tells : Format → BasisData → Answer → List ℕ → Type 0
   pub reports : Format → Report → List ℕ → Type 0
-  pub finds : List ℕ → List ℕ → Bool → List ℕ → Type 0
+  pub feeds : Format → FeedReport → List ℕ → Type 0
+  pub finds : StopSearch → List ℕ → Type 0
   pub replies : Format → BasisData → ReplyTelling
   pub faults : Format → Given → Fault → List ℕ → Type 0
   pub hints : Given → Fault → List ℕ → Type 0
 
-abbrev pub telling_of : (Format → BasisData → Answer → List ℕ → Type 0) → (Format → Report → List ℕ → Type 0)
-    → (List ℕ → List ℕ → Bool → List ℕ → Type 0) → (Format → BasisData → ReplyTelling) → (Format → Given → Fault → List ℕ → Type 0)
-    → (Given → Fault → List ℕ → Type 0) → Telling
-telling_of tells reports finds replies faults hints =
-    record { tells = tells; reports = reports; finds = finds; replies = replies; faults = faults; hints = hints }
+-- nothing is claimed of the texts
+abbrev pub any_text : Telling
+any_text = record {
+  tells = λ _ _ _ _. Unit {0};
+  reports = λ _ _ _. Unit {0};
+  feeds = λ _ _ _. Unit {0};
+  finds = λ _ _. Unit {0};
+  replies = λ _ _ _ _ _. Unit {0};
+  faults = λ _ _ _ _. Unit {0};
+  hints = λ _ _ _. Unit {0};
+}
 
 -- a reply in a style: as lines, or as a format has it
 abbrev pub tells_reply : Telling → Style → BasisData → ReplyTelling

@@ -2,14 +2,13 @@ use Rattle.std.proofs.Common.{Err, subst, inl}
 use Rattle.faults.specs.declared.fault.Fault.TheVariants.{Memory}
 use Rattle.printing.specs.Finished.{streams_of}
 use Rattle.printing.specs.declared.fault.Voice.{Voice}
-use Rattle.tellers.specs.Tellings.{telling_of}
 use Rattle.commands.specs.Programs.{IsPlainRun}
 use Rattle.commands.specs.World.{view_of}
 use Rattle.commands.proofs.program.run_job.Goals as goal
 
 pub returns-in-Err-open_feed : goal.returns-in-Err-open_feed
 returns-in-Err-open_feed g c =
-    let t = telling_of g.S.Teller.Teller.tells g.S.Teller.Teller.reports g.S.Teller.Teller.finds g.S.Teller.Teller.replies g.S.Teller.Teller.faults g.S.Teller.Teller.hints in
+    let t = g.S.Teller.Teller.telling in
     let v = view_of (g.S.System.world c.args.system.now) g.S.Store.Disk.honest g.S.Store.Disk.state g.S.Store.Disk.failures t in
     let ended = c.ended-in-Err-open_feed.result in
     rw c.in-Plan.is (inl (subst (λ (voice : Voice). IsPlainRun v voice (Err Memory) (streams_of c.args.streams.out c.args.streams.err)

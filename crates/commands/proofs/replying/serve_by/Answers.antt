@@ -4,11 +4,10 @@ use Rattle.commands.specs.Served.{IsServingSaid, dialogue_of}
 use Rattle.commands.specs.World.{view_of}
 use Rattle.commands.proofs.RunFacts.{served_over}
 use Rattle.commands.proofs.replying.serve_by.Goals as goal
-use Rattle.tellers.specs.Tellings.{telling_of}
 
 pub returns-in-Ok : goal.returns-in-Ok
 returns-in-Ok g c =
-    let t = telling_of g.S.Teller.Teller.tells g.S.Teller.Teller.reports g.S.Teller.Teller.finds g.S.Teller.Teller.replies g.S.Teller.Teller.faults g.S.Teller.Teller.hints in
+    let t = g.S.Teller.Teller.telling in
     let v = view_of (g.S.System.world c.args.system.now) g.S.Store.Disk.honest g.S.Store.Disk.state g.S.Store.Disk.failures t in
     let site = c.args.site.now in
     let basis = site.file.basis.now in

@@ -2,7 +2,6 @@ use Rattle.std.proofs.Common.{Err, ap, refl, sym, subst, inl, inr}
 use Rattle.disk_model.specs.Disk.{Grew}
 use Rattle.store_migration.specs.Migrations.{IsTakenOver, IsUntaken, TellsOldDevice}
 use Rattle.store_terms.specs.Stores.{OnlyFailing, form_over}
-use Rattle.tellers.specs.Tellings.{telling_of}
 use Rattle.commands.specs.World.{view_of}
 use Rattle.commands.proofs.FileFacts.{kept_out_fails}
 use Rattle.commands.proofs.FoundFacts.{report_found, report_refused}
@@ -20,7 +19,7 @@ returns-in-Err-clause-found g c = λ honest. inl (record {
 pub returns-in-Err-clause-device : goal.returns-in-Err-clause-device
 returns-in-Err-clause-device g c =
     let v = view_of (g.S.System.world c.args.system.now) g.S.Store.Disk.honest g.S.Store.Disk.state g.S.Store.Disk.failures
-    (telling_of g.S.Teller.Teller.tells g.S.Teller.Teller.reports g.S.Teller.Teller.finds g.S.Teller.Teller.replies g.S.Teller.Teller.faults g.S.Teller.Teller.hints) in
+    g.S.Teller.Teller.telling in
     let failures = g.S.Store.Disk.failures c.args.disk in
     subst (OnlyFailing failures failures) (sym c.in_migration.ensures)
     (kept_out_fails failures failures v (form_over c.args.file.now.basis.now c.args.file.now.rides) c.args.old.now c.in-Err.fault c.in-Err.field-0-1

@@ -5,12 +5,11 @@ use Rattle.commands.specs.World.{view_of}
 use Rattle.commands.proofs.RunFacts.{over_disk}
 use Rattle.commands.proofs.storing.over_store.Goals.{then-reads, else-reads}
 use Rattle.commands.proofs.storing.over_store.Goals as goal
-use Rattle.tellers.specs.Tellings.{telling_of}
 
 pub returns-after-reads : goal.returns-after-reads
 returns-after-reads g c =
     let v = view_of (g.S.System.world c.args.system.now) g.S.Store.Disk.honest g.S.Store.Disk.state g.S.Store.Disk.failures
-    (telling_of g.S.Teller.Teller.tells g.S.Teller.Teller.reports g.S.Teller.Teller.finds g.S.Teller.Teller.replies g.S.Teller.Teller.faults g.S.Teller.Teller.hints) in
+    g.S.Teller.Teller.telling in
     let is_new = c.in-Ok.ready.is_new in
     let reads = only_reads c.args.task.now in
     let says : c.if-reads.say_new ≡ reads && is_new = elim c.if-reads.branch [

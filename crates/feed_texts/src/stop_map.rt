@@ -1,8 +1,8 @@
 //! Stops on a map: GeoJSON (RFC 7946).
 
-use crate::geo::{begin_feature, begin_features, end_features, position_of};
-use crate::itinerary::{Place, StopList};
-use crate::json_writer::JsonWriter;
+use crate::stop_list::{ListedStop, StopList};
+use itinerary_texts::{Place, begin_feature, begin_features, end_features, position_of};
+use json_writer::JsonWriter;
 use std::alloc::{AllocError, Global};
 
 // Writes where a stop is (RFC 7946, section 3.1.2): nowhere if the feed has no position of it.
@@ -31,17 +31,17 @@ fn write_stop(out: &mut JsonWriter, place: &Place) {
 }
 
 // Writes all stops.
-fn write_stops(out: &mut JsonWriter, stops: &[Place]) {
+fn write_stops(out: &mut JsonWriter, stops: &[ListedStop]) {
     begin_features(out);
-    for place in stops {
-        write_stop(out, place);
+    for stop in stops {
+        write_stop(out, &stop.place);
     }
     end_features(out);
 }
 
 /// The stops of a list as GeoJSON, on one line, without a line's end: a feature for each, in their order. It fails only if memory runs
 /// out.
-pub fn stops_geojson(alloc: Global, list: &StopList<'_>) -> Result<String, AllocError> {
+pub fn stop_list_geojson(alloc: Global, list: &StopList<'_>) -> Result<String, AllocError> {
     let mut out = JsonWriter::new(alloc);
     write_stops(&mut out, &list.stops);
     out.into_text()

@@ -1,11 +1,11 @@
-//! JSON, written from its first character to its last.
+//! The writer.
 
 use serde::Serialize;
 use std::alloc::{AllocError, Global};
 
 /// JSON that is being written, on one line. The end of it says whether memory ran out on the way.
 #[derive(Drop)]
-pub(crate) struct JsonWriter {
+pub struct JsonWriter {
     alloc: Global,
     text: String,
     // Whether memory was refused to a part of the text.
@@ -16,7 +16,7 @@ pub(crate) struct JsonWriter {
 
 impl JsonWriter {
     /// Nothing yet.
-    pub(crate) fn new(alloc: Global) -> JsonWriter {
+    pub fn new(alloc: Global) -> JsonWriter {
         JsonWriter {
             alloc,
             text: String::new(alloc),
@@ -53,34 +53,34 @@ impl JsonWriter {
     }
 
     /// Begins an object.
-    pub(crate) fn begin_object(&mut self) {
+    pub fn begin_object(&mut self) {
         self.open("{");
     }
 
     /// Ends the object.
-    pub(crate) fn end_object(&mut self) {
+    pub fn end_object(&mut self) {
         self.close("}");
     }
 
     /// Begins a list.
-    pub(crate) fn begin_list(&mut self) {
+    pub fn begin_list(&mut self) {
         self.open("[");
     }
 
     /// Ends the list.
-    pub(crate) fn end_list(&mut self) {
+    pub fn end_list(&mut self) {
         self.close("]");
     }
 
     /// Writes the name of a member, which is a plain word. Its value comes next.
-    pub(crate) fn name(&mut self, name: &str) {
+    pub fn name(&mut self, name: &str) {
         self.open("\"");
         self.put(name);
         self.put("\":");
     }
 
     /// Writes a value.
-    pub(crate) fn value<T: Serialize>(&mut self, value: &T) {
+    pub fn value<T: Serialize>(&mut self, value: &T) {
         self.separate();
         self.follows = true;
         match serde_json::to_string(self.alloc, value) {
@@ -90,18 +90,18 @@ impl JsonWriter {
     }
 
     /// Writes the value that is none.
-    pub(crate) fn null(&mut self) {
+    pub fn null(&mut self) {
         self.value(&());
     }
 
     /// Writes a member.
-    pub(crate) fn member<T: Serialize>(&mut self, name: &str, value: &T) {
+    pub fn member<T: Serialize>(&mut self, name: &str, value: &T) {
         self.name(name);
         self.value(value);
     }
 
     /// Writes a member whose value is a text of letters, digits and marks that JSON shows as they are.
-    pub(crate) fn plain_member(&mut self, name: &str, text: &str) {
+    pub fn plain_member(&mut self, name: &str, text: &str) {
         self.name(name);
         self.put("\"");
         self.put(text);
@@ -110,7 +110,7 @@ impl JsonWriter {
     }
 
     /// The whole text. It fails only if memory ran out.
-    pub(crate) fn into_text(self) -> Result<String, AllocError> {
+    pub fn into_text(self) -> Result<String, AllocError> {
         if self.is_refused {
             return Err(AllocError);
         }

@@ -1,6 +1,6 @@
 //! Faults for machines.
 
-use crate::json_writer::JsonWriter;
+use json_writer::JsonWriter;
 use std::alloc::{AllocError, Global};
 
 /// What stands at the place of a fault.
