@@ -1,0 +1,10 @@
+use Rattle.std.proofs.Common.{pos, ◌+ℤ◌, ◌-ℤ◌, unsigned_abs}
+use Rattle.jiff.specs.Words.{epoch_day}
+use Rattle.service_span.proofs.ScanFacts.{NoneAfter}
+use Rattle.service_span.proofs.scan.last_kept.Given as goal
+
+abbrev pub invariant-dates : goal.invariant-dates
+invariant-dates l = NoneAfter l.removed l.row l.date
+
+abbrev pub decreases-dates : goal.decreases-dates
+decreases-dates l = unsigned_abs ((epoch_day l.date +ℤ pos 1) -ℤ epoch_day l.row.start)

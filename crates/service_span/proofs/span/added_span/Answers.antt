@@ -1,0 +1,23 @@
+use Rattle.std.proofs.Common.{◌||◌, List, refl, subst, take, ◌+◌}
+use Rattle.std.specs.List.{list_any}
+use Rattle.std.proofs.lemmas.List.{take_all}
+use Rattle.gtfs_rows.specs.declared.values.CalendarDate.{CalendarDate}
+use Rattle.service_span.specs.Looked.{is_extra}
+use Rattle.service_span.specs.Spans.{IsSpanWhere}
+use Rattle.service_span.proofs.Bools.{any_step}
+use Rattle.service_span.proofs.SpanFacts.{same_span}
+use Rattle.service_span.proofs.span.added_span.Goals as goal
+
+pub loop-row-preserved : goal.loop-row-preserved
+loop-row-preserved c =
+    let test = is_extra c.args.names.now in
+    let rows = c.args.exceptions.now in
+    let i = c.loop-row.row-index in
+    let row = c.row-item.result in
+    same_span (λ date. list_any (test date) (take i rows) || test date row) (λ date. list_any (test date) (take (i + 1) rows)) c.joined-span.result
+    (λ date. any_step (test date) rows i row (list_any (test date) (take i rows)) (list_any (test date) (take i rows) || test date row) c.loop-row-test.true c.row-item.is refl refl)
+    (c.joined-span.ensures (λ date. list_any (test date) (take i rows)) (λ date. test date row) c.loop-row.invariant c.added_by.ensures)
+
+pub returns : goal.returns
+returns c =
+    subst (λ (rows : List CalendarDate). IsSpanWhere (λ date. list_any (is_extra c.args.names.now date) rows) c.loop-row.span) (take_all c.loop-row.row-index c.args.exceptions.now c.loop-row-test.false) c.loop-row.invariant

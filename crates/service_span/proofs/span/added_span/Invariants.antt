@@ -1,0 +1,8 @@
+use Rattle.std.proofs.Common.{take}
+use Rattle.std.specs.List.{list_any}
+use Rattle.service_span.specs.Looked.{is_extra}
+use Rattle.service_span.specs.Spans.{IsSpanWhere}
+use Rattle.service_span.proofs.span.added_span.Given as goal
+
+abbrev pub invariant-loop-row : goal.invariant-loop-row
+invariant-loop-row l = IsSpanWhere (λ date. list_any (is_extra l.names date) (take l.row-index l.exceptions)) l.span
