@@ -2,6 +2,7 @@
 use Rattle.std.specs.Prelude.{ℕ, ◌-◌, ◌/◌, ◌%◌, List, [], ◌∷◌, ◌++◌, length, replicate, unsigned_abs, codes}
 use Rattle.std.specs.Fmt.{decimal}
 use Rattle.std.specs.List.{flat_map}
+use Rattle.jiff.specs.Types.{Date}
 use Rattle.shown_ids.specs.Shown.{shown}
 use Rattle.answer_lines.specs.declared.answer.Answer.{Answer}
 use Rattle.answer_lines.specs.declared.answer.Answer.TheVariants as answers
@@ -15,8 +16,8 @@ abbrev pub with_zeros : ℕ → ℕ → List ℕ
 with_zeros width n = replicate (width - length (decimal n)) 48 ++ decimal n
 
 -- a date as YYYYMMDD
-abbrev pub date_text : ℕ → ℕ → ℕ → List ℕ
-date_text year month day = with_zeros 4 year ++ (with_zeros 2 month ++ with_zeros 2 day)
+abbrev pub date_text : Date → List ℕ
+date_text date = with_zeros 4 (unsigned_abs date.year) ++ (with_zeros 2 date.month ++ with_zeros 2 date.day)
 
 -- seconds of a service day as HH:MM:SS
 abbrev pub time_text : ℕ → List ℕ
@@ -25,7 +26,7 @@ time_text seconds =
 
 -- a time of a service day as YYYYMMDD HH:MM:SS
 abbrev pub day_time_text : DayTime → List ℕ
-day_time_text t = date_text (unsigned_abs t.date.year) t.date.month t.date.day ++ (32 ∷ time_text t.seconds)
+day_time_text t = date_text t.date ++ (32 ∷ time_text t.seconds)
 
 -- a ride as its trip and the stop and time at which it boards and alights; a walk as its stops and when it arrives
 abbrev pub stage_text : Stage → List ℕ

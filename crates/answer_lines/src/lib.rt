@@ -10,7 +10,7 @@ mod stage;
 
 pub use answer::{Answer, Point};
 pub use audit::{Audit, Differing};
-pub use moment::{DayTime, day_time};
+pub use moment::{DayTime, ShownDate, day_time};
 pub use printing::{PrintFault, print, print_bytes};
 pub use report::{Built, Report};
 pub use stage::Stage;

@@ -1,11 +1,26 @@
 //! Moments as the program prints them.
 ghost use Rattle.std.specs.Prelude.{Some};
-ghost use Rattle.answer_lines.specs.Printed.{day_time_text};
+ghost use Rattle.answer_lines.specs.Printed.{date_text, day_time_text};
 ghost use Rattle.answer_lines.specs.Moments.{TellsMoment};
 
 use jiff::civil::Date;
 use service_days::Cover;
 use std::fmt;
+
+/// A date, shown as `YYYYMMDD`.
+#[derive(Clone, Copy, Debug, PartialEq, Eq)]
+pub struct ShownDate(pub Date);
+
+impl fmt::Display for ShownDate {
+    ghost output = { λ shown. Some (date_text shown.0) };
+
+    fn fmt<W: fmt::Write>(&self, f: &mut fmt::Formatter<W>) -> fmt::Result {
+        let year = self.0.year().unsigned_abs();
+        let month = self.0.month().unsigned_abs();
+        let day = self.0.day().unsigned_abs();
+        write!(f, "{year:04}{month:02}{day:02}")
+    }
+}
 
 /// A time of a service day, shown as `YYYYMMDD HH:MM:SS`. Hours of 24 and more belong to the night after the date.
 #[derive(Clone, Copy, Debug, PartialEq, Eq)]
@@ -19,16 +34,11 @@ impl fmt::Display for DayTime {
     ghost output = { λ t. Some (day_time_text t) };
 
     fn fmt<W: fmt::Write>(&self, f: &mut fmt::Formatter<W>) -> fmt::Result {
-        let year = self.date.year().unsigned_abs();
-        let month = self.date.month().unsigned_abs();
-        let day = self.date.day().unsigned_abs();
+        let date = ShownDate(self.date);
         let hours = self.seconds / 3600;
         let minutes = self.seconds / 60 % 60;
         let seconds = self.seconds % 60;
-        write!(
-            f,
-            "{year:04}{month:02}{day:02} {hours:02}:{minutes:02}:{seconds:02}"
-        )
+        write!(f, "{date} {hours:02}:{minutes:02}:{seconds:02}")
     }
 }
 

@@ -1,6 +1,7 @@
 -- How many of each a feed has, from the bytes of its files on; or why that isn't told.
 -- GTFS Schedule reference, "Dataset files": calendar.txt, calendar_dates.txt, transfers.txt and frequencies.txt may be left out.
-use Rattle.std.specs.Prelude.{◌≡◌, ◌↔◌, Bool, true, false, IsTrue, None, length, sum_by}
+use Rattle.std.specs.Prelude.{◌≡◌, ◌↔◌, Bool, true, false, IsTrue, Option, None, length, sum_by}
+use Rattle.jiff.specs.Types.{Date}
 use Rattle.gtfs_rows.specs.Faults.{first_fault, Explains}
 use Rattle.gtfs_tables.specs.Feed.{Feed, feed_tests, values_of}
 use Rattle.gtfs_tables.specs.Tables.{TableValues}
@@ -8,6 +9,8 @@ use Rattle.gtfs_tables.specs.declared.reading.Files.{Files}
 use Rattle.faults.specs.declared.fault.Fault.{Fault}
 use Rattle.faults.specs.declared.fault.Fault.TheVariants as faults
 use Rattle.feed_report.specs.declared.counts.Counts.{Counts}
+use Rattle.feed_report.specs.declared.service.Service.{Service}
+use Rattle.feed_report.specs.ServiceDays.{AreServiceDays}
 use Rattle.feed_report.specs.declared.counts.Missing.{Missing}
 
 -- these are the optional files that aren't there
@@ -17,9 +20,9 @@ pub record IsMissing {R : Type 0} (files : Files R) (missing : Missing) : Type 0
   pub transfers : IsTrue missing.transfers ↔ (files.transfers ≡ None)
   pub frequencies : IsTrue missing.frequencies ↔ (files.frequencies ≡ None)
 
--- how many of each the tables have
-abbrev pub counts_in : TableValues → Missing → Counts
-counts_in tables missing = record {
+-- how many of each the tables have, beside what is told of their days of service
+abbrev pub counts_in : TableValues → Option Service → Missing → Counts
+counts_in tables service missing = record {
   stops = length tables.stops;
   stations = length tables.stations;
   services = length tables.services;
@@ -27,14 +30,17 @@ counts_in tables missing = record {
   calls = sum_by (λ calls. length calls) tables.calls;
   transfers = length tables.transfers;
   frequencies = length tables.frequencies;
+  service = service;
   skipped = tables.skipped;
   missing = missing;
 }
 
--- every test of the feed holds, its rows' values are counted, and these are the optional files without bytes
-pub record AreCounts (feed : Feed) (counts : Counts) : Type 0 where
+-- every test of the feed holds, its rows' values are counted, its days of service are told with those around the date, and these are the
+-- optional files without bytes
+pub record AreCounts (feed : Feed) (date : Option Date) (counts : Counts) : Type 0 where
   pub faultless : first_fault (feed_tests feed) ≡ None
-  pub counted : counts ≡ counts_in (values_of feed) counts.missing
+  pub counted : counts ≡ counts_in (values_of feed) counts.service counts.missing
+  pub service : AreServiceDays (values_of feed) date counts.service
   pub calendar : IsTrue counts.missing.calendar ↔ (feed.calendar ≡ None)
   pub calendar_dates : IsTrue counts.missing.calendar_dates ↔ (feed.calendar_dates ≡ None)
   pub transfers : IsTrue counts.missing.transfers ↔ (feed.transfers ≡ None)

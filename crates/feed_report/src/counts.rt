@@ -4,8 +4,10 @@ ghost use Rattle.std.specs.Prelude.{◌≡◌, true, IfOk, IfErr, OnOk, is_some,
 ghost use Rattle.gtfs_tables.specs.Feed.{Feed, AreReaders};
 ghost use Rattle.feed_report.specs.Counts.{AreCounts, IsCheckFault, IsMissing, counts_in};
 
+use crate::service::{Service, service_of};
 use faults::Fault;
 use gtfs_tables::{Files, Skipped, Tables, read_tables};
+use jiff::civil::Date;
 use std::alloc::Global;
 use std::hash::RandomState;
 use std::io::Read;
@@ -20,7 +22,7 @@ pub struct Missing {
 }
 
 /// How many of each a feed has. Rows that are skipped don't count.
-#[derive(Clone, Copy, Debug, PartialEq, Eq)]
+#[derive(Debug, Drop)]
 pub struct Counts {
     pub stops: usize,
     pub stations: usize,
@@ -32,6 +34,8 @@ pub struct Counts {
     pub transfers: usize,
     /// The rows of frequencies.txt.
     pub frequencies: usize,
+    /// The days of service; none if the feed has no day of service.
+    pub service: Option<Service>,
     /// How many rows were left out without being at fault.
     pub skipped: Skipped,
     pub missing: Missing,
@@ -59,8 +63,8 @@ fn calls_in(tables: &Tables) -> usize
     count
 }
 
-fn counted(tables: &Tables, missing: Missing) -> Counts
-    ensures { result ≡ counts_in tables.now missing }
+fn counted(tables: &Tables, service: Option<Service>, missing: Missing) -> Counts
+    ensures { result ≡ counts_in tables.now service missing }
 {
     Counts {
         stops: tables.stops().len(),
@@ -70,21 +74,24 @@ fn counted(tables: &Tables, missing: Missing) -> Counts
         calls: calls_in(tables),
         transfers: tables.transfers().len(),
         frequencies: tables.frequencies().len(),
+        service,
         skipped: tables.skipped(),
         missing,
     }
 }
 
-/// Reads the feed's files, and counts what the feed has. It is given only where every test of the feed holds; else the fault of the first
-/// test that doesn't. Ids are looked up under `hash_keys`: where the system gave no randomness for them, that is the fault, and nothing is
+/// Reads the feed's files, counts what the feed has, and looks for its days of service. How many trips run on a day is told of the seven
+/// days from three days before the date to three days after it, or of those from the first day of service on. It is given only where every
+/// test of the feed holds; else the fault of the first test that doesn't. Ids are looked up under `hash_keys`: where the system gave no randomness for them, that is the fault, and nothing is
 /// read.
 /// A reader that fails (`ReadFailed`) and want of memory can come in place of any answer.
 pub fn counts_of<R: Read + Drop>(
     alloc: Global,
     hash_keys: Option<RandomState>,
+    date: Option<Date>,
     files: Files<R>,
 ) -> Result<Counts, Fault<'static>>
-    ensures counts { (feed : Feed) → AreReaders R.remaining files feed → IfOk result (AreCounts feed) }
+    ensures counts { (feed : Feed) → AreReaders R.remaining files feed → IfOk result (AreCounts feed date) }
     ensures keyed { OnOk result (is_some hash_keys ≡ true) }
     ensures fault { (feed : Feed) → AreReaders R.remaining files feed → IfErr result (IsCheckFault (is_some hash_keys) feed) }
 {
@@ -93,5 +100,6 @@ pub fn counts_of<R: Read + Drop>(
     };
     let missing = missing_of(&files);
     let tables = read_tables(alloc, hash_keys, files)?;
-    Ok(counted(&tables, missing))
+    let service = service_of(alloc, &tables, date)?;
+    Ok(counted(&tables, service, missing))
 }
