@@ -44,11 +44,7 @@ fn no_labels(alloc: Global, stops: usize) -> Result<Vec<Option<Label>>, AllocErr
 pub fn no_moments(alloc: Global, stops: usize) -> Result<Vec<Option<u32>>, AllocError>
     ensures { IfOk result (λ moments. moments.items ≡ replicate {A = Option ℕ} stops None) }
 {
-    let mut moments = Vec::with_capacity(alloc, stops)?;
-    for _ in 0..stops {
-        moments.push(None)?;
-    }
-    Ok(moments)
+    vec![in alloc; None; stops]
 }
 
 /// Takes all moments away.

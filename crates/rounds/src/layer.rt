@@ -34,9 +34,9 @@ impl Layer {
         ensures { IfOk result (IsSized stops) }
     {
         Ok(Layer {
+            guesses: Guesses::new(alloc, lines)?,
             rode: Row::empty(alloc, stops)?,
             ready: Row::empty(alloc, stops)?,
-            guesses: Guesses::new(alloc, lines)?,
         })
     }
 

@@ -34,11 +34,11 @@ impl Model for Row {
     ghost invariant = { λ a. IsRow a.labels a.settled.items a.lowered.items (vec_capacity a.lowered) };
 }
 
-// Whether this moment is sooner than the one that was settled.
-fn is_sooner(moment: Option<u32>, settled: Option<u32>) -> bool
-    ensures { IsTrue result ↔ IsSooner moment settled }
+/// Whether this moment is sooner than the one before.
+pub fn is_sooner(moment: Option<u32>, before: Option<u32>) -> bool
+    ensures { IsTrue result ↔ IsSooner moment before }
 {
-    match (moment, settled) {
+    match (moment, before) {
         (Some(now), Some(before)) => now < before,
         (Some(_), None) => true,
         (None, _) => false,
@@ -75,9 +75,9 @@ impl Row {
         ensures fresh { IfOk result (λ row. (stop : ℕ) → settled_of row stop ≡ None) }
     {
         Ok(Row {
-            labels: Labels::empty(alloc, stops)?,
-            settled: no_moments(alloc, stops)?,
             lowered: Vec::with_capacity(alloc, stops)?,
+            settled: no_moments(alloc, stops)?,
+            labels: Labels::empty(alloc, stops)?,
         })
     }
 

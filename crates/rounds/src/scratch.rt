@@ -244,14 +244,13 @@ impl Scratch {
     {
         let stops = table.stops();
         let count = lines.lines().len();
-        let noted = Noted::none(alloc, count)?;
         Ok(Scratch {
             rides,
-            lines,
             layers: no_layers(alloc, stops, count, rides)?,
-            noted,
-            source: StopId::new(0),
             rounds: no_rounds(alloc, stops, rides)?,
+            noted: Noted::none(alloc, count)?,
+            source: StopId::new(0),
+            lines,
         })
     }
 

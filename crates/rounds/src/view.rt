@@ -9,7 +9,7 @@ ghost use Rattle.rounds.specs.Scratch.{rounds_of, before_of};
 
 use crate::label::Label;
 use crate::path::Path;
-use crate::row::Row;
+use crate::row::{Row, is_sooner};
 use std::alloc::{AllocFailed, Global};
 use std::marker::Model;
 use timetable::StopId;
@@ -77,8 +77,10 @@ impl RoundView<'_> {
         requires { rides ≤ length (rounds_of self.now) }
         ensures { result ≡ arrival_in (rounds_of self.now) rides stop }
     {
-        let label = self.label(rides, stop)?;
-        Some(label.arrival())
+        if rides == 0 {
+            return None;
+        }
+        self.rounds[rides as usize - 1].arrival(stop)
     }
 
     /// The stops of boarding and alighting of a journey of exactly `rides` rides that arrives then, where it is sooner
@@ -90,10 +92,11 @@ impl RoundView<'_> {
             ↔ IsSooner (arrival_in (rounds_of self.now) rides stop) (arrival_in (rounds_of self.now) (rides - 1) stop) }
         ensures path { IfSome result (λ path. IsSomeAnd (mark_in (rounds_of self.now) rides stop) (λ m. path.items ≡ m.path)) }
     {
-        let label = self.label(rides, stop)?;
-        match self.label(rides - 1, stop) {
-            Some(before) if before.arrival() <= label.arrival() => None,
-            _ => Some(label.path()),
+        match self.label(rides, stop) {
+            Some(label) if is_sooner(Some(label.arrival()), self.arrival(rides - 1, stop)) => {
+                Some(label.path())
+            }
+            _ => None,
         }
     }
 
@@ -102,11 +105,7 @@ impl RoundView<'_> {
         requires { rides ≤ length (rounds_of self.now) }
         ensures { IsTrue result ↔ IsSooner (arrival_in (rounds_of self.now) rides stop) (moment_in (before_of self.now) rides stop) }
     {
-        match (self.arrival(rides, stop), self.before(rides, stop)) {
-            (Some(now), Some(before)) => now < before,
-            (Some(_), None) => true,
-            (None, _) => false,
-        }
+        is_sooner(self.arrival(rides, stop), self.before(rides, stop))
     }
 
     /// The stops whose arrival the run lowered.

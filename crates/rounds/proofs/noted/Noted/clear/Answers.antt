@@ -24,3 +24,9 @@ invariant_of-self c =
     (subst (λ (xs : List ℕ). (l : ℕ) → (get_or now l 0 ≡ no_position) ⊎ (¬ Contains c.deref.result.now l × (get_or now l 0 ≡ get_or xs l 0))) c.deref_mut.ensures.value c.clear.ensures) in
     rw w (noted_nothing now _ _ c.clear-2.ensures.items (omega (arith, fits, same, long))
     (λ l h. cleared_all i.earliest.items i.lines.items now _ is each l (omega (arith, h, long))))
+
+pub returns : goal.returns
+returns c =
+    let i = c.self.inside in
+    let w = whole_of i.earliest.len c.clear.new.earliest i.earliest.items c.deref_mut.result.now c.deref_mut.ensures.value c.deref_mut.ensures.len c.clear.auto.earliest in
+    ap (length {A = ℕ}) w ∙ (c.clear.auto.earliest ∙ (ap (length {A = ℕ}) c.deref_mut.ensures.value ∙ ap (length {A = ℕ}) c.self.view_is))

@@ -18,3 +18,12 @@ invariant_of-result c =
     let room = c.in_ok-with_capacity.ensures.capacity in
     settled_row marks settled _ _ c.in_ok-with_capacity.ensures.items (long' ∙ sym long) (omega (arith, room, long))
     (λ p. ap (λ (ms : List (Option Mark)). arrival_of (at ms p)) e ∙ (ap arrival_of (empty_at n p) ∙ sym (ap (λ (ms : List (Option ℕ)). when ms p) f ∙ empty_when n p)))
+
+pub returns-clause-size : goal.returns-clause-size
+returns-clause-size c = ap (length {A = Option Mark}) c.in_ok-empty.ensures ∙ length-replicate {A = Option Mark} c.args.stops None
+
+pub returns-clause-none : goal.returns-clause-none
+returns-clause-none c = λ stop. ap (λ (ms : List (Option Mark)). at ms stop) c.in_ok-empty.ensures ∙ empty_at c.args.stops stop
+
+pub returns-clause-fresh : goal.returns-clause-fresh
+returns-clause-fresh c = λ stop. ap (λ (ms : List (Option ℕ)). when ms stop) c.in_ok-no_moments.ensures ∙ empty_when c.args.stops stop
