@@ -32,12 +32,12 @@ _tp() {
         --date | --on | --from | --at | --zone | --default-walk | --workers) return ;;
         *)
             case $command in
-                "") choices="check stops direct scan build list ask serve audit migrate help --help --version" ;;
-                check) choices="--feed --help" ;;
-                stops) choices="--feed --all --help" ;;
+                "") choices="check stops direct scan build list ask serve audit migrate faults help --help --version" ;;
+                check) choices="--feed --date --format --help" ;;
+                stops) choices="--feed --all --header --format --help" ;;
                 direct) choices="--feed --date --from --to --at --format --days --zone --rides --default-walk --help" ;;
                 scan) choices="--feed --date --from --to --at --legs --names --format --days --zone --rides --default-walk --help" ;;
-                build) choices="--feed --date --store --workers --progress --days --zone --rides --default-walk --help" ;;
+                build) choices="--feed --date --store --workers --progress --format --days --zone --rides --default-walk --help" ;;
                 list) choices="--feed --date --store --format --days --zone --rides --default-walk --help" ;;
                 ask)
                     choices="--feed --date --store --from --to --at --on --legs --names --format"
@@ -46,7 +46,8 @@ _tp() {
                 serve) choices="--feed --date --store --workers --format --days --zone --rides --default-walk --help" ;;
                 audit) choices="--feed --date --store --from --all --workers --progress --days --zone --rides --default-walk --help" ;;
                 migrate) choices="--feed --date --store --to --progress --days --zone --rides --default-walk --help" ;;
-                help) choices="check stops direct scan build list ask serve audit migrate help" ;;
+                faults) choices="--help" ;;
+                help) choices="check stops direct scan build list ask serve audit migrate faults help" ;;
             esac
             ;;
     esac
