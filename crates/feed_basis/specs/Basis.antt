@@ -9,6 +9,8 @@ use Rattle.gtfs_tables.specs.Feed.{Feed, feed_tests, values_of}
 use Rattle.gtfs_tables.specs.Tables.{TableValues}
 use Rattle.service_days.specs.Answers.{IsCoverOf, IsMoment}
 use Rattle.service_days.specs.Cover.{CoverDays}
+use Rattle.service_span.specs.Idle.{IsIdle}
+use Rattle.service_span.specs.declared.idle.Idle.{Idle}
 use Rattle.feed_timetable.specs.Departures.{AreRepeats}
 use Rattle.feed_timetable.specs.Answers.{IsTimetable}
 use Rattle.feed_timetable.specs.Names.{AreNamesOf}
@@ -17,12 +19,14 @@ use Rattle.feed_ids.specs.Names.{KnowsStops}
 use Rattle.timetable.specs.Table.{Table, IsTable, stops_of}
 use Rattle.options.specs.declared.settings.Settings.{Settings}
 
--- a timetable on the covered days, the ids of its stops, stations and trips, the rows that repeat each trip, and the days
+-- a timetable on the covered days, the ids of its stops, stations and trips, the rows that repeat each trip, the days, and whether no trip
+-- runs on them
 pub record BasisData : Type 0 where
   pub timetable : Table
   pub names : NameLists
   pub repeats : List (List Frequency)
   pub cover : CoverDays
+  pub idle : Option Idle
 
 -- every test of the feed holds, and the tables are its values
 abbrev pub AreTablesOf : Feed → TableValues → Type 0
@@ -35,12 +39,14 @@ pub record AreDays (feed : Feed) (settings : Settings) (first : Date) (cover : C
   pub rule : IsPosixZone settings.zone.now zone
   pub covered : IsCoverOf first settings.days zone cover
 
--- the timetable of the feed's rows on the days from the first on, the ids of its stops and trips, and the rows that repeat each trip
+-- the timetable of the feed's rows on the days from the first on, the ids of its stops and trips, the rows that repeat each trip, and
+-- whether no trip runs on these days
 pub record IsBasis (feed : Feed) (settings : Settings) (first : Date) (basis : BasisData) : Type 0 where
   pub days : AreDays feed settings first basis.cover
   pub timetable : IsTimetable (values_of feed) basis.cover settings.default_walk basis.timetable
   pub named : AreNamesOf (values_of feed) basis.names
   pub repeated : AreRepeats (values_of feed) basis.repeats
+  pub idle : IsIdle (values_of feed) basis.cover basis.idle
 
 -- a timetable, and names that know its stops and trips
 pub record IsSound (basis : BasisData) : Type 0 where

@@ -20,6 +20,7 @@ use gtfs_tables::{Files, Frequency, Tables, read_tables};
 use jiff::civil::Date;
 use options::Settings;
 use service_days::Cover;
+use service_span::{Idle, idle_of};
 use std::alloc::{AllocError, Global};
 use std::hash::RandomState;
 use std::io::Read;
@@ -27,13 +28,15 @@ use std::marker::Model;
 use std::sync::Arc;
 use timetable::{StopId, Timetable};
 
-/// A feed's timetable on the covered days, with the ids of its stops, stations and trips, and the rows that repeat trips.
+/// A feed's timetable on the covered days, with the ids of its stops, stations and trips, and the rows that repeat trips. It also knows
+/// whether no trip runs on these days.
 #[derive(Drop)]
 pub struct Basis {
     timetable: Arc<Timetable>,
     names: Arc<Names>,
     repeats: Groups<Frequency>,
     cover: Cover,
+    idle: Option<Idle>,
 }
 
 impl Model for Basis {
@@ -42,10 +45,22 @@ impl Model for Basis {
 
     ghost Value = { BasisData };
 
-    ghost view = { λ b. record { timetable = arc_value b.timetable; names = arc_value b.names; repeats = b.repeats; cover = b.cover } };
+    ghost view = { λ b. record {
+      timetable = arc_value b.timetable;
+      names = arc_value b.names;
+      repeats = b.repeats;
+      cover = b.cover;
+      idle = b.idle;
+    } };
 
     ghost invariant = { λ b.
-        IsSound (record { timetable = arc_value b.timetable; names = arc_value b.names; repeats = b.repeats; cover = b.cover }) };
+        IsSound (record {
+          timetable = arc_value b.timetable;
+          names = arc_value b.names;
+          repeats = b.repeats;
+          cover = b.cover;
+          idle = b.idle;
+        }) };
 }
 
 impl Basis {
@@ -111,6 +126,13 @@ impl Basis {
         &self.cover
     }
 
+    /// That no trip runs on a covered day, with the first and the last day of service; none if some trip runs on one.
+    pub fn idle(&self) -> Option<Idle>
+        ensures { result ≡ self.now.idle }
+    {
+        self.idle
+    }
+
     /// The service day and its time that a moment is.
     pub fn day_time(&self, moment: u32) -> DayTime
         ensures { TellsMoment self.now.cover moment result }
@@ -150,6 +172,7 @@ fn basis_over<'a>(
     let names = names_of(alloc, hash_keys, tables)?;
     names.know_their_stops();
     let repeats = repeats_of(alloc, tables)?;
+    let idle = idle_of(alloc, tables, &cover)?;
     let Ok(timetable) = Arc::new(alloc, timetable) else {
         return Err(Fault::Memory);
     };
@@ -161,6 +184,7 @@ fn basis_over<'a>(
         names,
         repeats,
         cover,
+        idle,
     })
 }
 

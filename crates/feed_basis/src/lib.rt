@@ -5,3 +5,4 @@
 mod basis;
 
 pub use basis::{Basis, basis_of};
+pub use service_span::{Idle, Span};

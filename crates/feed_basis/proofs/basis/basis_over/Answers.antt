@@ -8,6 +8,7 @@ use Rattle.feed_ids.specs.NameLists.{NameLists}
 use Rattle.feed_ids.specs.Names.{KnowsStops}
 use Rattle.feed_timetable.specs.Names.{AreNamesOf}
 use Rattle.timetable.specs.Table.{Table, IsTable}
+use Rattle.service_span.specs.Idle.{IsIdle}
 use Rattle.feed_basis.specs.Basis.{AreDays}
 use Rattle.feed_basis.proofs.FaultFacts.{of_cover, of_rows}
 use Rattle.feed_basis.proofs.BasisFacts.{is_sound}
@@ -39,6 +40,11 @@ returns-in_err-repeats-clause-fault c = λ feed h.
     let p = err_from_is_err_and c.from_residual-in_err-repeats.result c.from_residual-in_err-repeats.ensures.1 in
     rw (p.1, p.2) tt
 
+pub returns-in_err-idle-clause-fault : goal.returns-in_err-idle-clause-fault
+returns-in_err-idle-clause-fault c = λ feed h.
+    let p = err_from_is_err_and c.from_residual-in_err-idle.result c.from_residual-in_err-idle.ensures.1 in
+    rw (p.1, p.2) tt
+
 pub returns-clause-basis : goal.returns-clause-basis
 returns-clause-basis c = λ feed h.
     let cover = c.in_ok-cover.cover in
@@ -50,6 +56,7 @@ returns-clause-basis c = λ feed h.
       named = subst (λ (names : NameLists). AreNamesOf (values_of feed) names) (sym c.in-Ok-new.ensures.ok)
           (subst (λ (t : TableValues). AreNamesOf t c.in_ok-names.names) h.1 c.in_ok-names.ensures);
       repeated = subst (λ (t : TableValues). AreRepeats t c.in_ok-repeats.repeats) h.1 c.in_ok-repeats.ensures;
+      idle = subst (λ (t : TableValues). IsIdle t cover c.in_ok-idle.idle) h.1 c.in_ok-idle.ensures;
     }
 
 pub invariant_of-result : goal.invariant_of-result
