@@ -80,11 +80,12 @@ fn counted(tables: &Tables, service: Option<Service>, missing: Missing) -> Count
     }
 }
 
-/// Reads the feed's files, counts what the feed has, and looks for its days of service. How many trips run on a day is told of the seven
-/// days from three days before the date to three days after it, or of those from the first day of service on. It is given only where every
-/// test of the feed holds; else the fault of the first test that doesn't. Ids are looked up under `hash_keys`: where the system gave no randomness for them, that is the fault, and nothing is
-/// read.
-/// A reader that fails (`ReadFailed`) and want of memory can come in place of any answer.
+/// Reads the feed's files, counts what the feed has, and looks for its days of service. The trips of seven days are counted: from three
+/// days before the date to three days after it, or from the first day of service on. Counts are given only where every test of the feed
+/// holds; else the fault of the first test that doesn't.
+///
+/// Ids are looked up under `hash_keys`: where the system gave no randomness for them, that is the fault, and nothing is read. A reader that
+/// fails (`ReadFailed`) and want of memory can come in place of any answer.
 pub fn counts_of<R: Read + Drop>(
     alloc: Global,
     hash_keys: Option<RandomState>,
