@@ -14,6 +14,7 @@ use Rattle.gtfs_tables.specs.Feed.{Feed}
 use Rattle.printing.specs.declared.told.Told.{Told}
 use Rattle.printing.specs.declared.told.Told.TheVariants as tolds
 use Rattle.tellers.specs.Tellings.{IsStopsFault, Telling}
+use Rattle.commands.specs.World.{World}
 
 -- what a feed has, in a style: as lines, or as a text in a format; or memory ran out as that was made
 abbrev pub IsFeedTold : Telling → Style → FeedReport → Result Told Fault → Type 0
@@ -33,6 +34,12 @@ abbrev pub IsChecked : Telling → (Names → Type 0) → Bool → Feed → Feed
 IsChecked t lists keyed feed check told =
     ((report : FeedReport) × IsRightReport lists keyed feed check report × IsFeedTold t check.style report told)
     ⊎ ((fault : Fault) × (told ≡ Err fault) × IsCheckFault keyed feed fault)
+
+-- whatever feed its folder holds; memory may run out as the files are opened
+abbrev pub IsFolderChecked : {D : Type 0} → World D → Telling → FeedCheck → Result Told Fault → Type 0
+IsFolderChecked world t check told =
+    (told ≡ Err faults.Memory)
+    ⊎ ((feed : Feed) → world.holds check.feed.now feed → IsChecked t (world.lists check.feed.now) world.keyed feed check told)
 
 -- the text of the stops that are searched for, or why there is none
 abbrev pub AreStops : Telling → StopSearch → Result Told Fault → Type 0

@@ -1,5 +1,5 @@
-pub mod Checks
 pub mod World
+pub mod Checks
 pub mod Feeds
 pub mod Files
 pub mod Idle

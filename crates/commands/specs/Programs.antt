@@ -19,7 +19,7 @@ use Rattle.faults.specs.declared.fault.Fault.{Fault}
 use Rattle.faults.specs.declared.fault.Fault.TheVariants.{BadDate, BadTime, Memory}
 use Rattle.tellers.specs.Given.{folder_given, word_given}
 use Rattle.tellers.specs.Tellings.{Telling}
-use Rattle.commands.specs.Checks.{AreStops, IsChecked}
+use Rattle.commands.specs.Checks.{AreStops, IsFolderChecked}
 use Rattle.commands.specs.Runs.{IsPlanRun, voice_of}
 use Rattle.commands.specs.World.{SystemView}
 use denote.Ref.{Bor}
@@ -65,9 +65,7 @@ abbrev pub IsJobRun : {D : Type 0} → SystemView D → Option (List ℕ) → Jo
 IsJobRun v input jobs.Faults old new status disk = AreFaultsListed old new status disk
 IsJobRun v input (jobs.Check check) old new status disk =
     (told : Result Told Fault) × IsPlainRun v (folder_voice check.style check.feed) told old new status disk
-    × ((told ≡ Err Memory)
-    ⊎ ((feed : Feed) → v.world.holds check.feed.now feed
-    → IsChecked v.telling (v.world.lists check.feed.now) v.world.keyed feed check told))
+    × IsFolderChecked v.world v.telling check told
 IsJobRun v input (jobs.Stops search) old new status disk =
     (told : Result Told Fault) × IsPlainRun v (folder_voice search.style search.feed) told old new status disk
     × AreStops v.telling search told

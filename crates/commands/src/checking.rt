@@ -1,7 +1,7 @@
 //! What a feed has.
 
 ghost use Rattle.gtfs_tables.specs.Feed.{Feed, AreReaders};
-ghost use Rattle.commands.specs.Checks.{AreStops, IsChecked, IsFeedTold};
+ghost use Rattle.commands.specs.Checks.{AreStops, IsChecked, IsFeedTold, IsFolderChecked};
 
 use crate::system::System;
 use command_line::{FeedCheck, StopSearch, Style};
@@ -20,7 +20,7 @@ fn told_feed<T: Teller>(
     folder: &str,
     report: FeedReport,
 ) -> Result<Told<'static>, Fault<'static>>
-    ensures { IsFeedTold T.telling style report.entry result }
+    ensures { IsFeedTold T.telling style report result }
 {
     match style {
         Style::Lines => Ok(Told::Feed(report)),
@@ -31,8 +31,8 @@ fn told_feed<T: Teller>(
     }
 }
 
-/// What the feed has, and what else is among the names in its folder, which are looked for only if it is without fault.
-pub fn check<S: System>(
+// What the feed has, and what else is among the names in its folder, which are looked for only if it is without fault.
+fn check_files<S: System>(
     alloc: Global,
     system: &S,
     check: &FeedCheck<'_>,
@@ -53,6 +53,20 @@ pub fn check<S: System>(
             check.feed,
             FeedReport { counts, names },
         ),
+        Err(_) => Err(Fault::Memory),
+    }
+}
+
+/// What the feed in a folder has, and what else is there, as it is asked for. Memory may run out as the files of the feed are opened.
+pub fn check<S: System>(
+    alloc: Global,
+    system: &S,
+    check: &FeedCheck<'_>,
+) -> Result<Told<'static>, Fault<'static>>
+    ensures { IsFolderChecked (S.world system.now) S.Teller.telling check.now result }
+{
+    match system.open_feed(alloc, check.feed) {
+        Ok(files) => check_files(alloc, system, check, files),
         Err(_) => Err(Fault::Memory),
     }
 }

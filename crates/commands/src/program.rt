@@ -86,10 +86,7 @@ fn run_job<S: System, I: BufRead, O: Write + Drop, E: Write + Drop>(
         }
         Job::Check(asked) => {
             let voice = folder_voice(asked.style, asked.feed);
-            let told = match system.open_feed(alloc, asked.feed) {
-                Ok(files) => check(alloc, system, asked, files),
-                Err(_) => Err(Fault::Memory),
-            };
+            let told = check(alloc, system, asked);
             ended(alloc, system, &voice, told, streams)
         }
         Job::Plan(plan) => match system.open_feed(alloc, plan.settings.feed) {

@@ -85,19 +85,24 @@ fn unread_of<'r>(
     Ok(Some(unread))
 }
 
+// What a feed has, as JSON, with the names in its folder that aren't read.
+fn json_of(
+    alloc: Global,
+    report: &FeedReport,
+    unread: Option<&[&str]>,
+) -> Result<String, AllocError> {
+    let text = FeedText {
+        command: "check",
+        report,
+        unread,
+    };
+    line(feed_json(alloc, &text)?)
+}
+
 /// What a feed has, as JSON. It fails only if memory runs out.
 pub(crate) fn feed_text(alloc: Global, report: &FeedReport) -> Result<String, AllocError> {
-    let unread = unread_of(alloc, report)?;
-    let unread = match &unread {
-        Some(names) => Some(names.as_slice()),
-        None => None,
-    };
-    line(feed_json(
-        alloc,
-        &FeedText {
-            command: "check",
-            report,
-            unread,
-        },
-    )?)
+    match unread_of(alloc, report)? {
+        Some(names) => json_of(alloc, report, Some(names.as_slice())),
+        None => json_of(alloc, report, None),
+    }
 }

@@ -6,10 +6,10 @@ use Rattle.commands.specs.Programs.{IsPlainRun}
 use Rattle.commands.specs.World.{view_of}
 use Rattle.commands.proofs.program.run_job.Goals as goal
 
-pub returns-in-Err-open_feed : goal.returns-in-Err-open_feed
-returns-in-Err-open_feed g c =
+pub returns-in-Err : goal.returns-in-Err
+returns-in-Err g c =
     let t = g.S.Teller.Teller.telling in
     let v = view_of (g.S.System.world c.args.system.now) g.S.Store.Disk.honest g.S.Store.Disk.state g.S.Store.Disk.failures t in
-    let ended = c.ended-in-Err-open_feed.result in
+    let ended = c.ended-in-Err.result in
     rw c.in-Plan.is (inl (subst (λ (voice : Voice). IsPlainRun v voice (Err Memory) (streams_of c.args.streams.out c.args.streams.err)
-    (streams_of ended.streams.out ended.streams.err) ended.status ended.store) c.voice_of.ensures c.ended-in-Err-open_feed.ensures))
+    (streams_of ended.streams.out ended.streams.err) ended.status ended.store) c.voice_of.ensures c.ended-in-Err.ensures))

@@ -15,8 +15,8 @@ returns-in-Find g c =
     rw c.in-Find.is (subst (λ (k : ℕ). IsFoundRun v plan c.args.basis.now k c.in-Find.search old new ended.status ended.store)
     c.new-rides.ensures c.run_search.ensures)
 
-pub returns : goal.returns
-returns g c =
+pub returns-in-Serve : goal.returns-in-Serve
+returns-in-Serve g c =
     let plan = c.args.plan.now in
     let basis = c.args.basis.now in
     let input = g.I.Read.remaining c.args.input.now in
