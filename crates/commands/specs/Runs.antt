@@ -65,7 +65,7 @@ IsCommandRun v input plan basis (commands.Serve store workers) old new status di
 pub record IsRunOver {D : Type 0} (v : SystemView D) (input : Option (List ℕ)) (plan : Plan) (basis : BasisData) (old new : StreamsData)
     (status : ℕ) (disk : Option D) : Type 0 where
   pub noticed : StreamData
-  pub idle : IsIdleSaid basis.idle old.err noticed
+  pub idle : IsIdleSaid basis.idle basis.timetable.instances old.err noticed
   pub command : IsCommandRun v input plan basis plan.command (streams_of old.out noticed) new status disk
 
 -- What a run leaves, in the order in which faults are looked for: the feed and its days; then the store, and then the question.

@@ -121,7 +121,7 @@ pub fn run_plan<S: System, I: BufRead, O: Write + Drop, E: Write + Drop>(
     let hash_keys = system.hash_keys();
     match basis_of(alloc, hash_keys, &plan.settings, plan.first, files) {
         Ok(basis) => {
-            say_idle(&basis.idle(), &mut streams.err);
+            say_idle(&basis, &mut streams.err);
             run_command(alloc, system, plan, &basis, input, streams)
         }
         Err(fault) => {

@@ -1,9 +1,7 @@
-use Rattle.std.proofs.Common.{◌∙◌, Bool, Option, refl, sym, subst, inl, inr}
+use Rattle.std.proofs.Common.{◌∙◌, Bool, refl, sym, subst, inl, inr}
 use Rattle.printing.specs.Faults.{IsFaultSaid}
 use Rattle.printing.specs.declared.fault.Voice.{Voice}
 use Rattle.feed_basis.specs.BasisFaults.{IsBasisFault}
-use Rattle.commands.specs.Idle.{IsIdleSaid}
-use Rattle.service_span.specs.declared.idle.Idle.{Idle}
 use Rattle.commands.proofs.running.run_plan.Goals as goal
 
 pub returns-in-Err : goal.returns-in-Err
@@ -29,7 +27,7 @@ returns-in-Ok g c = λ feed h.
       record { with_keys = sym c.hash_keys-hash_keys.ensures ∙ c.in-Ok.ensures.keyed; over = c.in-Ok.ensures.basis feed h },
       record {
         noticed = c.say_idle.new.err;
-        idle = subst (λ (idle : Option Idle). IsIdleSaid idle c.args.streams.err c.say_idle.new.err) c.idle.ensures c.say_idle.ensures;
+        idle = c.say_idle.ensures;
         command = c.run_command.ensures;
       },
     )
