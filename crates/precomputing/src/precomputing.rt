@@ -1,11 +1,9 @@
 //! Builds the trees that a store lacks.
 
 ghost use Rattle.std.specs.Prelude.{◌≡◌, ◌<◌, ◌≤◌, [], IfOk, length, take, vec_capacity};
-ghost use Rattle.timetable.specs.Table.{stops_of};
-ghost use Rattle.section_store.specs.Sections.{form_of};
 ghost use Rattle.section_store.specs.Sources.{IsSetOf};
-ghost use Rattle.precomputing.specs.Missing.{missing_of};
 ghost use Rattle.precomputing.specs.Flushed.{ShowsTo};
+ghost use Rattle.precomputing.specs.Prepared.{IsPrepared};
 ghost use Rattle.precomputing.specs.Outcome.{IsDoneAtOnce, IsLeft, IsPrecomputed};
 
 use crate::audience::Audience;
@@ -31,12 +29,15 @@ use work_ledger::Ledger;
 // How many finished trees wait to be stored at most.
 const ROOM: usize = 64;
 
-// What is made before anything is started: the ledger, the set of the stored stops, and room for those that lack a tree at the end.
+// What is made before anything is started: the ledger, the set of the stored stops, and room for those that lack a tree at the end. And
+// how many stops there are, and how many trees are stored before.
 #[derive(Drop)]
 struct Prepared {
     ledger: Ledger,
     set: StopSet,
     room: Vec<StopId>,
+    stops: usize,
+    before: usize,
 }
 
 // Makes all that is made before anything is started.
@@ -46,17 +47,20 @@ fn prepare<D: Disk>(
     desk: &Desk<D>,
 ) -> Result<Prepared, AllocError>
     requires own { desk.now.form ≡ planner.now.form }
-    ensures ledger { IfOk result (λ p. form_of p.ledger.table p.ledger.rides ≡ desk.now.form) }
-    ensures set { IfOk result (λ p. IsSetOf (stops_of desk.now.form.table) p.set desk.now.stored) }
-    ensures bare { IfOk result (λ p. p.room.items ≡ []) }
-    ensures room { IfOk result (λ p. stops_of desk.now.form.table ≤ vec_capacity p.room) }
+    ensures { IfOk result (IsPrepared desk.now) }
 {
     let stops = planner.network().timetable().stops();
     let stored = desk.stored();
-    let ledger = Ledger::new(alloc, planner.network().shared(), planner.k(), stored, ROOM)?;
-    let set = StopSet::of(alloc, stops, stored)?;
     let room = Vec::with_capacity(alloc, stops)?;
-    Ok(Prepared { ledger, set, room })
+    let set = StopSet::of(alloc, stops, stored)?;
+    let ledger = Ledger::new(alloc, planner.network().shared(), planner.k(), stored, ROOM)?;
+    Ok(Prepared {
+        ledger,
+        set,
+        room,
+        stops,
+        before: stored.len(),
+    })
 }
 
 // What is left, where the set has those that were stored before.
@@ -75,6 +79,42 @@ fn left(set: StopSet, stored: &[StopId], before: usize, stops: usize, room: Vec<
         return Outcome::Done;
     }
     Outcome::Partial(missing)
+}
+
+// Builds the trees that the desk's store lacks, where all is prepared.
+fn build<D: Disk + Drop, R: Threads + Wait + Sync, G: Gate + Sync, P: Progress>(
+    alloc: Global,
+    rt: &R,
+    desk: Desk<D>,
+    planner: &Planner,
+    crew: &Crew<'_, G>,
+    progress: &mut P,
+    prepared: Prepared,
+) -> (Desk<D>, Outcome)
+    requires own { desk.form ≡ planner.now.form }
+    requires ready { desk.next ≡ Step.WriteBody }
+    requires prepared { IsPrepared desk prepared }
+    ensures precomputed { IsPrecomputed D.honest D.state D.failures desk result.0 result.1 }
+    ensures shown { ShowsTo crew.now.audience desk.board result.0.board }
+{
+    let Prepared {
+        ledger,
+        set,
+        room,
+        stops,
+        before,
+    } = prepared;
+    let (desk, end) = run_over::<Brand, D, R, G, P>(
+        rt, alloc, planner, ledger, crew, progress, desk,
+    );
+    match end {
+        None => (desk, Outcome::NoMemory),
+        Some(FlushEnd::DeviceFailed) => (desk, Outcome::DeviceFailed),
+        Some(FlushEnd::Drained) => {
+            let outcome = left(set, desk.stored(), before, stops, room);
+            (desk, outcome)
+        }
+    }
 }
 
 /// Builds the trees that the desk's store lacks, in the crew's threads, while the calling thread stores them. It shows each to the crew's
@@ -111,18 +151,7 @@ pub fn precompute_telling<D: Disk + Drop, R: Threads + Wait + Sync, G: Gate + Sy
     let Ok(prepared) = prepare(alloc, planner, &desk) else {
         return (desk, Outcome::NoMemory);
     };
-    let Prepared { ledger, set, room } = prepared;
-    let (desk, end) = run_over::<Brand, D, R, G, P>(
-        rt, alloc, planner, ledger, crew, progress, desk,
-    );
-    match end {
-        None => (desk, Outcome::NoMemory),
-        Some(FlushEnd::DeviceFailed) => (desk, Outcome::DeviceFailed),
-        Some(FlushEnd::Drained) => {
-            let outcome = left(set, desk.stored(), before, stops, room);
-            (desk, outcome)
-        }
-    }
+    build(alloc, rt, desk, planner, crew, progress, prepared)
 }
 
 /// The same with `workers` workers, but how many trees are stored is reported to nobody.
