@@ -1,5 +1,5 @@
 -- What a build leaves of a store.
-use Rattle.std.proofs.Common.{◌≡◌, ◌≤◌, ◌+◌, ◌⊎◌, ◌↔◌, ◌++◌, ℕ, List, [], length, append-nil, arith, refl, sym, ◌∙◌, ap, subst, inl, inr, Result, Ok, Err, OnOk, IfOk, IfErr, MatchResult}
+use Rattle.std.proofs.Common.{◌≡◌, ◌≤◌, ◌⊎◌, ◌↔◌, ◌++◌, ℕ, List, [], length, append-nil, arith, refl, sym, ◌∙◌, ap, subst, inl, inr, Result, Ok, Err, OnOk, IfOk, IfErr, MatchResult}
 use Rattle.std.proofs.lemmas.List.{append_assoc, length-append}
 use Rattle.disk_model.specs.Disk.{State}
 use Rattle.timetable.specs.Table.{stops_of}

@@ -16,7 +16,7 @@ use Rattle.store_building.specs.Openings.{cause_of}
 use Rattle.store_building.specs.Replies.{IsOpenedReader}
 
 -- what is so of each element is so of the last
-last_is : {X : Type 0} (P : X → Type 0) (xs : List X) (x : X) → All P (xs ++ x ∷ []) → P x
+pub last_is : {X : Type 0} (P : X → Type 0) (xs : List X) (x : X) → All P (xs ++ x ∷ []) → P x
 last_is P [] x h = h 0 x (omega arith)
 last_is P (y ∷ xs) x h = last_is P xs x (λ i d within. h (suc i) d (omega (arith, within)))
 
