@@ -205,12 +205,12 @@ impl Teller<'_> {
         let (departs, arrives) = (departure_of(begins, stage), arrival_of(stage));
         Ok(Leg {
             kind: kind_of(stage),
-            trip: self.trip(alloc, stage)?,
             frequency: self.frequency(stage),
-            from: self.stay(alloc, from, departs)?,
-            to: self.stay(alloc, to, arrives)?,
             seconds: self.seconds(departs, arrives),
             through: self.through(alloc, stage)?,
+            from: self.stay(alloc, from, departs)?,
+            to: self.stay(alloc, to, arrives)?,
+            trip: self.trip(alloc, stage)?,
         })
     }
 
@@ -326,10 +326,10 @@ pub fn itinerary_by<'a>(
     };
     Ok(Itinerary {
         command: asked.command,
-        from: names.place(alloc, asked.from)?,
-        to: names.place(alloc, asked.to)?,
         departure: teller.time(asked.departs),
         journeys: teller.journeys(alloc, asked.departs, answer)?,
+        from: names.place(alloc, asked.from)?,
+        to: names.place(alloc, asked.to)?,
     })
 }
 
