@@ -1,11 +1,13 @@
 //! The commands and the words that each takes.
 
-ghost use Rattle.std.specs.Prelude.{◌≡◌, codes, false, IfOk, IfErr, IsOkAnd, map};
-ghost use Rattle.clap.specs.Words.{app_of, rule_of, kind_of, subcommand_of, subcommand_rows_of, fault_of, with_subcommand, FailsBy};
-ghost use Rattle.clap.specs.declared.error.kind.ErrorKind.TheVariants.{OutOfMemory};
+ghost use Rattle.std.specs.Prelude.{◌≡◌, codes, false, IfOk, map};
+ghost use Rattle.clap.specs.Words.{App, Rule, app_of, fault_of, new_app, rule_of, subcommand_of, subcommand_rows_of, with_rule};
+ghost use Rattle.clap.specs.Words.{with_subcommand, FailsBy};
 ghost use Rattle.clap.specs.declared.builder.command.Command.TheViews.{out-Command as fields_of};
 ghost use Rattle.command_grammar.specs.CommandLine.{ask_app, audit_app, build_app, building_app, check_app, faults_app, journey_app};
-ghost use Rattle.command_grammar.specs.CommandLine.{list_app, migrate_app, program_app, ranged_rule, scan_app, serve_app, stops_app, store_app, text_rule};
+ghost use Rattle.command_grammar.specs.CommandLine.{list_app, migrate_app, needs_subcommand, program_app, ranged_rule, scan_app};
+ghost use Rattle.command_grammar.specs.CommandLine.{serve_app, stops_app, store_app, tells_version, text_rule};
+ghost use Rattle.command_grammar.specs.Made.{IsMade, IsProgram};
 
 use crate::texts::{
     ABOUT, ALL, ASK, ASK_MORE, ASK_USAGE, AT, AUDIT, AUDIT_ALL, AUDIT_MORE, AUDIT_PROGRESS,
@@ -19,18 +21,44 @@ use clap::{Arg, ArgMatches, Command, Error};
 use options::{common, flag, number, optional, required};
 use std::alloc::Global;
 
+// A command with one more argument, if both could be made.
+fn with<'a>(command: Result<Command<'a>, Error>, arg: Arg<'a>) -> Result<Command<'a>, Error>
+    ensures { (app : App) (rule : Rule) → IsMade app command.entry → rule_of arg.entry ≡ rule → arg.entry.global ≡ false
+        → IsMade (with_rule app rule) result }
+{
+    Ok(command?.arg(arg)?)
+}
+
+// A command with a text below its options, if it could be made.
+fn ending<'a>(command: Result<Command<'a>, Error>, text: &'a str) -> Result<Command<'a>, Error>
+    ensures { (app : App) → IsMade app command.entry → IsMade app result }
+{
+    Ok(command?.after_help(text))
+}
+
+// A command whose usage is written out, if it could be made.
+fn used<'a>(command: Result<Command<'a>, Error>, usage: &'a str) -> Result<Command<'a>, Error>
+    ensures { (app : App) → IsMade app command.entry → IsMade app result }
+{
+    Ok(command?.override_usage(usage))
+}
+
+// A command of this name, which takes no words yet.
+fn named<'a>(alloc: Global, name: &'a str, about: &'a str) -> Result<Command<'a>, Error>
+    ensures { IsMade (new_app name.entry.now) result }
+{
+    Ok(Command::new(alloc, name).about(about))
+}
+
 // The command that checks a feed.
 fn check<'a>(alloc: Global) -> Result<Command<'a>, Error>
-    ensures shape { IfOk result (λ c. app_of c ≡ check_app) }
-    ensures local { IfOk result (λ c. (fields_of c).has_globals ≡ false) }
-    ensures err { IfErr result (λ e. kind_of e ≡ OutOfMemory) }
+    ensures { IsMade check_app result }
 {
-    let command = Command::new(alloc, "check")
-        .about(CHECK)
-        .arg(required(alloc, "feed", "DIR", FEED))?
-        .arg(optional(alloc, "date", "YYYYMMDD", WEEK))?
-        .arg(optional(alloc, "format", "FORMAT", PLAIN_FORMAT))?;
-    Ok(command.after_help(CHECK_MORE))
+    let command = named(alloc, "check", CHECK);
+    let command = with(command, required(alloc, "feed", "DIR", FEED));
+    let command = with(command, optional(alloc, "date", "YYYYMMDD", WEEK));
+    let command = with(command, optional(alloc, "format", "FORMAT", PLAIN_FORMAT));
+    ending(command, CHECK_MORE)
 }
 
 // A word that stands without an option, and may be left out. `shown` is how it is shown in the help.
@@ -43,18 +71,15 @@ fn word<'a>(alloc: Global, name: &'a str, shown: &'a str, help: &'a str) -> Arg<
 
 // The command that lists stops.
 fn stops<'a>(alloc: Global) -> Result<Command<'a>, Error>
-    ensures shape { IfOk result (λ c. app_of c ≡ stops_app) }
-    ensures local { IfOk result (λ c. (fields_of c).has_globals ≡ false) }
-    ensures err { IfErr result (λ e. kind_of e ≡ OutOfMemory) }
+    ensures { IsMade stops_app result }
 {
-    let command = Command::new(alloc, "stops")
-        .about(STOPS)
-        .arg(required(alloc, "feed", "DIR", FEED))?
-        .arg(flag(alloc, "all", ALL))?
-        .arg(flag(alloc, "header", HEADER))?
-        .arg(optional(alloc, "format", "FORMAT", FORMAT))?
-        .arg(word(alloc, "text", "TEXT", TEXT))?;
-    Ok(command.after_help(STOPS_MORE))
+    let command = named(alloc, "stops", STOPS);
+    let command = with(command, required(alloc, "feed", "DIR", FEED));
+    let command = with(command, flag(alloc, "all", ALL));
+    let command = with(command, flag(alloc, "header", HEADER));
+    let command = with(command, optional(alloc, "format", "FORMAT", FORMAT));
+    let command = with(command, word(alloc, "text", "TEXT", TEXT));
+    ending(command, STOPS_MORE)
 }
 
 // A command that goes from one stop to another, at a time, and the text below its options.
@@ -64,28 +89,23 @@ fn journey<'a>(
     about: &'a str,
     more: &'a str,
 ) -> Result<Command<'a>, Error>
-    ensures shape { IfOk result (λ c. app_of c ≡ journey_app name.entry.now) }
-    ensures local { IfOk result (λ c. (fields_of c).has_globals ≡ false) }
-    ensures err { IfErr result (λ e. kind_of e ≡ OutOfMemory) }
+    ensures { IsMade (journey_app name.entry.now) result }
 {
-    let command = common(alloc, name, about)?
-        .arg(required(alloc, "from", "STOP", FROM))?
-        .arg(required(alloc, "to", "STOP", TO))?
-        .arg(required(alloc, "at", "HH:MM:SS", AT))?
-        .arg(optional(alloc, "format", "FORMAT", FORMAT))?;
-    Ok(command.after_help(more))
+    let command = common(alloc, name, about);
+    let command = with(command, required(alloc, "from", "STOP", FROM));
+    let command = with(command, required(alloc, "to", "STOP", TO));
+    let command = with(command, required(alloc, "at", "HH:MM:SS", AT));
+    let command = with(command, optional(alloc, "format", "FORMAT", FORMAT));
+    ending(command, more)
 }
 
 // The command that answers from rounds.
 fn scan<'a>(alloc: Global) -> Result<Command<'a>, Error>
-    ensures shape { IfOk result (λ c. app_of c ≡ scan_app) }
-    ensures local { IfOk result (λ c. (fields_of c).has_globals ≡ false) }
-    ensures err { IfErr result (λ e. kind_of e ≡ OutOfMemory) }
+    ensures { IsMade scan_app result }
 {
-    let command = journey(alloc, "scan", SCAN, SCAN_MORE)?
-        .arg(flag(alloc, "legs", LEGS))?
-        .arg(flag(alloc, "names", NAMES))?;
-    Ok(command)
+    let command = journey(alloc, "scan", SCAN, SCAN_MORE);
+    let command = with(command, flag(alloc, "legs", LEGS));
+    with(command, flag(alloc, "names", NAMES))
 }
 
 // A command over the file of a store, and the text below its options.
@@ -95,12 +115,11 @@ fn store<'a>(
     about: &'a str,
     more: &'a str,
 ) -> Result<Command<'a>, Error>
-    ensures shape { IfOk result (λ c. app_of c ≡ store_app name.entry.now) }
-    ensures local { IfOk result (λ c. (fields_of c).has_globals ≡ false) }
-    ensures err { IfErr result (λ e. kind_of e ≡ OutOfMemory) }
+    ensures { IsMade (store_app name.entry.now) result }
 {
-    let command = common(alloc, name, about)?.arg(required(alloc, "store", "FILE", STORE))?;
-    Ok(command.after_help(more))
+    let command = common(alloc, name, about);
+    let command = with(command, required(alloc, "store", "FILE", STORE));
+    ending(command, more)
 }
 
 // A command by which workers build pattern trees, and the text below its options.
@@ -110,64 +129,47 @@ fn building<'a>(
     about: &'a str,
     more: &'a str,
 ) -> Result<Command<'a>, Error>
-    ensures shape { IfOk result (λ c. app_of c ≡ building_app name.entry.now) }
-    ensures local { IfOk result (λ c. (fields_of c).has_globals ≡ false) }
-    ensures err { IfErr result (λ e. kind_of e ≡ OutOfMemory) }
+    ensures { IsMade (building_app name.entry.now) result }
 {
-    let command = store(alloc, name, about, more)?.arg(number(
-        alloc, "workers", "N", "2", 1, 64, WORKERS,
-    ))?;
-    Ok(command)
+    let command = store(alloc, name, about, more);
+    with(command, number(alloc, "workers", "N", "2", 1, 64, WORKERS))
 }
 
 // The command that stores pattern trees.
 fn build<'a>(alloc: Global) -> Result<Command<'a>, Error>
-    ensures shape { IfOk result (λ c. app_of c ≡ build_app) }
-    ensures local { IfOk result (λ c. (fields_of c).has_globals ≡ false) }
-    ensures err { IfErr result (λ e. kind_of e ≡ OutOfMemory) }
+    ensures { IsMade build_app result }
 {
-    let command = building(alloc, "build", BUILD, BUILD_MORE)?
-        .arg(flag(alloc, "progress", PROGRESS))?
-        .arg(optional(alloc, "format", "FORMAT", FORMAT))?;
-    Ok(command)
+    let command = building(alloc, "build", BUILD, BUILD_MORE);
+    let command = with(command, flag(alloc, "progress", PROGRESS));
+    with(command, optional(alloc, "format", "FORMAT", FORMAT))
 }
 
 // The command that replies to questions while pattern trees are stored.
 fn serve<'a>(alloc: Global) -> Result<Command<'a>, Error>
-    ensures shape { IfOk result (λ c. app_of c ≡ serve_app) }
-    ensures local { IfOk result (λ c. (fields_of c).has_globals ≡ false) }
-    ensures err { IfErr result (λ e. kind_of e ≡ OutOfMemory) }
+    ensures { IsMade serve_app result }
 {
-    let command = building(alloc, "serve", SERVE, SERVE_MORE)?.arg(optional(
-        alloc, "format", "FORMAT", FORMAT,
-    ))?;
-    Ok(command)
+    let command = building(alloc, "serve", SERVE, SERVE_MORE);
+    with(command, optional(alloc, "format", "FORMAT", FORMAT))
 }
 
 // The command that answers from pattern trees.
 fn ask<'a>(alloc: Global) -> Result<Command<'a>, Error>
-    ensures shape { IfOk result (λ c. app_of c ≡ ask_app) }
-    ensures local { IfOk result (λ c. (fields_of c).has_globals ≡ false) }
-    ensures err { IfErr result (λ e. kind_of e ≡ OutOfMemory) }
+    ensures { IsMade ask_app result }
 {
-    let command = journey(alloc, "ask", ASK, ASK_MORE)?
-        .arg(required(alloc, "store", "FILE", STORE))?
-        .arg(optional(alloc, "on", "YYYYMMDD", ON))?
-        .arg(flag(alloc, "legs", LEGS))?
-        .arg(flag(alloc, "names", NAMES))?;
-    Ok(command.override_usage(ASK_USAGE))
+    let command = journey(alloc, "ask", ASK, ASK_MORE);
+    let command = with(command, required(alloc, "store", "FILE", STORE));
+    let command = with(command, optional(alloc, "on", "YYYYMMDD", ON));
+    let command = with(command, flag(alloc, "legs", LEGS));
+    let command = with(command, flag(alloc, "names", NAMES));
+    used(command, ASK_USAGE)
 }
 
 // The command that lists the stored stops.
 fn list<'a>(alloc: Global) -> Result<Command<'a>, Error>
-    ensures shape { IfOk result (λ c. app_of c ≡ list_app) }
-    ensures local { IfOk result (λ c. (fields_of c).has_globals ≡ false) }
-    ensures err { IfErr result (λ e. kind_of e ≡ OutOfMemory) }
+    ensures { IsMade list_app result }
 {
-    let command = store(alloc, "list", LIST, LIST_MORE)?.arg(optional(
-        alloc, "format", "FORMAT", FORMAT,
-    ))?;
-    Ok(command)
+    let command = store(alloc, "list", LIST, LIST_MORE);
+    with(command, optional(alloc, "format", "FORMAT", FORMAT))
 }
 
 // An option whose value is a whole number from `least` to `most`, and which may be left out.
@@ -188,76 +190,71 @@ fn ranged<'a>(
 
 // The command that compares stored trees with the timetable: that of a stop, or all.
 fn audit<'a>(alloc: Global) -> Result<Command<'a>, Error>
-    ensures shape { IfOk result (λ c. app_of c ≡ audit_app) }
-    ensures local { IfOk result (λ c. (fields_of c).has_globals ≡ false) }
-    ensures err { IfErr result (λ e. kind_of e ≡ OutOfMemory) }
+    ensures { IsMade audit_app result }
 {
-    let command = store(alloc, "audit", AUDIT, AUDIT_MORE)?
-        .arg(optional(alloc, "from", "STOP", AUDITED))?
-        .arg(flag(alloc, "all", AUDIT_ALL))?
-        .arg(ranged(alloc, "workers", "N", 1, 64, AUDITORS))?
-        .arg(flag(alloc, "progress", AUDIT_PROGRESS))?;
-    Ok(command.override_usage(AUDIT_USAGE))
+    let command = store(alloc, "audit", AUDIT, AUDIT_MORE);
+    let command = with(command, optional(alloc, "from", "STOP", AUDITED));
+    let command = with(command, flag(alloc, "all", AUDIT_ALL));
+    let command = with(command, ranged(alloc, "workers", "N", 1, 64, AUDITORS));
+    let command = with(command, flag(alloc, "progress", AUDIT_PROGRESS));
+    used(command, AUDIT_USAGE)
 }
 
 // The command that takes over a store of the version before.
 fn migrate<'a>(alloc: Global) -> Result<Command<'a>, Error>
-    ensures shape { IfOk result (λ c. app_of c ≡ migrate_app) }
-    ensures local { IfOk result (λ c. (fields_of c).has_globals ≡ false) }
-    ensures err { IfErr result (λ e. kind_of e ≡ OutOfMemory) }
+    ensures { IsMade migrate_app result }
 {
-    let command = common(alloc, "migrate", MIGRATE)?
-        .arg(required(alloc, "store", "OLD", OLD_STORE))?
-        .arg(required(alloc, "to", "NEW", NEW_STORE))?
-        .arg(flag(alloc, "progress", MIGRATE_PROGRESS))?;
-    Ok(command.after_help(MIGRATE_MORE))
+    let command = common(alloc, "migrate", MIGRATE);
+    let command = with(command, required(alloc, "store", "OLD", OLD_STORE));
+    let command = with(command, required(alloc, "to", "NEW", NEW_STORE));
+    let command = with(command, flag(alloc, "progress", MIGRATE_PROGRESS));
+    ending(command, MIGRATE_MORE)
 }
 
 // The command that prints the faults.
-fn faults<'a>(alloc: Global) -> Command<'a>
-    ensures shape { app_of result ≡ faults_app }
-    ensures local { (fields_of result).has_globals ≡ false }
+fn faults<'a>(alloc: Global) -> Result<Command<'a>, Error>
+    ensures { IsMade faults_app result }
 {
-    Command::new(alloc, "faults")
-        .about(FAULTS)
-        .after_help(FAULT_TABLE)
+    ending(named(alloc, "faults", FAULTS), FAULT_TABLE)
 }
 
-// The program with one more command, if that could be made.
+// The program with one more command, if both could be made.
 fn with_command<'a>(
-    program: Command<'a>,
+    program: Result<Command<'a>, Error>,
     command: Result<Command<'a>, Error>,
 ) -> Result<Command<'a>, Error>
     requires local { IfOk command (λ c. (fields_of c).has_globals ≡ false) }
-    requires memory { IfErr command (λ e. kind_of e ≡ OutOfMemory) }
-    ensures shape { IfOk result (λ p. IsOkAnd command.entry (λ c. app_of p ≡ with_subcommand (app_of program.entry) (app_of c).top)) }
-    ensures err { IfErr result (λ e. kind_of e ≡ OutOfMemory) }
+    ensures { (app line : App) → IsProgram app program.entry → IsMade line command.entry → IsProgram (with_subcommand app line.top) result }
 {
-    Ok(program.subcommand(command?)?)
+    Ok(program?.subcommand(command?)?)
+}
+
+// The program without a command.
+fn bare<'a>(alloc: Global) -> Command<'a>
+    ensures { app_of result ≡ needs_subcommand (tells_version (new_app (codes "tp"))) }
+{
+    Command::new(alloc, "tp")
+        .version(VERSION)
+        .about(ABOUT)
+        .after_help(MORE)
+        .subcommand_required(true)
 }
 
 // The program's command line.
 fn program<'a>(alloc: Global) -> Result<Command<'a>, Error>
-    ensures shape { IfOk result (λ c. app_of c ≡ program_app) }
-    ensures err { IfErr result (λ e. kind_of e ≡ OutOfMemory) }
+    ensures { IsProgram program_app result }
 {
-    let program = Command::new(alloc, "tp")
-        .version(VERSION)
-        .about(ABOUT)
-        .after_help(MORE)
-        .subcommand_required(true);
-    let program = with_command(program, check(alloc))?;
-    let program = with_command(program, stops(alloc))?;
-    let program = with_command(program, journey(alloc, "direct", DIRECT, DIRECT_MORE))?;
-    let program = with_command(program, scan(alloc))?;
-    let program = with_command(program, build(alloc))?;
-    let program = with_command(program, list(alloc))?;
-    let program = with_command(program, ask(alloc))?;
-    let program = with_command(program, serve(alloc))?;
-    let program = with_command(program, audit(alloc))?;
-    let program = with_command(program, migrate(alloc))?;
-    let program = with_command(program, Ok(faults(alloc)))?;
-    Ok(program)
+    let program = with_command(Ok(bare(alloc)), check(alloc));
+    let program = with_command(program, stops(alloc));
+    let program = with_command(program, journey(alloc, "direct", DIRECT, DIRECT_MORE));
+    let program = with_command(program, scan(alloc));
+    let program = with_command(program, build(alloc));
+    let program = with_command(program, list(alloc));
+    let program = with_command(program, ask(alloc));
+    let program = with_command(program, serve(alloc));
+    let program = with_command(program, audit(alloc));
+    let program = with_command(program, migrate(alloc));
+    with_command(program, faults(alloc))
 }
 
 /// What the words match of the program's command line.

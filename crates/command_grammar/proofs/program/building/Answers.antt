@@ -1,8 +1,5 @@
-use Rattle.std.proofs.Common.{◌∙◌, ap₂}
-use Rattle.clap.specs.Words.{with_rule}
 use Rattle.command_grammar.proofs.program.building.Goals as goal
 
-pub returns-clause-shape : goal.returns-clause-shape
-returns-clause-shape c =
-    c.in_ok-command.ensures.shape c.number.ensures.local
-    ∙ ap₂ with_rule c.in_ok-store.ensures.shape c.number.ensures.rule
+pub returns : goal.returns
+returns c =
+    c.with.ensures _ _ c.store-command.ensures c.number.ensures.rule c.number.ensures.local

@@ -1,16 +1,11 @@
-use Rattle.std.proofs.Common.{◌∙◌, ap, ap₂}
-use Rattle.clap.specs.Simple.{app_of_fields}
-use Rattle.clap.specs.Words.{with_rule}
 use Rattle.command_grammar.proofs.program.check.Goals as goal
 
-pub returns-clause-shape : goal.returns-clause-shape
-returns-clause-shape c =
-    ap app_of_fields c.after_help.ensures
-    ∙ c.in_ok-command.ensures.shape c.optional-2.ensures.local
-    ∙ ap₂ with_rule (
-    c.in_ok-arg-2.ensures.shape c.optional.ensures.local
-    ∙ ap₂ with_rule (
-    c.in_ok-arg.ensures.shape c.required.ensures.local
-    ∙ ap₂ with_rule (ap app_of_fields c.about.ensures ∙ c.new.ensures.app) c.required.ensures.rule)
-    c.optional.ensures.rule)
-    c.optional-2.ensures.rule
+pub returns : goal.returns
+returns c =
+    c.ending.ensures _ (
+    c.with-command-3.ensures _ _ (
+    c.with-command-2.ensures _ _ (
+    c.with-command.ensures _ _ c.named-command.ensures c.required.ensures.rule c.required.ensures.local
+    ) c.optional.ensures.rule c.optional.ensures.local
+    ) c.optional-2.ensures.rule c.optional-2.ensures.local
+    )

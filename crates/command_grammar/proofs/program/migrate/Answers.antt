@@ -1,16 +1,16 @@
-use Rattle.std.proofs.Common.{◌∙◌, ap, ap₂}
-use Rattle.clap.specs.Simple.{app_of_fields}
-use Rattle.clap.specs.Words.{with_rule}
+use Rattle.std.proofs.Common.{codes}
+use Rattle.options.specs.Options.{common_app}
+use Rattle.command_grammar.specs.Made.{IsMade}
 use Rattle.command_grammar.proofs.program.migrate.Goals as goal
 
-pub returns-clause-shape : goal.returns-clause-shape
-returns-clause-shape c =
-    ap app_of_fields c.after_help.ensures
-    ∙ c.in_ok-command.ensures.shape c.flag.ensures.local
-    ∙ ap₂ with_rule (
-    c.in_ok-arg-2.ensures.shape c.required-2.ensures.local
-    ∙ ap₂ with_rule (
-    c.in_ok-arg.ensures.shape c.required.ensures.local
-    ∙ ap₂ with_rule c.in_ok-common.ensures.shape c.required.ensures.rule)
-    c.required-2.ensures.rule)
-    c.flag.ensures.rule
+pub returns : goal.returns
+returns c =
+    let made : IsMade (common_app (codes "migrate")) c.common-command.result =
+    record { shape = c.common-command.ensures.shape; local = c.common-command.ensures.local; err = c.common-command.ensures.err } in
+    c.ending.ensures _ (
+    c.with-command-3.ensures _ _ (
+    c.with-command-2.ensures _ _ (
+    c.with-command.ensures _ _ made c.required.ensures.rule c.required.ensures.local
+    ) c.required-2.ensures.rule c.required-2.ensures.local
+    ) c.flag.ensures.rule c.flag.ensures.local
+    )

@@ -1,11 +1,7 @@
-use Rattle.std.proofs.Common.{◌∙◌, ap₂}
-use Rattle.clap.specs.Words.{with_rule}
 use Rattle.command_grammar.proofs.program.scan.Goals as goal
 
-pub returns-clause-shape : goal.returns-clause-shape
-returns-clause-shape c =
-    c.in_ok-command.ensures.shape c.flag-2.ensures.local
-    ∙ ap₂ with_rule (
-    c.in_ok-arg.ensures.shape c.flag.ensures.local
-    ∙ ap₂ with_rule c.in_ok-journey.ensures.shape c.flag.ensures.rule)
-    c.flag-2.ensures.rule
+pub returns : goal.returns
+returns c =
+    c.with.ensures _ _ (
+    c.with-command.ensures _ _ c.journey-command.ensures c.flag.ensures.rule c.flag.ensures.local
+    ) c.flag-2.ensures.rule c.flag-2.ensures.local

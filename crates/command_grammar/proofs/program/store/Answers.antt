@@ -1,10 +1,11 @@
-use Rattle.std.proofs.Common.{◌∙◌, ap, ap₂}
-use Rattle.clap.specs.Simple.{app_of_fields}
-use Rattle.clap.specs.Words.{with_rule}
+use Rattle.options.specs.Options.{common_app}
+use Rattle.command_grammar.specs.Made.{IsMade}
 use Rattle.command_grammar.proofs.program.store.Goals as goal
 
-pub returns-clause-shape : goal.returns-clause-shape
-returns-clause-shape c =
-    ap app_of_fields c.after_help.ensures
-    ∙ c.in_ok-command.ensures.shape c.required.ensures.local
-    ∙ ap₂ with_rule c.in_ok-common.ensures.shape c.required.ensures.rule
+pub returns : goal.returns
+returns c =
+    let made : IsMade (common_app c.args.name.now) c.common-command.result =
+    record { shape = c.common-command.ensures.shape; local = c.common-command.ensures.local; err = c.common-command.ensures.err } in
+    c.ending.ensures _ (
+    c.with-command.ensures _ _ made c.required.ensures.rule c.required.ensures.local
+    )
