@@ -1,4 +1,0 @@
-use Rattle.ledger_threads_tests.proofs.tests.four_count.Given as goal
-
-abbrev pub ghosts-four_seats : goal.ghosts-four_seats
-ghosts-four_seats g a = record { table = a.ledger.table; rides = a.ledger.rides }

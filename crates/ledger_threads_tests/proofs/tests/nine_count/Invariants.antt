@@ -1,4 +1,0 @@
-use Rattle.ledger_threads_tests.proofs.tests.nine_count.Given as goal
-
-abbrev pub ghosts-nine_seats : goal.ghosts-nine_seats
-ghosts-nine_seats g a = record { table = a.ledger.table; rides = a.ledger.rides }

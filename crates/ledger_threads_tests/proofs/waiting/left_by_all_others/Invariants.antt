@@ -1,4 +1,0 @@
-use Rattle.ledger_threads_tests.proofs.waiting.left_by_all_others.Given as goal
-
-abbrev pub ghosts-all_left : goal.ghosts-all_left
-ghosts-all_left g a = record { table = a.ledger.table; rides = a.ledger.rides }
