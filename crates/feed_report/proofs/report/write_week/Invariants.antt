@@ -2,7 +2,7 @@ use Rattle.std.proofs.Common.{take}
 use Rattle.std.specs.List.{flat_map}
 use Rattle.std.specs.Fmt.{HasWritten, IsPlainFormatter}
 use Rattle.feed_report.specs.Reports.{trips_line}
-use Rattle.feed_report.proofs.report.write_trips.Given as goal
+use Rattle.feed_report.proofs.report.write_week.Given as goal
 
 abbrev pub invariant-loop-day : goal.invariant-loop-day
 invariant-loop-day g l =
