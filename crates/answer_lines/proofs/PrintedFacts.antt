@@ -1,5 +1,5 @@
 -- What holes with a width print.
-use Rattle.std.proofs.Common.{◌≡◌, ◌-◌, ◌^◌, ◌++◌, ℕ, List, ap, sym, ◌∙◌, append_assoc, false, [], append-nil, length, replicate}
+use Rattle.std.proofs.Common.{◌≡◌, ◌-◌, ◌^◌, ◌++◌, ℕ, ap, false, [], append-nil, length, replicate}
 use native.Mathlib.Numerals.{unary_clauses}
 use Rattle.std.specs.Fmt.{decimal, padded_integral, format_spec, char_count, styled_decimal}
 use Rattle.answer_lines.specs.Printed.{with_zeros}
@@ -13,6 +13,3 @@ four_digits n = padded_with_zeros 4 n
 
 pub two_digits : (n : ℕ) → styled_decimal (format_spec 32 0 4 2 (2 ^ 64 - 1)) n ≡ with_zeros 2 n
 two_digits n = padded_with_zeros 2 n
-
-pub joined : (xs ys zs ws : List ℕ) → xs ++ (ys ++ (zs ++ ws)) ≡ (xs ++ (ys ++ zs)) ++ ws
-joined xs ys zs ws = ap (λ t. xs ++ t) (sym (append_assoc ys zs ws)) ∙ sym (append_assoc xs (ys ++ zs) ws)

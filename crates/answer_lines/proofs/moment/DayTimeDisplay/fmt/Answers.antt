@@ -1,4 +1,4 @@
-use Rattle.std.proofs.Common.{◌≡◌, ap, ap₂, ◌/◌, ◌%◌, ◌++◌, ◌∷◌, ◌∙◌}
+use Rattle.std.proofs.Common.{ap, ap₂, ◌/◌, ◌%◌, ◌++◌, ◌∷◌, ◌∙◌}
 use Rattle.std.proofs.Output.{has_written_of_eq}
 use Rattle.std.specs.Fmt.{styled_decimal}
 use Rattle.answer_lines.specs.Printed.{date_text}
