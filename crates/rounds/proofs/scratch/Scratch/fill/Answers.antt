@@ -49,3 +49,9 @@ returns-clause-before c = λ rides t.
     ap (λ (xs : List RowData). moment_in (map (λ (row : RowData). row.settled) xs) rides t) w3
     ∙ (told c.deref_mut-2.result.now rounds c.run_layers.auto.rounds c.run_layers.ensures.settled rides t
     ∙ ap (λ (xs : List RowData). arrival_in (marks_in xs) rides t) e3)
+
+pub run_layers-requires-clause-source : goal.run_layers-requires-clause-source
+run_layers-requires-clause-source c = c.requires.source
+
+pub run_layers-requires-clause-early : goal.run_layers-requires-clause-early
+run_layers-requires-clause-early c = c.requires.early
