@@ -92,46 +92,6 @@ fn run<
     )
 }
 
-// Takes a seat to store trees at, and starts as many workers.
-fn run_at<
-    B: Basis + Send + Sync,
-    D: Disk + Drop,
-    R: Threads + Wait + Sync,
-    G: Gate + Sync,
-    P: Progress,
->(
-    workshop: &Workshop<'_, B, R, G>,
-    workers: usize,
-    progress: &mut P,
-    audience: Audience,
-    desk: Desk<D>,
-) -> (Desk<D>, Option<FlushEnd>)
-    requires form { form_of B.table B.rides ≡ desk.form }
-    requires ready { desk.next ≡ Step.WriteBody }
-    ensures flushed { MatchOption result.1
-        (result.0 ≡ desk)
-        (λ end. Flushed D.honest D.state D.failures end desk result.0) }
-    ensures shown { ShowsTo audience desk.board result.0.board }
-{
-    let Some(seat) = workshop.take_seat() else {
-        return (desk, None);
-    };
-    let stops = workshop.stops();
-    let Ok(taker) = Taker::new(workshop.alloc, workshop.rt, workshop.shared, &seat, stops) else {
-        return (desk, None);
-    };
-    run(workshop, workers, &seat, taker, progress, audience, desk)
-}
-
-// How many workers: no more than trees are missing.
-fn workers_for<D: Disk, G: Gate>(ledger: &Ledger, desk: &Desk<D>, crew: &Crew<'_, G>) -> usize
-    ensures { (0 < result) × (result ≤ 64) }
-{
-    let stops = ledger.timetable().stops();
-    let missing = stops.saturating_sub(desk.stored().len());
-    crew.workers.min(missing.max(1))
-}
-
 /// Builds trees in the crew's threads, as the ledger gives out their sources, and stores them. No more threads are made than trees are
 /// missing. None if memory is refused or no thread could be made, and then nothing was done.
 pub(crate) fn run_over<
@@ -159,8 +119,16 @@ pub(crate) fn run_over<
         (λ end. Flushed D.honest D.state D.failures end desk result.0) }
     ensures shown { ShowsTo crew.now.audience desk.board result.0.board }
 {
-    let workers = workers_for(&ledger, &desk, crew);
-    let Some((shared, seats)) = Shared::<B>::open(alloc, ledger, workers + 1).ok() else {
+    let stops = ledger.timetable().stops();
+    let missing = stops.saturating_sub(desk.stored().len());
+    let workers = crew.workers.min(missing.max(1));
+    let Ok((shared, mut seats)) = Shared::<B>::open(alloc, ledger, workers + 1) else {
+        return (desk, None);
+    };
+    let Some(seat) = seats.pop() else {
+        return (desk, None);
+    };
+    let Ok(taker) = Taker::new(alloc, rt, &shared, &seat, stops) else {
         return (desk, None);
     };
     let seats = Mutex::new(seats);
@@ -174,5 +142,13 @@ pub(crate) fn run_over<
         gate: crew.gate,
         stop: crew.stop,
     };
-    run_at(&workshop, workers, progress, crew.audience, desk)
+    run(
+        &workshop,
+        workers,
+        &seat,
+        taker,
+        progress,
+        crew.audience,
+        desk,
+    )
 }

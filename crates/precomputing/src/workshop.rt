@@ -1,7 +1,6 @@
 //! What the workers of one build share.
 
 ghost use Rattle.std.specs.Prelude.{◌≡◌};
-ghost use Rattle.timetable.specs.Table.{stops_of};
 ghost use Rattle.section_store.specs.Sections.{form_of};
 
 use crate::gate::Gate;
@@ -30,12 +29,5 @@ impl<'a, B: Basis, R: Wait, G: Gate> Workshop<'a, B, R, G> {
     /// A seat that nobody has; none where all are taken.
     pub(crate) fn take_seat(&self) -> Option<Seat> {
         self.seats.lock(self.rt).pop()
-    }
-
-    /// How many stops the timetable has.
-    pub(crate) fn stops(&self) -> usize
-        ensures { result ≡ stops_of B.table }
-    {
-        self.network.timetable().stops()
     }
 }
