@@ -1,5 +1,5 @@
-//! The commands of a plan: what each finds at a timetable or over the file of a store, or replies, and what stands then on both streams and on
-//! the disk of the store. The system that it runs on is a trait.
+//! The commands of a plan: what each finds at a timetable or over the file of a store, or replies, and what stands then on both streams
+//! and on the disk of the store. The system that it runs on is a trait.
 #![tactic(auto)]
 
 mod finding;
