@@ -1,14 +1,16 @@
 //! Faults for machines.
 
+use crate::meant::{Meant, meant_by};
 use crate::parts::{Part, parts_of};
 use faults::{Fault, file_name};
 use feed_names::open_names;
 use feed_texts::{FaultText, GivenText, NamedStop, fault_text_json};
+use gtfs_text::Sheet;
 use pattern_query::Refusal;
 use question_lines::Question;
 use std::alloc::{AllocError, Global};
 use std::format;
-use stop_search::{StopRow, near_stops, station_stops};
+use stop_search::StopRow;
 use tellers::{Given, Places};
 
 // A text up to its first space.
@@ -102,6 +104,32 @@ pub(crate) fn named_fault_json(
     fault_text_json(alloc, &text_of(shown, status))
 }
 
+// The places of a question, if one was asked.
+fn places_of<'a>(question: &Option<Question<'a>>) -> Option<Places<'a>> {
+    match question {
+        Some(question) => Some(Places {
+            from: question.from,
+            to: question.to,
+        }),
+        None => None,
+    }
+}
+
+// The fault of a question, which is shown so.
+fn question_json(
+    alloc: Global,
+    question: &Option<Question<'_>>,
+    fault: &Fault<'_>,
+    shown: &str,
+) -> Result<String, AllocError> {
+    let told = FaultText {
+        id: id_of(fault),
+        end: end_meant(&places_of(question), fault),
+        ..text_of(shown, fault.status())
+    };
+    fault_text_json(alloc, &told)
+}
+
 /// The fault of a question that was asked in a line, as an object of JSON, without what else may be meant by an id. The object stands
 /// on one line, without a line's end. It fails only if memory runs out.
 pub(crate) fn question_fault_json(
@@ -110,47 +138,62 @@ pub(crate) fn question_fault_json(
     fault: &Fault<'_>,
 ) -> Result<String, AllocError> {
     let shown = format!(in alloc; "{fault}")?;
-    let places = match question {
-        Some(question) => Some(Places {
-            from: question.from,
-            to: question.to,
-        }),
-        None => None,
-    };
-    let told = FaultText {
-        id: id_of(fault),
-        end: end_meant(&places, fault),
-        ..text_of(shown.as_str(), fault.status())
-    };
-    fault_text_json(alloc, &told)
+    question_json(alloc, question, fault, shown.as_str())
 }
 
-// What stands at the place of a fault, as JSON has it.
-fn given_texts<'p>(alloc: Global, parts: &'p [Part]) -> Result<Vec<GivenText<'p>>, AllocError> {
-    let mut texts = Vec::with_capacity(alloc, parts.len())?;
-    for part in parts {
-        let text = match &part.text {
-            Some(text) => Some(text.as_str()),
-            None => None,
+// A stop as JSON has it.
+fn named_stop<'s>(stop: &StopRow<'s>) -> NamedStop<'s> {
+    NamedStop {
+        id: stop.id,
+        name: stop.name,
+    }
+}
+
+// A fault with the stops of the station that has its id, or else with those that are near the id.
+fn stops_json<'n>(
+    alloc: Global,
+    told: &FaultText<'_>,
+    of_station: bool,
+    named: &'n [NamedStop<'n>],
+) -> Result<String, AllocError> {
+    if of_station {
+        let with_stops = FaultText {
+            stops: Some(named),
+            ..*told
         };
-        texts.push(GivenText {
-            name: part.name.as_str(),
-            text,
-        })?;
+        return fault_text_json(alloc, &with_stops);
     }
-    Ok(texts)
+    let with_near = FaultText {
+        near: Some(named),
+        ..*told
+    };
+    fault_text_json(alloc, &with_near)
 }
 
-// Stops as JSON has them.
-fn named_stops<'s>(alloc: Global, stops: &[StopRow<'s>]) -> Result<Vec<NamedStop<'s>>, AllocError> {
-    let mut named = Vec::with_capacity(alloc, stops.len())?;
-    for stop in stops {
-        named.push(NamedStop {
-            id: stop.id,
-            name: stop.name,
-        })?;
+// A fault with the stops that may be meant by its id.
+fn meant_json(
+    alloc: Global,
+    told: &FaultText<'_>,
+    meant: &Meant<'_>,
+) -> Result<String, AllocError> {
+    let named: Vec<NamedStop<'_>> = meant.stops.iter().map(named_stop).collect(alloc)?;
+    stops_json(alloc, told, meant.of_station, named.as_slice())
+}
+
+// A fault of an unknown id, with the stops of the sheet that may be meant by it.
+fn sheet_json(
+    alloc: Global,
+    sheet: &Option<Sheet>,
+    id: &str,
+    told: &FaultText<'_>,
+) -> Result<String, AllocError> {
+    match sheet {
+        Some(sheet) => {
+            let meant = meant_by(alloc, sheet, id)?;
+            meant_json(alloc, told, &meant)
+        }
+        None => fault_text_json(alloc, told),
     }
-    Ok(named)
 }
 
 // An unknown id in a folder: with the stops of the station that has it, or else with what is near it.
@@ -159,33 +202,59 @@ fn unknown_json(
     alloc: Global,
     folder: &str,
     id: &str,
-    told: FaultText<'_>,
+    told: &FaultText<'_>,
 ) -> Result<String, AllocError> {
-    let Some(sheet) = open_names(rt, alloc, folder, "stops.txt")? else {
-        return fault_text_json(alloc, &told);
-    };
-    match station_stops(alloc, &sheet, id)? {
-        Some(stops) => {
-            let stops = named_stops(alloc, stops.as_slice())?;
-            fault_text_json(
-                alloc,
-                &FaultText {
-                    stops: Some(stops.as_slice()),
-                    ..told
-                },
-            )
+    let sheet = open_names(rt, alloc, folder, "stops.txt")?;
+    sheet_json(alloc, &sheet, id, told)
+}
+
+// A fault with what is told of it, and with what may be meant by an unknown id.
+fn told_json(
+    rt: &HostRuntime,
+    alloc: Global,
+    feed: Option<&str>,
+    fault: &Fault<'_>,
+    told: &FaultText<'_>,
+) -> Result<String, AllocError> {
+    match (fault, feed) {
+        (Fault::Question(Refusal::UnknownStop(id)), Some(folder)) => {
+            unknown_json(rt, alloc, folder, id, told)
         }
-        None => {
-            let near = named_stops(alloc, near_stops(alloc, &sheet, id)?.as_slice())?;
-            fault_text_json(
-                alloc,
-                &FaultText {
-                    near: Some(near.as_slice()),
-                    ..told
-                },
-            )
-        }
+        _ => fault_text_json(alloc, told),
     }
+}
+
+// A fault that is shown so, with what stands at its place.
+fn given_json(
+    rt: &HostRuntime,
+    alloc: Global,
+    given: &Given<'_>,
+    fault: &Fault<'_>,
+    texts: &[GivenText<'_>],
+    shown: &str,
+) -> Result<String, AllocError> {
+    let told = FaultText {
+        file: file_of(fault),
+        row: row_of(fault),
+        id: id_of(fault),
+        end: end_meant(&given.places, fault),
+        given: texts,
+        ..text_of(shown, fault.status())
+    };
+    told_json(rt, alloc, given.feed, fault, &told)
+}
+
+// A fault with these parts at its place.
+fn parts_json(
+    rt: &HostRuntime,
+    alloc: Global,
+    given: &Given<'_>,
+    fault: &Fault<'_>,
+    parts: &[Part],
+) -> Result<String, AllocError> {
+    let shown = format!(in alloc; "{fault}")?;
+    let texts: Vec<GivenText<'_>> = parts.iter().map(Part::given).collect(alloc)?;
+    given_json(rt, alloc, given, fault, texts.as_slice(), shown.as_str())
 }
 
 /// A fault as an object of JSON, by what the words say, on one line, without a line's end. It fails only if memory runs out.
@@ -195,21 +264,6 @@ pub(crate) fn fault_json(
     given: &Given<'_>,
     fault: &Fault<'_>,
 ) -> Result<String, AllocError> {
-    let shown = format!(in alloc; "{fault}")?;
     let parts = parts_of(rt, alloc, given, fault)?;
-    let texts = given_texts(alloc, parts.as_slice())?;
-    let told = FaultText {
-        file: file_of(fault),
-        row: row_of(fault),
-        id: id_of(fault),
-        end: end_meant(&given.places, fault),
-        given: texts.as_slice(),
-        ..text_of(shown.as_str(), fault.status())
-    };
-    match (fault, given.feed) {
-        (Fault::Question(Refusal::UnknownStop(id)), Some(folder)) => {
-            unknown_json(rt, alloc, folder, id, told)
-        }
-        _ => fault_text_json(alloc, &told),
-    }
+    parts_json(rt, alloc, given, fault, parts.as_slice())
 }

@@ -1,14 +1,15 @@
 //! Stops that are searched for, and what a feed has.
 
 use crate::texts::{line, stops_text};
-use command_line::{StopSearch, Style};
+use command_line::{Format, StopSearch, Style};
 use feed_report::{FeedReport, is_feed_file};
 use feed_texts::{FeedText, ListedStop, StopList, feed_json};
 use gtfs_text::Sheet;
 use itineraries::places_of;
+use itinerary_texts::Place;
 use std::alloc::{AllocError, Global};
 use std::format;
-use stop_search::{FIELDS, Listing, list_stops};
+use stop_search::{FIELDS, Listing, StopRow, list_stops};
 use told_names::NameSheets;
 
 // The listed stops as lines, perhaps with the names of the fields first.
@@ -19,52 +20,107 @@ fn listing_lines(alloc: Global, listing: &Listing<'_>, header: bool) -> Result<S
     format!(in alloc; "{listing}")
 }
 
-// The ids of the listed stops.
-fn ids_of<'s>(alloc: Global, listing: &Listing<'s>) -> Result<Vec<&'s str>, AllocError> {
-    let mut ids = Vec::with_capacity(alloc, listing.stops.len())?;
-    for stop in &listing.stops {
-        ids.push(stop.id)?;
+// A place of a list that tells of no station.
+fn listed_stop(place: Place) -> ListedStop {
+    ListedStop {
+        place,
+        station: None,
     }
-    Ok(ids)
+}
+
+/// The stops of these ids, with what the sheets have of them. It fails only if memory runs out.
+pub(crate) fn listed_by_ids(
+    alloc: Global,
+    sheets: &NameSheets,
+    ids: &[&str],
+) -> Result<Vec<ListedStop>, AllocError> {
+    let places = places_of(alloc, sheets, ids)?;
+    places.into_iter().map(listed_stop).collect(alloc)
+}
+
+// The id of a stop.
+fn id_of<'s>(row: &StopRow<'s>) -> &'s str {
+    row.id
+}
+
+// The ids of these stops.
+fn ids_of<'s>(alloc: Global, rows: &[StopRow<'s>]) -> Result<Vec<&'s str>, AllocError> {
+    rows.iter().map(id_of).collect(alloc)
+}
+
+// Adds the stations of the rows to the stops of a list.
+fn add_stations(
+    alloc: Global,
+    stops: &mut [ListedStop],
+    rows: &[StopRow<'_>],
+) -> Result<(), AllocError> {
+    for (stop, row) in stops.iter_mut().zip(rows) {
+        stop.station = Some(String::from_str(alloc, row.station)?);
+    }
+    Ok(())
 }
 
 // The listed stops with what the sheet has of them.
 fn listed(
     alloc: Global,
     sheets: &NameSheets,
-    listing: &Listing<'_>,
+    rows: &[StopRow<'_>],
 ) -> Result<Vec<ListedStop>, AllocError> {
-    let ids = ids_of(alloc, listing)?;
-    let places = places_of(alloc, sheets, ids.as_slice())?;
-    let mut stops = Vec::with_capacity(alloc, places.len())?;
-    for (place, row) in places.into_iter().zip(&listing.stops) {
-        stops.push(ListedStop {
-            place,
-            station: Some(String::from_str(alloc, row.station)?),
-        })?;
-    }
+    let ids = ids_of(alloc, rows)?;
+    let mut stops = listed_by_ids(alloc, sheets, ids.as_slice())?;
+    add_stations(alloc, &mut stops, rows)?;
     Ok(stops)
 }
 
-/// The stops that are searched for among those of a sheet, as they are told. It fails only if memory runs out.
-pub(crate) fn found_text(
+// A listing as it is told.
+fn told_listing(
+    alloc: Global,
+    sheets: &NameSheets,
+    listing: &Listing<'_>,
+    format: Format,
+) -> Result<String, AllocError> {
+    let list = StopList {
+        command: "stops",
+        built: None,
+        more: Some(listing.more),
+        stops: listed(alloc, sheets, listing.stops.as_slice())?,
+    };
+    stops_text(alloc, format, &list)
+}
+
+// A listing in a style.
+fn listing_text(
+    alloc: Global,
+    sheets: &NameSheets,
+    listing: &Listing<'_>,
+    search: &StopSearch<'_>,
+) -> Result<String, AllocError> {
+    match search.style {
+        Style::Lines => listing_lines(alloc, listing, search.header),
+        Style::Told(format) => told_listing(alloc, sheets, listing, format),
+    }
+}
+
+// The stops that are searched for among those of a sheet, as they are told.
+fn found_in(
     alloc: Global,
     sheets: &NameSheets,
     sheet: &Sheet,
     search: &StopSearch<'_>,
 ) -> Result<String, AllocError> {
     let listing = list_stops(alloc, sheet, search.text.unwrap_or(""), search.all)?;
-    match search.style {
-        Style::Lines => listing_lines(alloc, &listing, search.header),
-        Style::Told(format) => {
-            let list = StopList {
-                command: "stops",
-                built: None,
-                stops: listed(alloc, sheets, &listing)?,
-                more: Some(listing.more),
-            };
-            stops_text(alloc, format, &list)
-        }
+    listing_text(alloc, sheets, &listing, search)
+}
+
+/// The stops that are searched for, as they are told: none if there is no sheet of stops. It fails only if memory runs out.
+pub(crate) fn found_text(
+    alloc: Global,
+    sheets: &NameSheets,
+    search: &StopSearch<'_>,
+) -> Result<Option<String>, AllocError> {
+    match &sheets.stops {
+        Some(sheet) => Ok(Some(found_in(alloc, sheets, sheet, search)?)),
+        None => Ok(None),
     }
 }
 

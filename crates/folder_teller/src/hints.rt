@@ -1,16 +1,18 @@
 //! Lines that are added to those of a fault.
 
-use crate::parts::{parts_line, parts_of};
+use crate::meant::{Meant, meant_by};
+use crate::parts::{PartsLine, parts_of};
 use faults::Fault;
 use feed_names::open_names;
 use gtfs_tables::FaultKind;
+use gtfs_text::Sheet;
 use pattern_query::Refusal;
 use service_days::DayFault;
 use shown_ids::Shown;
 use std::alloc::{AllocError, Global};
 use std::io::ErrorKind;
-use std::{format, fs};
-use stop_search::{StopRow, near_stops, station_stops};
+use std::{fmt, format, fs};
+use stop_search::StopRow;
 use tellers::Given;
 
 /// How many stops of a station are printed.
@@ -60,18 +62,23 @@ fn folder_hint(rt: &HostRuntime, alloc: Global, folder: &str) -> Result<String, 
     }
 }
 
-// Stops as lines that begin with a word, the first of them.
-fn stop_lines(alloc: Global, word: &str, stops: &[StopRow<'_>]) -> Result<String, AllocError> {
-    let mut lines = String::new(alloc);
-    for stop in stops.iter().take(MOST) {
-        let line = format!(in alloc; "{word}: {stop}\n")?;
-        lines.push_str(line.as_str())?;
+// Stops as lines that begin with a word: the first of them, and how many more there are.
+#[derive(Clone, Copy)]
+struct StopLines<'a> {
+    word: &'a str,
+    stops: &'a [StopRow<'a>],
+}
+
+impl fmt::Display for StopLines<'_> {
+    fn fmt<W: fmt::Write>(&self, f: &mut fmt::Formatter<W>) -> fmt::Result {
+        for stop in self.stops.iter().take(MOST) {
+            writeln!(f, "{}: {stop}", self.word)?;
+        }
+        if self.stops.len() > MOST {
+            writeln!(f, "more {}", self.stops.len() - MOST)?;
+        }
+        Ok(())
     }
-    if stops.len() > MOST {
-        let line = format!(in alloc; "more {}\n", stops.len() - MOST)?;
-        lines.push_str(line.as_str())?;
-    }
-    Ok(lines)
 }
 
 // The lines of a station, and of its stops.
@@ -82,8 +89,40 @@ fn station_lines(alloc: Global, id: &str, stops: &[StopRow<'_>]) -> Result<Strin
             "{station} is a station, which only ask and serve take. It has no stops.\n"
         );
     }
-    let stops = stop_lines(alloc, "stop", stops)?;
-    format!(in alloc; "{station} is a station, which only ask and serve take. Its stops:\n{stops}")
+    let lines = StopLines {
+        word: "stop",
+        stops,
+    };
+    format!(in alloc; "{station} is a station, which only ask and serve take. Its stops:\n{lines}")
+}
+
+// The lines of stops that are near an id.
+fn near_lines(alloc: Global, stops: &[StopRow<'_>]) -> Result<String, AllocError> {
+    let lines = StopLines {
+        word: "near",
+        stops,
+    };
+    format!(in alloc; "{lines}")
+}
+
+// The lines of the stops that may be meant by an id.
+fn meant_lines(alloc: Global, id: &str, meant: &Meant<'_>) -> Result<String, AllocError> {
+    if meant.of_station {
+        station_lines(alloc, id, meant.stops.as_slice())
+    } else {
+        near_lines(alloc, meant.stops.as_slice())
+    }
+}
+
+// The lines of an id that no stop of the sheet has; none without a sheet.
+fn id_lines(alloc: Global, sheet: &Option<Sheet>, id: &str) -> Result<String, AllocError> {
+    match sheet {
+        Some(sheet) => {
+            let meant = meant_by(alloc, sheet, id)?;
+            meant_lines(alloc, id, &meant)
+        }
+        None => Ok(String::new(alloc)),
+    }
 }
 
 // The lines of an id that no stop in the folder has: if a station has it, those of the station's stops, and else of stops that are near it.
@@ -93,13 +132,8 @@ fn place_hint(
     folder: &str,
     id: &str,
 ) -> Result<String, AllocError> {
-    let Some(sheet) = open_names(rt, alloc, folder, "stops.txt")? else {
-        return Ok(String::new(alloc));
-    };
-    match station_stops(alloc, &sheet, id)? {
-        Some(stops) => station_lines(alloc, id, stops.as_slice()),
-        None => stop_lines(alloc, "near", near_stops(alloc, &sheet, id)?.as_slice()),
-    }
+    let sheet = open_names(rt, alloc, folder, "stops.txt")?;
+    id_lines(alloc, &sheet, id)
 }
 
 // What is said of a fault beside what stands at its place.
@@ -130,8 +164,6 @@ pub(crate) fn hint(
     fault: &Fault<'_>,
 ) -> Result<String, AllocError> {
     let parts = parts_of(rt, alloc, given, fault)?;
-    let mut lines = parts_line(alloc, parts.as_slice())?;
     let note = note(rt, alloc, given, fault)?;
-    lines.push_str(note.as_str())?;
-    Ok(lines)
+    format!(in alloc; "{}{note}", PartsLine(parts.as_slice()))
 }

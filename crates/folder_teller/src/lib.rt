@@ -4,6 +4,7 @@
 mod fault;
 mod found;
 mod hints;
+mod meant;
 mod parts;
 mod replies;
 mod teller;

@@ -1,14 +1,16 @@
 //! What stands at the place of a fault.
 
+use command_line::Word;
 use faults::{Fault, file_name};
 use faulty_fields::{fields_at, missing_columns};
+use feed_texts::GivenText;
 use gtfs_tables::{FaultKind, FeedFault, FeedFile};
 use service_days::DayFault;
 use shown_ids::Shown;
 use std::alloc::{AllocError, Global};
 use std::fs::File;
 use std::io::ErrorKind;
-use std::{format, fs};
+use std::{fmt, format, fs};
 use tellers::Given;
 
 /// An option or a column that a fault is about.
@@ -27,6 +29,22 @@ impl Part {
             name: String::from_str(alloc, name)?,
             text: Some(String::from_str(alloc, text)?),
         })
+    }
+
+    // The text that stands there, if one does.
+    fn text(&self) -> Option<&str> {
+        match &self.text {
+            Some(text) => Some(text.as_str()),
+            None => None,
+        }
+    }
+
+    /// The part as JSON has it.
+    pub(crate) fn given(&self) -> GivenText<'_> {
+        GivenText {
+            name: self.name.as_str(),
+            text: self.text(),
+        }
     }
 }
 
@@ -99,6 +117,48 @@ fn add_of_feed(
     }
 }
 
+// Adds a part with its text.
+fn add_given(
+    alloc: Global,
+    name: &str,
+    text: &str,
+    parts: &mut Vec<Part>,
+) -> Result<(), AllocError> {
+    parts.push(Part::new(alloc, name, text)?)?;
+    Ok(())
+}
+
+// Adds the option whose word is at fault.
+fn add_word(alloc: Global, word: &Word<'_>, parts: &mut Vec<Part>) -> Result<(), AllocError> {
+    let option = format!(in alloc; "--{}", word.option)?;
+    add_given(alloc, option.as_str(), word.text, parts)
+}
+
+// Adds what a fault is about, if it is known.
+fn add_of_fault(
+    rt: &HostRuntime,
+    alloc: Global,
+    given: &Given<'_>,
+    fault: &Fault<'_>,
+    parts: &mut Vec<Part>,
+) -> Result<(), AllocError> {
+    match fault {
+        Fault::BadDate | Fault::BadTime => match &given.word {
+            Some(word) => add_word(alloc, word, parts),
+            None => Ok(()),
+        },
+        Fault::Days(DayFault::BadZone) => match given.zone {
+            Some(zone) => add_given(alloc, "--zone", zone, parts),
+            None => Ok(()),
+        },
+        Fault::Feed(fault) => match given.feed {
+            Some(folder) => add_of_feed(rt, alloc, folder, fault, parts),
+            None => Ok(()),
+        },
+        _ => Ok(()),
+    }
+}
+
 /// The options or columns that a fault is about, with their texts: either all have one, or none. None are there if nothing is known. It
 /// fails only if memory runs out.
 pub(crate) fn parts_of(
@@ -108,51 +168,38 @@ pub(crate) fn parts_of(
     fault: &Fault<'_>,
 ) -> Result<Vec<Part>, AllocError> {
     let mut parts = Vec::new(alloc);
-    match fault {
-        Fault::BadDate | Fault::BadTime => {
-            if let Some(word) = &given.word {
-                let option = format!(in alloc; "--{}", word.option)?;
-                parts.push(Part::new(alloc, option.as_str(), word.text)?)?;
-            }
-        }
-        Fault::Days(DayFault::BadZone) => {
-            if let Some(zone) = given.zone {
-                parts.push(Part::new(alloc, "--zone", zone)?)?;
-            }
-        }
-        Fault::Feed(fault) => {
-            if let Some(folder) = given.feed {
-                add_of_feed(rt, alloc, folder, fault, &mut parts)?;
-            }
-        }
-        _ => {}
-    }
+    add_of_fault(rt, alloc, given, fault, &mut parts)?;
     Ok(parts)
 }
 
-// Adds a part to a line.
-fn add_part(alloc: Global, part: &Part, line: &mut String) -> Result<(), AllocError> {
+/// The line of what stands at the place of a fault; nothing if there is no part.
+#[derive(Clone, Copy)]
+pub(crate) struct PartsLine<'p>(pub(crate) &'p [Part]);
+
+// Writes a part behind others, if there are some.
+fn write_part<W: fmt::Write>(f: &mut fmt::Formatter<W>, part: &Part, first: bool) -> fmt::Result {
     match &part.text {
         Some(text) => {
-            line.push_str(if line.is_empty() { "given: " } else { ", " })?;
-            let shown = format!(in alloc; "{} \"{}\"", part.name, Shown(text.as_str()))?;
-            line.push_str(shown.as_str())
+            let before = if first { "given: " } else { ", " };
+            write!(f, "{before}{} \"{}\"", part.name, Shown(text.as_str()))
         }
         None => {
-            line.push_str(if line.is_empty() { "no column: " } else { ", " })?;
-            line.push_str(part.name.as_str())
+            let before = if first { "no column: " } else { ", " };
+            write!(f, "{before}{}", part.name)
         }
     }
 }
 
-/// The line of what stands at the place of a fault; nothing if there is no part.
-pub(crate) fn parts_line(alloc: Global, parts: &[Part]) -> Result<String, AllocError> {
-    let mut line = String::new(alloc);
-    for part in parts {
-        add_part(alloc, part, &mut line)?;
+impl fmt::Display for PartsLine<'_> {
+    fn fmt<W: fmt::Write>(&self, f: &mut fmt::Formatter<W>) -> fmt::Result {
+        let mut first = true;
+        for part in self.0 {
+            write_part(f, part, first)?;
+            first = false;
+        }
+        if first {
+            return Ok(());
+        }
+        writeln!(f)
     }
-    if !line.is_empty() {
-        line.push('\n')?;
-    }
-    Ok(line)
 }

@@ -3,7 +3,7 @@
 ghost use Rattle.tellers.specs.Tellings.{any_text};
 
 use crate::fault::fault_json;
-use crate::found::{feed_text, found_text};
+use crate::found::{feed_text, found_text, listed_by_ids};
 use crate::hints::hint;
 use crate::replies::{Lookup, MEMORY_REFUSED, reply_text};
 use crate::texts::{asked_by, itinerary_text, line, stops_text};
@@ -15,7 +15,7 @@ use feed_names::open_names;
 use feed_report::FeedReport;
 use feed_texts::{BuildCount, ListedStop, StopList};
 use gtfs_tables::{FaultKind, FeedFault, FeedFile};
-use itineraries::{Asked as AskedFor, itinerary_of, places_of};
+use itineraries::{Asked as AskedFor, itinerary_of};
 use itinerary_texts::Itinerary;
 use options::Settings;
 use question_lines::Question;
@@ -47,6 +47,12 @@ impl<'r> FolderTeller<'r> {
         })
     }
 
+    // The names of the whole feed.
+    fn names(&self, alloc: Global, folder: &str) -> Result<Names, AllocError> {
+        let sheets = self.sheets(alloc, folder)?;
+        Names::all(alloc, &sheets)
+    }
+
     // What is told of an answer.
     fn itinerary<'a>(
         &self,
@@ -69,14 +75,7 @@ impl<'r> FolderTeller<'r> {
         ids: &[&str],
     ) -> Result<Vec<ListedStop>, AllocError> {
         let sheets = self.sheets(alloc, folder)?;
-        let mut stops = Vec::with_capacity(alloc, ids.len())?;
-        for place in places_of(alloc, &sheets, ids)? {
-            stops.push(ListedStop {
-                place,
-                station: None,
-            })?;
-        }
-        Ok(stops)
+        listed_by_ids(alloc, &sheets, ids)
     }
 
     // The stops and stations that are searched for, as they are told: none if there is no sheet of stops.
@@ -86,10 +85,7 @@ impl<'r> FolderTeller<'r> {
             trips: None,
             routes: None,
         };
-        match &sheets.stops {
-            Some(sheet) => Ok(Some(found_text(alloc, &sheets, sheet, search)?)),
-            None => Ok(None),
-        }
+        found_text(alloc, &sheets, search)
     }
 }
 
@@ -161,9 +157,8 @@ impl Teller for FolderTeller<'_> {
     }
 
     fn lookup(&self, alloc: Global, plan: &Plan<'_>) -> Result<Lookup, AllocError> {
-        let sheets = self.sheets(alloc, plan.settings.feed)?;
         Ok(Lookup {
-            names: Names::all(alloc, &sheets)?,
+            names: self.names(alloc, plan.settings.feed)?,
             clock: Clock::of(plan.settings.zone),
         })
     }
