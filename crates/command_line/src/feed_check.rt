@@ -1,4 +1,4 @@
-//! What is told of a feed as a whole.
+//! A check of a feed as a whole.
 
 ghost use Rattle.std.specs.Prelude.{IfErr, IfOk};
 ghost use Rattle.clap.specs.Words.{rows_of, found_of};
@@ -12,14 +12,14 @@ use gtfs_text::date;
 use jiff::civil::Date;
 use options::text_of;
 
-/// What is told of a feed as a whole.
+/// A check of a feed as a whole.
 #[derive(Clone, Copy, Debug, PartialEq, Eq)]
 pub struct FeedCheck<'a> {
     /// The folder of the feed.
     pub feed: &'a str,
     /// The date around which the trips of a day are counted: from the first day of service on, if there is none.
     pub date: Option<Date>,
-    /// How it is told: as lines, or as JSON.
+    /// How the result is printed: as lines, or as JSON.
     pub style: Style,
 }
 

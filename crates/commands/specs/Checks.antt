@@ -1,4 +1,4 @@
--- What is told of a feed as a whole.
+-- What a check prints, and which stops are listed.
 use Rattle.std.specs.Prelude.{◌≡◌, ◌⊎◌, ℕ, Bool, true, Result, Ok, Err, MatchResult, String, string_bytes}
 use Rattle.std.specs.Global.{Global}
 use Rattle.command_line.specs.declared.feed_check.FeedCheck.{FeedCheck}

@@ -38,7 +38,7 @@ fn ended<S: System, O: Write + Drop, E: Write + Drop>(
     }
 }
 
-// How a command over a feed as a whole is told.
+// How a command over a feed as a whole prints.
 fn folder_voice<'a>(style: Style, feed: &'a str) -> Voice<'a>
     ensures { result ≡ folder_voice style feed.entry }
 {

@@ -20,7 +20,7 @@ pub record IsMissing {R : Type 0} (files : Files R) (missing : Missing) : Type 0
   pub transfers : IsTrue missing.transfers ↔ (files.transfers ≡ None)
   pub frequencies : IsTrue missing.frequencies ↔ (files.frequencies ≡ None)
 
--- how many of each the tables have, beside what is told of their days of service
+-- how many of each the tables have, with their days of service
 abbrev pub counts_in : TableValues → Option Service → Missing → Counts
 counts_in tables service missing = record {
   stops = length tables.stops;
@@ -35,7 +35,7 @@ counts_in tables service missing = record {
   missing = missing;
 }
 
--- every test of the feed holds, its rows' values are counted, its days of service are told with those around the date, and these are the
+-- every test of the feed holds, its rows' values are counted, its days of service are given with those around the date, and these are the
 -- optional files without bytes
 pub record AreCounts (feed : Feed) (date : Option Date) (counts : Counts) : Type 0 where
   pub faultless : first_fault (feed_tests feed) ≡ None

@@ -1,4 +1,4 @@
--- What is told of a feed's days of service. GTFS Schedule, calendar.txt and calendar_dates.txt.
+-- The days of service that a report has. GTFS Schedule, calendar.txt and calendar_dates.txt.
 use Rattle.std.specs.Prelude.{◌≡◌, ◌≤◌, ◌<◌, ◌+◌, ℕ, pos, ◌<ℤ◌, Option, None, Some}
 use Rattle.jiff.specs.Types.{Date}
 use Rattle.gtfs_tables.specs.Tables.{TableValues}

@@ -1,4 +1,4 @@
-//! What a feed has, lists of its stops, and faults, as JSON and as GeoJSON. What is told is given: no feed is read here.
+//! What a feed has, lists of its stops, and faults, as JSON and as GeoJSON. All that they say is given: no feed is read here.
 #![tactic(auto)]
 
 mod fault;

@@ -8,7 +8,7 @@ use std::alloc::{AllocError, Global};
 #[derive(Drop)]
 pub struct ListedStop {
     pub place: Place,
-    /// The id of the station that the stop belongs to, if the list tells it: empty if the stop belongs to none.
+    /// The id of the station that the stop belongs to, if the list has it: empty if the stop belongs to none.
     pub station: Option<String>,
 }
 
@@ -30,7 +30,7 @@ pub struct StopList<'a> {
     pub more: Option<usize>,
 }
 
-// Writes the station of a stop, if the list tells it.
+// Writes the station of a stop, if the list has it.
 fn write_station(out: &mut JsonWriter, station: &Option<String>) {
     let Some(station) = station else {
         return;

@@ -208,7 +208,7 @@ fn unknown_json(
     sheet_json(alloc, &sheet, id, told)
 }
 
-// A fault with what is told of it, and with what may be meant by an unknown id.
+// A fault as JSON, with what may be meant by an unknown id.
 fn told_json(
     rt: &HostRuntime,
     alloc: Global,

@@ -20,7 +20,7 @@ fn listing_lines(alloc: Global, listing: &Listing<'_>, header: bool) -> Result<S
     format!(in alloc; "{listing}")
 }
 
-// A place of a list that tells of no station.
+// A place of a list without stations.
 fn listed_stop(place: Place) -> ListedStop {
     ListedStop {
         place,
@@ -72,7 +72,7 @@ fn listed(
     Ok(stops)
 }
 
-// A listing as it is told.
+// A listing as it is printed.
 fn told_listing(
     alloc: Global,
     sheets: &NameSheets,
@@ -101,7 +101,7 @@ fn listing_text(
     }
 }
 
-// The stops that are searched for among those of a sheet, as they are told.
+// The stops that are searched for among those of a sheet, as they are printed.
 fn found_in(
     alloc: Global,
     sheets: &NameSheets,
@@ -112,7 +112,7 @@ fn found_in(
     listing_text(alloc, sheets, &listing, search)
 }
 
-/// The stops that are searched for, as they are told: none if there is no sheet of stops. It fails only if memory runs out.
+/// The stops that are searched for, as they are printed: none if there is no sheet of stops. It fails only if memory runs out.
 pub(crate) fn found_text(
     alloc: Global,
     sheets: &NameSheets,

@@ -176,7 +176,7 @@ pub(crate) fn parts_of(
 #[derive(Clone, Copy)]
 pub(crate) struct PartsLine<'p>(pub(crate) &'p [Part]);
 
-// Writes a part behind others, if there are some.
+// Writes a part after others, if there are some.
 fn write_part<W: fmt::Write>(f: &mut fmt::Formatter<W>, part: &Part, first: bool) -> fmt::Result {
     match &part.text {
         Some(text) => {

@@ -78,7 +78,7 @@ impl<'r> FolderTeller<'r> {
         listed_by_ids(alloc, &sheets, ids)
     }
 
-    // The stops and stations that are searched for, as they are told: none if there is no sheet of stops.
+    // The stops and stations that are searched for, as they are printed: none if there is no sheet of stops.
     fn found(&self, alloc: Global, search: &StopSearch<'_>) -> Result<Option<String>, AllocError> {
         let sheets = NameSheets {
             stops: open_names(self.rt, alloc, search.feed, "stops.txt")?,

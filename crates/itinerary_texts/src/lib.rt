@@ -1,4 +1,4 @@
-//! Journeys with names as text for people, as JSON and as GeoJSON. What is told is given: no feed is read here.
+//! Journeys with names as text for people, as JSON and as GeoJSON. All that they say is given: no feed is read here.
 #![tactic(auto)]
 
 mod geo;

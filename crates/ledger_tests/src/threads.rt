@@ -1,4 +1,4 @@
-//! The ledger that threads share: what seats are told that work side by side.
+//! The ledger that threads share: the replies to seats that work in parallel.
 
 mod meeting;
 mod setting;

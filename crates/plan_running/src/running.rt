@@ -27,7 +27,7 @@ pub struct Ended<D: Disk + Drop, O: Write + Drop, E: Write + Drop> {
     pub streams: Streams<O, E>,
 }
 
-/// How a plan is told.
+/// How a plan's result is printed.
 pub fn voice_of<'a>(plan: &Plan<'a>) -> Voice<'a>
     ensures { result ≡ voice_of plan.now }
 {

@@ -34,7 +34,7 @@ pub fn say_unwritten<E: Write + Drop>(err: &mut Stream<E>) -> u8
     8
 }
 
-/// Prints what is told, or says why that couldn't be. Gives the status.
+/// Prints a text, or says why it couldn't be. Gives the status.
 pub fn print<O: Write + Drop, E: Write + Drop>(
     alloc: Global,
     told: Told<'_>,

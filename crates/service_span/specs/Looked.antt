@@ -14,7 +14,7 @@ use Rattle.service_days.specs.Runs.{adds, plans}
 abbrev pub is_member : BTreeSet (Bor (List ℕ)) → List ℕ → Bool
 is_member names service = contains_by (λ k. slice_cmp nat_cmp service k.now) names
 
--- how many days a date lies behind -9999-01-01
+-- how many days a date lies after -9999-01-01
 abbrev pub day_number : Date → ℕ
 day_number date = unsigned_abs (epoch_day date +ℤ pos 4_371_587)
 

@@ -7,7 +7,7 @@ use Rattle.service_days.specs.Noon.{IsDaysAfter}
 use Rattle.service_span.specs.Days.{trips_on}
 use Rattle.service_span.specs.declared.trips.DayTrips.{DayTrips}
 
--- so many days from the first on, fewer only if the calendar has no further date, each with the number of its trips
+-- `days` days from the first on, fewer only if the calendar has no further date, each with the number of its trips
 pub record AreDayTrips (t : TableValues) (first : Date) (days : ℕ) (list : List DayTrips) : Type 0 where
   pub few : length list ≤ days
   pub all : length list < days → (date : Date) → ¬ (IsDaysAfter (length list) first date)

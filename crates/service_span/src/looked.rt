@@ -21,7 +21,7 @@ pub(crate) type Names<'a> = BTreeSet<&'a str>;
 /// Dates of services, each with the service's id, as numbers of days.
 pub(crate) type ServiceDates<'a> = BTreeSet<(&'a str, u32)>;
 
-/// How many days a date lies behind -9999-01-01.
+/// How many days a date lies after -9999-01-01.
 pub(crate) fn day_number(date: Date) -> u32
     ensures value { result ≡ day_number date }
     ensures number { epoch_day date +ℤ pos 4_371_587 ≡ pos result }

@@ -37,7 +37,7 @@ pub(crate) fn running_trips(trips: &[Trip], running: &[Days], day: u8) -> usize
     count
 }
 
-// So many dates from the first on, or as many as the calendar has.
+// `days` dates from the first on, or as many as the calendar has.
 fn dates_from(first: Date, days: u8) -> Dates
     requires { days ≤ 15 }
     ensures first { result.first ≡ first }
@@ -53,7 +53,7 @@ fn dates_from(first: Date, days: u8) -> Dates
     Dates::new(first, count)
 }
 
-/// How many trips run on each of so many days in a row, at most 15, from the first on; fewer only if the calendar ends.
+/// How many trips run on each of `days` days in a row, at most 15, from the first on; fewer only if the calendar ends.
 pub fn trips_by_day(
     alloc: Global,
     tables: &Tables,
