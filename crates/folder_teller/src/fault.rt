@@ -156,18 +156,12 @@ fn stops_json<'n>(
     of_station: bool,
     named: &'n [NamedStop<'n>],
 ) -> Result<String, AllocError> {
-    if of_station {
-        let with_stops = FaultText {
-            stops: Some(named),
-            ..*told
-        };
-        return fault_text_json(alloc, &with_stops);
-    }
-    let with_near = FaultText {
-        near: Some(named),
+    let named_told = FaultText {
+        near: if of_station { None } else { Some(named) },
+        stops: if of_station { Some(named) } else { None },
         ..*told
     };
-    fault_text_json(alloc, &with_near)
+    fault_text_json(alloc, &named_told)
 }
 
 // A fault with the stops that may be meant by its id.

@@ -62,23 +62,33 @@ fn folder_hint(rt: &HostRuntime, alloc: Global, folder: &str) -> Result<String, 
     }
 }
 
-// Stops as lines that begin with a word: the first of them, and how many more there are.
+// Stops as lines that begin with a word, and how many more there are.
 #[derive(Clone, Copy)]
 struct StopLines<'a> {
     word: &'a str,
     stops: &'a [StopRow<'a>],
+    more: usize,
 }
 
 impl fmt::Display for StopLines<'_> {
     fn fmt<W: fmt::Write>(&self, f: &mut fmt::Formatter<W>) -> fmt::Result {
-        for stop in self.stops.iter().take(MOST) {
+        for stop in self.stops {
             writeln!(f, "{}: {stop}", self.word)?;
         }
-        if self.stops.len() > MOST {
-            writeln!(f, "more {}", self.stops.len() - MOST)?;
+        if self.more == 0 {
+            return Ok(());
         }
-        Ok(())
+        writeln!(f, "more {}", self.more)
     }
+}
+
+// Stops as lines that begin with a word: the first of them, and how many more there are.
+fn stop_lines<'a>(word: &'a str, stops: &'a [StopRow<'a>]) -> StopLines<'a> {
+    let (stops, more) = match stops.split_at_checked(MOST) {
+        Some((first, others)) => (first, others.len()),
+        None => (stops, 0),
+    };
+    StopLines { word, stops, more }
 }
 
 // The lines of a station, and of its stops.
@@ -89,29 +99,17 @@ fn station_lines(alloc: Global, id: &str, stops: &[StopRow<'_>]) -> Result<Strin
             "{station} is a station, which only ask and serve take. It has no stops.\n"
         );
     }
-    let lines = StopLines {
-        word: "stop",
-        stops,
-    };
+    let lines = stop_lines("stop", stops);
     format!(in alloc; "{station} is a station, which only ask and serve take. Its stops:\n{lines}")
-}
-
-// The lines of stops that are near an id.
-fn near_lines(alloc: Global, stops: &[StopRow<'_>]) -> Result<String, AllocError> {
-    let lines = StopLines {
-        word: "near",
-        stops,
-    };
-    format!(in alloc; "{lines}")
 }
 
 // The lines of the stops that may be meant by an id.
 fn meant_lines(alloc: Global, id: &str, meant: &Meant<'_>) -> Result<String, AllocError> {
     if meant.of_station {
-        station_lines(alloc, id, meant.stops.as_slice())
-    } else {
-        near_lines(alloc, meant.stops.as_slice())
+        return station_lines(alloc, id, meant.stops.as_slice());
     }
+    let lines = stop_lines("near", meant.stops.as_slice());
+    format!(in alloc; "{lines}")
 }
 
 // The lines of an id that no stop of the sheet has; none without a sheet.

@@ -6,7 +6,7 @@ use crate::fault::fault_json;
 use crate::found::{feed_text, found_text, listed_by_ids};
 use crate::hints::hint;
 use crate::replies::{Lookup, MEMORY_REFUSED, reply_text};
-use crate::texts::{asked_by, itinerary_text, line, stops_text};
+use crate::texts::{asked_by, line, stops_text, told_text};
 use answer_lines::{Answer, Report};
 use command_line::{Format, Plan, StopSearch};
 use faults::Fault;
@@ -106,7 +106,7 @@ impl Teller for FolderTeller<'_> {
         let settings = &asked.settings;
         let asked = asked_by(asked.command, &asked.question, format);
         let itinerary = self.itinerary(alloc, settings, &asked, basis, answer)?;
-        itinerary_text(alloc, format, &itinerary)
+        told_text(alloc, format, itinerary)
     }
 
     fn report(

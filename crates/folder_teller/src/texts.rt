@@ -29,8 +29,8 @@ pub(crate) fn line(text: String) -> Result<String, AllocError> {
     Ok(text)
 }
 
-/// An answer in a format.
-pub(crate) fn itinerary_text(
+// What is told of an answer in a format.
+fn itinerary_text(
     alloc: Global,
     format: Format,
     itinerary: &Itinerary<'_>,
@@ -40,6 +40,15 @@ pub(crate) fn itinerary_text(
         Format::Json => line(itinerary_json(alloc, itinerary)?),
         Format::GeoJson => line(geojson(alloc, itinerary)?),
     }
+}
+
+/// An answer in a format. What is told of it is let go.
+pub(crate) fn told_text(
+    alloc: Global,
+    format: Format,
+    itinerary: Itinerary<'_>,
+) -> Result<String, AllocError> {
+    itinerary_text(alloc, format, &itinerary)
 }
 
 /// A list of stops in a format: for people as JSON too.
