@@ -160,7 +160,7 @@ def report(asked: list[Asked], other: float, stored: int, stops: int) -> None:
 def look_at_load(look: Look, program: str, room: Path, draw: random.Random) -> None:
     """Questions from stops whose trees come early, and from some whose trees come last."""
     ids = make_large_town(room / "large", STOPS, draw)
-    words, store = ["--feed", str(room / "large"), "--date", "20240102", "--days", DAYS], room / "load"
+    words, store = ["--feed", str(room / "large"), "--date", "20240102", "--days", DAYS, "--zone", "UTC0"], room / "load"
     questions = [(draw.choice(ids[:SOURCES]), draw.choice(ids), clock(draw.randrange(5 * 3600, 22 * 3600))) for _ in range(QUESTIONS)]
     questions += [(draw.choice(ids[-LAST:]), draw.choice(ids), "08:00:00") for _ in range(LAST)]
     targets = [target("plan", fromPlace=start, toPlace=end, time=f"2024-01-02T{at}Z") for start, end, at in questions]
