@@ -14,7 +14,7 @@ use Rattle.gtfs_tables.specs.Feed.{Feed}
 use Rattle.printing.specs.declared.told.Told.{Told}
 use Rattle.printing.specs.declared.told.Told.TheVariants as tolds
 use Rattle.tellers.specs.Tellings.{IsStopsFault, Telling}
-use Rattle.plan_running.specs.World.{World}
+use Rattle.commands.specs.World.{World}
 
 -- what a feed has, in a style: as lines, or as a text in a format; or memory ran out as that was made
 abbrev pub IsFeedTold : Telling → Style → FeedReport → Result Told Fault → Type 0

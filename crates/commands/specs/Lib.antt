@@ -1,5 +1,11 @@
+pub mod World
 pub mod Checks
 pub mod Feeds
+pub mod Files
 pub mod Idle
+pub mod Rules
+pub mod Found
+pub mod Stored
+pub mod Served
 pub mod Runs
 pub mod Programs

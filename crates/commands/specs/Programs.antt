@@ -20,9 +20,8 @@ use Rattle.faults.specs.declared.fault.Fault.TheVariants.{BadDate, BadTime, Memo
 use Rattle.tellers.specs.Given.{folder_given, word_given}
 use Rattle.tellers.specs.Tellings.{Telling}
 use Rattle.commands.specs.Checks.{AreStops, IsFolderChecked}
-use Rattle.commands.specs.Runs.{IsPlanRun}
-use Rattle.plan_running.specs.Runs.{voice_of}
-use Rattle.plan_running.specs.World.{SystemView}
+use Rattle.commands.specs.Runs.{IsPlanRun, voice_of}
+use Rattle.commands.specs.World.{SystemView}
 use denote.Ref.{Bor}
 
 -- in that style, of the word that is at fault

@@ -3,11 +3,11 @@
 ghost use Rattle.gtfs_tables.specs.Feed.{Feed, AreReaders};
 ghost use Rattle.commands.specs.Checks.{AreStops, IsChecked, IsFeedTold, IsFolderChecked};
 
+use crate::system::System;
 use command_line::{FeedCheck, StopSearch, Style};
 use faults::Fault;
 use feed_report::{FeedReport, counts_of};
 use gtfs_tables::Files;
-use plan_running::System;
 use printing::Told;
 use std::alloc::Global;
 use tellers::Teller;

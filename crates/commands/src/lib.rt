@@ -2,8 +2,18 @@
 #![tactic(auto)]
 
 mod checking;
+mod finding;
+mod found;
 mod idling;
+mod opening;
 mod program;
+mod replies;
+mod replying;
 mod running;
+mod served;
+mod storing;
+mod system;
 
 pub use program::run_words;
+pub use running::Ended;
+pub use system::System;

@@ -2,15 +2,15 @@
 
 ghost use Rattle.std.specs.Prelude.{◌≡◌, map};
 ghost use Rattle.commands.specs.Programs.{AreFaultsListed, IsJobRun, IsPlainRun, IsProgramRun, IsRefused, folder_voice, word_voice};
-ghost use Rattle.plan_running.specs.World.{view_of};
+ghost use Rattle.commands.specs.World.{view_of};
 ghost use Rattle.printing.specs.Finished.{IsFaulted, streams_of};
 
 use crate::checking::{check, stops};
-use crate::running::run_plan;
+use crate::running::{Ended, run_plan, voice_of};
+use crate::system::System;
 use command_line::{Job, Style, Unread, Word, read_words};
 use disk_model::Disk;
 use faults::Fault;
-use plan_running::{Ended, System, voice_of};
 use printing::{Streams, Told, Voice, finish, print, say_no_memory, show, tell_fault};
 use std::alloc::Global;
 use std::io::{BufRead, Write};

@@ -2,10 +2,10 @@
 
 use super::feed::{Failure, Source, feed};
 use super::teller::Saying;
+use commands::System;
 use disk_model::{FileFault, MemDisk};
 use gtfs_tables::Files;
 use migration::MigrationProgress;
-use plan_running::System;
 use precomputing::Progress;
 use std::alloc::Global;
 use std::cell::Cell;

@@ -1,0 +1,44 @@
+use Rattle.store_answers.specs.Asked.{IsStoredAnswer, IsStoredRefusal}
+use Rattle.store_building.specs.Builds.{IsBuilt, IsUnbuilt, ReportsBuilt}
+use Rattle.store_answers.specs.Listings.{IsListed}
+use Rattle.store_terms.specs.Stores.{IsUntold}
+use Rattle.commands.proofs.FoundFacts.{answer_found, report_found}
+use Rattle.commands.proofs.storing.on_disk.Goals as goal
+
+pub returns-in-Ask-clause-found : goal.returns-in-Ask-clause-found
+returns-in-Ask-clause-found g c = λ honest.
+    let basis = c.args.file.now.basis.now in
+    let k = c.args.file.now.rides in
+    let old = g.S.Store.Disk.state c.args.disk in
+    let new = g.S.Store.Disk.state c.ask_stored-answer.result.1 in
+    let q = c.in-Ask.question in
+    let moment = c.moment-moment.result in
+    let legs = c.tells_legs-legs.result in
+    let found = answer_found q c.ask_stored-answer.result.0 c.found_answer.result
+    (IsStoredAnswer basis k moment q legs old new) (IsStoredRefusal basis k moment q old new)
+    c.found_answer.ensures (c.ask_stored-answer.ensures.answered honest) in
+    rw (c.in-Ask.is, ← c.tells_legs-legs.ensures) (moment, c.moment-moment.ensures, found)
+
+pub returns-in-List-clause-found : goal.returns-in-List-clause-found
+returns-in-List-clause-found g c = λ honest.
+    let basis = c.args.file.now.basis.now in
+    let k = c.args.file.now.rides in
+    let old = g.S.Store.Disk.state c.args.disk in
+    let new = g.S.Store.Disk.state c.list-report.result.1 in
+    rw c.in-List.is (report_found c.list-report.result.0 c.found_report.result (IsListed basis k old new) (IsUntold basis k old new)
+    c.found_report.ensures (c.list-report.ensures.listed honest))
+
+pub returns-in-Build-clause-found : goal.returns-in-Build-clause-found
+returns-in-Build-clause-found g c = λ honest.
+    let basis = c.args.file.now.basis.now in
+    let k = c.args.file.now.rides in
+    let old = g.S.Store.Disk.state c.args.disk in
+    let new = g.S.Store.Disk.state c.build-report.result.1 in
+    rw c.in-Build.is (report_found c.build-report.result.0 c.found_report-in-Build.result (ReportsBuilt (IsBuilt basis k old new)) (IsUnbuilt basis k old new)
+    c.found_report-in-Build.ensures (c.build-report.ensures.built honest))
+
+pub returns-in-Audit-clause-found : goal.returns-in-Audit-clause-found
+returns-in-Audit-clause-found g c = λ honest. rw c.in-Audit.is (c.audit_on.ensures.found honest)
+
+pub returns-in-Migrate-clause-found : goal.returns-in-Migrate-clause-found
+returns-in-Migrate-clause-found g c = λ honest. rw c.in-Migrate.is (c.migrate_on.ensures.found honest)

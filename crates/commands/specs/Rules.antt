@@ -1,0 +1,95 @@
+-- What each command may find, or which fault it has.
+use Rattle.std.specs.Prelude.{◌≡◌, ◌↔◌, ◌⊎◌, ℕ, Bool, List, Option, Result, Err, IfErr, MatchResult}
+use Rattle.disk_model.specs.Disk.{State, Grew}
+use Rattle.disk_model.specs.Image.{IsOutcome}
+use Rattle.disk_model.specs.Moments.{LeavesOnly}
+use Rattle.question_lines.specs.declared.question.Question.{Question}
+use Rattle.faults.specs.Faults.{in_migration}
+use Rattle.faults.specs.declared.fault.Fault.{Fault}
+use Rattle.faults.specs.declared.migrating.Side.TheVariants.{Old}
+use Rattle.feed_basis.specs.Basis.{BasisData}
+use Rattle.feed_basis.specs.Ids.{stop_alone}
+use Rattle.answer_lines.specs.declared.answer.Answer.{Answer}
+use Rattle.answer_lines.specs.declared.report.Report.{Report}
+use Rattle.answering.specs.Answers.{IsAnswered}
+use Rattle.answering.specs.Refusals.{IsUnanswered, NoneMissing}
+use Rattle.store_answers.specs.Asked.{IsStoredAnswer, IsStoredRefusal}
+use Rattle.store_answers.specs.Audited.{IsAllAudited, IsAudited, IsUnaudited}
+use Rattle.store_building.specs.Builds.{IsBuilt, IsUnbuilt, ReportsBuilt}
+use Rattle.store_answers.specs.Listings.{IsListed}
+use Rattle.service_days.specs.Answers.{IsMoment}
+use Rattle.tellers.specs.Tellings.{tells_legs}
+use Rattle.store_migration.specs.Migrations.{IsTakenOver, IsUntaken, TellsOldDevice}
+use Rattle.store_terms.specs.Stores.{IsUntold, form_over}
+use Rattle.command_line.specs.declared.audited.Audited.{Audited}
+use Rattle.command_line.specs.declared.audited.Audited.TheVariants as audits
+use Rattle.command_line.specs.declared.format.Style.{Style}
+use Rattle.command_line.specs.declared.job.Task.{Task}
+use Rattle.command_line.specs.declared.job.Task.TheVariants as tasks
+use Rattle.commands.specs.Files.{IsKeptOut, IsReady}
+use Rattle.commands.specs.World.{SystemView}
+use Rattle.commands.specs.declared.found.Found.{Found}
+use Rattle.commands.specs.declared.found.Found.TheVariants as founds
+
+-- an answer to a question is found, which is right
+abbrev pub FindsAnswer : (Answer → Type 0) → Found → Type 0
+FindsAnswer Right found =
+    (question : Question) × (answer : Answer) × (found ≡ founds.Answer question answer) × Right answer
+
+-- a report is found, which is right
+abbrev pub FindsReport : (Report → Type 0) → Found → Type 0
+FindsReport Right found = (report : Report) × (found ≡ founds.Report report) × Right report
+
+-- a question between stops, over the timetable alone
+abbrev pub IsStopAnswer : BasisData → Question → (List ℕ → List ℕ → ℕ → Answer → Type 0) → Result Found Fault → Type 0
+IsStopAnswer basis question Right found =
+    (moment : Option ℕ) × IsMoment basis.cover question.day question.seconds moment
+    × MatchResult found (FindsAnswer (IsAnswered (stop_alone basis.names) Right basis.timetable moment question))
+    (IsUnanswered (stop_alone basis.names) NoneMissing basis.timetable moment question)
+
+-- what an audit of a stored tree, or of all of them, may find
+abbrev pub IsAuditDone : BasisData → ℕ → Audited → State → State → Result Found Fault → Type 0
+IsAuditDone basis k (audits.Stop from) old new found =
+    MatchResult found (FindsReport (IsAudited basis k from.now old new)) (IsUnaudited basis k from.now old new)
+IsAuditDone basis k (audits.All workers progress) old new found =
+    MatchResult found (FindsReport (IsAllAudited basis k old new)) (IsUntold basis k old new)
+
+-- the file of the version before isn't used, and that is the fault; nothing was done to the new one
+pub record IsOldKeptOut {D : Type 0} (v : SystemView D) (basis : BasisData) (k : ℕ) (path : List ℕ) (old new : State)
+    (found : Result Found Fault) : Type 0 where
+  pub fault : Fault
+  pub disk : Option D
+  pub kept_out : IsKeptOut v (form_over basis k) path fault disk
+  pub told : found ≡ Err (in_migration Old fault)
+  pub untouched : new ≡ old
+
+-- The file of the version before was opened, and its trees taken over, or why not. Whatever a crash leaves of it at each moment since then,
+-- one might have left when it was opened.
+pub record IsTakenFrom {D : Type 0} (v : SystemView D) (basis : BasisData) (k : ℕ) (path : List ℕ) (old new : State)
+    (found : Result Found Fault) : Type 0 where
+  pub first : D
+  pub last : D
+  pub is_new : Bool
+  pub ready : IsReady v (form_over basis k) path first is_new
+  pub honest : v.honest first ↔ v.honest last
+  pub left : v.honest first → LeavesOnly (v.state first) (v.state last) (IsOutcome (v.state first).now)
+  pub right : v.honest first → MatchResult found (FindsReport (IsTakenOver basis k (v.state first) (v.state last) old new))
+      (IsUntaken basis k (v.state first) (v.state last) old new)
+  pub device : IfErr found (λ fault. TellsOldDevice fault → Grew (v.failures first) (v.failures last))
+
+-- what a migration from the file of a path may find, by the states of the new disk before and after
+abbrev pub IsMigrated : {D : Type 0} → SystemView D → BasisData → ℕ → List ℕ → State → State → Result Found Fault → Type 0
+IsMigrated v basis k path old new found = IsOldKeptOut v basis k path old new found ⊎ IsTakenFrom v basis k path old new found
+
+-- What a task may find over the file of a store, by the states of its disk before and after, or which fault. The style says whether rides
+-- and walks are found without being asked for.
+abbrev pub IsTaskDone : {D : Type 0} → SystemView D → Style → BasisData → ℕ → Task → State → State → Result Found Fault → Type 0
+IsTaskDone v style basis k (tasks.Ask question legs) old new found =
+    (moment : Option ℕ) × IsMoment basis.cover question.day question.seconds moment
+    × MatchResult found (FindsAnswer (IsStoredAnswer basis k moment question (tells_legs style legs) old new))
+    (IsStoredRefusal basis k moment question old new)
+IsTaskDone v style basis k tasks.List old new found = MatchResult found (FindsReport (IsListed basis k old new)) (IsUntold basis k old new)
+IsTaskDone v style basis k (tasks.Audit whose) old new found = IsAuditDone basis k whose old new found
+IsTaskDone v style basis k (tasks.Build workers progress) old new found =
+    MatchResult found (FindsReport (ReportsBuilt (IsBuilt basis k old new))) (IsUnbuilt basis k old new)
+IsTaskDone v style basis k (tasks.Migrate path progress) old new found = IsMigrated v basis k path.now old new found

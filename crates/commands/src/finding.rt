@@ -1,0 +1,56 @@
+//! What a command finds: at the timetable, or over the file of a store.
+
+ghost use Rattle.commands.specs.Runs.{IsSearchFound};
+ghost use Rattle.commands.specs.World.{view_of};
+
+use crate::found::{Found, found_answer};
+use crate::opening::StoreFile;
+use crate::storing::over_store;
+use crate::system::System;
+use answering::{direct, scan};
+use command_line::{Search, Style};
+use faults::Fault;
+use feed_basis::Basis;
+use std::alloc::Global;
+use std::io::Write;
+use streams::Stream;
+use tellers::tells_legs;
+use timetable::Rides;
+
+/// Finds what a command searches for, to be told in the style: at the timetable, or over the file of a store. The disk of the store comes
+/// back if it was opened. Standard error says if a new store is begun.
+pub fn find<'a, S: System, E: Write + Drop>(
+    alloc: Global,
+    system: &S,
+    style: Style,
+    basis: &'a Basis,
+    rides: Rides,
+    search: &Search<'a>,
+    err: &mut Stream<E>,
+) -> (Result<Found<'a>, Fault<'a>>, Option<S::Store>)
+    ensures { IsSearchFound (view_of (S.world system.now) S.Store.honest S.Store.state S.Store.failures
+        S.Teller.telling)
+        style basis.now rides search.now result.0 result.1 err.old err.new }
+{
+    match search {
+        Search::Direct { question } => {
+            let moment = basis.moment(question.day, question.seconds);
+            let answer = direct(alloc, basis, question, moment);
+            (found_answer(question, answer), None)
+        }
+        Search::Scan { question, legs } => {
+            let moment = basis.moment(question.day, question.seconds);
+            let legs = tells_legs(style, *legs);
+            let answer = scan(alloc, basis, question, moment, rides, legs);
+            (found_answer(question, answer), None)
+        }
+        Search::Stored { store, task } => {
+            let file = StoreFile {
+                path: store,
+                basis,
+                rides,
+            };
+            over_store(alloc, system, style, &file, task, err)
+        }
+    }
+}
