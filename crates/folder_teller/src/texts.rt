@@ -29,7 +29,7 @@ pub(crate) fn line(text: String) -> Result<String, AllocError> {
     Ok(text)
 }
 
-// What is told of an answer in a format.
+// The text of an itinerary in a format.
 fn itinerary_text(
     alloc: Global,
     format: Format,
@@ -42,7 +42,7 @@ fn itinerary_text(
     }
 }
 
-/// An answer in a format. What is told of it is let go.
+/// The text of an itinerary in a format. The itinerary is let go.
 pub(crate) fn told_text(
     alloc: Global,
     format: Format,
