@@ -40,7 +40,7 @@ fn add_round<A: Allocator + Clone>(
 {
     for stop in view.lowered(rides) {
         if stop.number() < stops {
-            if let Some(path) = view.pattern(rides, *stop) {
+            if let Some(path) = view.pattern_stops(rides, *stop) {
                 tree.insert(path, *stop)?;
             }
         }

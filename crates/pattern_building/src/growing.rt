@@ -1,19 +1,18 @@
 //! A tree that is being built.
 
-ghost use Rattle.std.specs.Prelude.{◌≡◌, ◌≢◌, ◌<◌, [], ◌↔◌, ◌⊎◌, Err, IfOk, OnOk, OnErr, length};
+ghost use Rattle.std.specs.Prelude.{◌≡◌, ◌≢◌, ◌<◌, ◌≤◌, [], ◌↔◌, ◌⊎◌, Err, IfOk, OnOk, OnErr, length};
 ghost use Rattle.std.specs.List.{Contains, AllPairs};
 ghost use Rattle.pattern_tree.specs.Forest.{Pair};
 ghost use Rattle.pattern_tree.specs.Content.{IsTooLarge};
 
 use crate::latest::Latest;
 use pattern_tree::{PatternTree, TreeFault};
-use rounds::Path;
 use std::alloc::{AllocError, Allocator, Global};
 use std::marker::Model;
 use timetable::StopId;
 
-/// The tree of a source that is being built. The pair that was put in last for a number of rides and a stop is mostly the one that comes
-/// next. It is remembered and then not looked for again.
+/// The tree of a source that is being built. One of the two pairs that were put in last for a number of rides and a stop is mostly the one
+/// that comes next. They are remembered and then not looked for again.
 #[derive(Drop)]
 pub(crate) struct GrowingTree<A: Allocator> {
     tree: PatternTree<A>,
@@ -49,20 +48,21 @@ impl<A: Allocator + Clone> GrowingTree<A> {
         })
     }
 
-    /// Puts the pair of `path`, of one ride or more, and `end` in. TooLarge comes only where the pair is new and a count would pass its
+    /// Puts the pair of `path`, of one to eight rides, and `end` in. TooLarge comes only where the pair is new and a count would pass its
     /// limit; every other fault is that memory ran out.
-    pub(crate) fn insert(&mut self, path: Path, end: StopId) -> Result<(), TreeFault>
-        requires some { 0 < length path.items }
+    pub(crate) fn insert(&mut self, path: &[(StopId, StopId)], end: StopId) -> Result<(), TreeFault>
+        requires some { 0 < length path.now }
+        requires short { length path.now ≤ 8 }
         ensures source { self.new.source ≡ self.old.source }
-        ensures added { OnOk result ((p : Pair) → Contains self.new.pairs p ↔ (Contains self.old.pairs p ⊎ (p ≡ (path.items, end)))) }
-        ensures large { result ≡ Err TreeFault.TooLarge → IsTooLarge self.old.pairs (path.items, end) }
+        ensures added { OnOk result ((p : Pair) → Contains self.new.pairs p ↔ (Contains self.old.pairs p ⊎ (p ≡ (path.now, end)))) }
+        ensures large { result ≡ Err TreeFault.TooLarge → IsTooLarge self.old.pairs (path.now, end) }
         ensures unchanged { OnErr result (self.new ≡ self.old) }
         ensures once { AllPairs (λ p q. p ≢ q) self.old.pairs → AllPairs (λ p q. p ≢ q) self.new.pairs }
     {
-        if self.latest.has(&path, end) {
+        if self.latest.has(path, end) {
             return Ok(());
         }
-        self.tree.insert(path.as_slice(), end)?;
+        self.tree.insert(path, end)?;
         self.latest.put(path, end);
         Ok(())
     }

@@ -4,17 +4,17 @@ use Rattle.rounds.specs.Mark.{Mark, at, arrival_of}
 use Rattle.rounds.specs.Row.{when}
 
 -- a label, where there is a moment
-abbrev pub kept : Option ℕ → Option Mark → Option Mark
+abbrev pub kept : Option ℕ → Mark → Option Mark
 kept None label = None
-kept (Some moment) label = label
+kept (Some moment) label = Some label
 
 -- the labels of the stops that have a moment
-abbrev pub with_moments : List (Option ℕ) → List (Option Mark) → List (Option Mark)
+abbrev pub with_moments : List (Option ℕ) → List Mark → List (Option Mark)
 with_moments [] labels = []
 with_moments (moment ∷ moments) [] = []
 with_moments (moment ∷ moments) (label ∷ labels) = kept moment label ∷ with_moments moments labels
 
--- there is a moment for each label's position, and it is the arrival of the label there
-pub record AreAgreed (moments : List (Option ℕ)) (labels : List (Option Mark)) : Type 0 where
+-- each stop has a label's place, and its moment is the arrival of the label there
+pub record AreAgreed (moments : List (Option ℕ)) (labels : List Mark) : Type 0 where
   pub size : length labels ≡ length moments
   pub same : (p : ℕ) → when moments p ≡ arrival_of (at (with_moments moments labels) p)

@@ -14,7 +14,7 @@ use timetable::StopId;
 #[derive(Debug, Drop)]
 pub struct Labels {
     arrivals: Vec<Option<u32>>,
-    labels: Vec<Option<Label>>,
+    labels: Vec<Label>,
 }
 
 impl Model for Labels {
@@ -29,13 +29,13 @@ impl Model for Labels {
     ghost invariant = { λ a. AreAgreed a.arrivals.items a.labels.items };
 }
 
-// No labels, at so many stops.
-fn no_labels(alloc: Global, stops: usize) -> Result<Vec<Option<Label>>, AllocError>
-    ensures { IfOk result (λ labels. labels.items ≡ replicate {A = Option Mark} stops None) }
+// A label for each of so many stops, to be written over.
+fn no_labels(alloc: Global, stops: usize) -> Result<Vec<Label>, AllocError>
+    ensures { IfOk result (λ labels. length labels.items ≡ stops) }
 {
     let mut labels = Vec::with_capacity(alloc, stops)?;
     for _ in 0..stops {
-        labels.push(None)?;
+        labels.push(Label::start(0))?;
     }
     Ok(labels)
 }
@@ -53,17 +53,6 @@ pub fn clear_moments(moments: &mut [Option<u32>])
 {
     for moment in moments.iter_mut() {
         *moment = None;
-    }
-}
-
-// Writes a label at the moment, with one ride more if there is one, over the one that lies there.
-fn write(place: &mut Option<Label>, label: &Label, arrival: u32, ride: Option<(StopId, StopId)>)
-    requires { IsSome ride → length label.now.path < 8 }
-    ensures { place.new ≡ Some (moved label.now arrival ride) }
-{
-    match place {
-        Some(here) => here.set(label, arrival, ride),
-        None => *place = Some(Label::moved(label, arrival, ride)),
     }
 }
 
@@ -92,7 +81,7 @@ impl Labels {
         ensures some { IfSome result (λ label. at self.now stop ≡ Some label.now) }
     {
         match self.arrival(stop) {
-            Some(_) => self.labels[stop].as_ref(),
+            Some(_) => Some(&self.labels[stop]),
             None => None,
         }
     }
@@ -114,6 +103,6 @@ impl Labels {
         ensures { self.new ≡ slice_set self.old stop (Some (moved label.now arrival ride)) }
     {
         self.arrivals[stop] = Some(arrival);
-        write(&mut self.labels[stop], label, arrival, ride);
+        self.labels[stop].set(label, arrival, ride);
     }
 }

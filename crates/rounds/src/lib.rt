@@ -21,6 +21,7 @@ mod view;
 mod walking;
 
 pub use best::{points, scan};
+pub use events::departures;
 pub use path::Path;
 pub use plain::plain_rounds;
 pub use scratch::Scratch;

@@ -92,11 +92,24 @@ impl RoundView<'_> {
             ↔ IsSooner (arrival_in (rounds_of self.now) rides stop) (arrival_in (rounds_of self.now) (rides - 1) stop) }
         ensures path { IfSome result (λ path. IsSomeAnd (mark_in (rounds_of self.now) rides stop) (λ m. path.items ≡ m.path)) }
     {
-        match self.label(rides, stop) {
-            Some(label) if is_sooner(Some(label.arrival()), self.arrival(rides - 1, stop)) => {
-                Some(label.path())
-            }
-            _ => None,
+        match self.sooner_label(rides, stop) {
+            Some(label) => Some(label.path()),
+            None => None,
+        }
+    }
+
+    /// The same stops, where they lie: a caller who only looks at them makes no copy.
+    pub fn pattern_stops(&self, rides: u8, stop: StopId) -> Option<&[(StopId, StopId)]>
+        requires some { 1 ≤ rides }
+        requires few { rides ≤ length (rounds_of self.now) }
+        ensures sooner { IsSome result
+            ↔ IsSooner (arrival_in (rounds_of self.now) rides stop) (arrival_in (rounds_of self.now) (rides - 1) stop) }
+        ensures path { IfSome result (λ stops. IsSomeAnd (mark_in (rounds_of self.now) rides stop) (λ m. stops.now ≡ m.path)) }
+        ensures short { IfSome result (λ stops. length stops.now ≤ 8) }
+    {
+        match self.sooner_label(rides, stop) {
+            Some(label) => Some(label.stops()),
+            None => None,
         }
     }
 
@@ -118,6 +131,22 @@ impl RoundView<'_> {
             return &[];
         }
         self.rounds[rides as usize - 1].lowered()
+    }
+
+    // The label of the stop, where it is sooner than that of one ride less.
+    fn sooner_label(&self, rides: u8, stop: StopId) -> Option<&Label>
+        requires some { 1 ≤ rides }
+        requires few { rides ≤ length (rounds_of self.now) }
+        ensures sooner { IsSome result
+            ↔ IsSooner (arrival_in (rounds_of self.now) rides stop) (arrival_in (rounds_of self.now) (rides - 1) stop) }
+        ensures some { IfSome result (λ label. mark_in (rounds_of self.now) rides stop ≡ Some label.now) }
+    {
+        match self.label(rides, stop) {
+            Some(label) if is_sooner(Some(label.arrival()), self.arrival(rides - 1, stop)) => {
+                Some(label)
+            }
+            _ => None,
+        }
     }
 
     fn before(&self, rides: u8, stop: StopId) -> Option<u32>

@@ -4,4 +4,4 @@
 mod patterns;
 mod scanning;
 
-pub use scanning::scan_journeys;
+pub use scanning::{journeys_of, scan_journeys};

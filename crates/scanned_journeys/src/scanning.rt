@@ -5,13 +5,36 @@ ghost use Rattle.std.specs.List.{All};
 ghost use Rattle.pattern_query.specs.Answer.{numbers, IsJourney};
 ghost use Rattle.timetable.specs.Front.{AreFront};
 ghost use Rattle.timetable.specs.Table.{stops_of};
+ghost use Rattle.rounds.specs.Answers.{AreRounds};
+ghost use Rattle.rounds.specs.Scratch.{rounds_of};
 
 use crate::patterns::patterns_to;
 use direct_connections::Network;
 use pattern_query::{Answer, ask};
-use rounds::plain_rounds;
+use rounds::{RoundView, plain_rounds};
 use std::alloc::{AllocError, Global};
 use timetable::{LATEST_MOMENT, Rides, StopId};
+
+/// The best journeys from a stop to a stop at a moment of at most `LATEST_MOMENT`, as `scan_journeys` has them. They come from rounds of at
+/// most `rides` rides that were run from the stop at the moment. It fails only if memory runs out.
+pub fn journeys_of(
+    alloc: Global,
+    network: &Network,
+    view: &RoundView<'_>,
+    from: StopId,
+    to: StopId,
+    depart: u32,
+    rides: Rides,
+) -> Result<Answer, AllocError>
+    requires to { to < stops_of network.now }
+    requires early { depart ≤ LATEST_MOMENT }
+    requires rounds { AreRounds network.now from depart rides (rounds_of view.now) }
+    ensures journeys { IfOk result (λ answer. All (IsJourney network.now from to depart) answer) }
+    ensures best { IfOk result (λ answer. AreFront network.now rides from to depart (map numbers answer)) }
+{
+    let patterns = patterns_to(alloc, view, from, to, rides)?;
+    Ok(ask(network, &patterns, to, depart))
+}
 
 /// The best journeys from a stop to a stop at a moment of at most `LATEST_MOMENT`, by rising rides: one for each of the best
 /// numbers over all journeys of at most `rides` rides, the way on foot among them, with its rides.
@@ -33,6 +56,5 @@ pub fn scan_journeys(
     ensures best { IfOk result (λ answer. AreFront network.now rides from to depart (map numbers answer)) }
 {
     let rounds = plain_rounds(alloc, network.timetable(), from, depart, rides)?;
-    let patterns = patterns_to(alloc, &rounds.view(), from, to, rides)?;
-    Ok(ask(network, &patterns, to, depart))
+    journeys_of(alloc, network, &rounds.view(), from, to, depart, rides)
 }

@@ -41,7 +41,7 @@ loop-stop-preserved g c =
     elim c.if-number-stops.branch [
       | then-number-stops+in-Some+in_ok-insert w ↦
           let new = w.insert.new.self.pairs in
-          let p : Pair = (w.in-Some.path.items, stop) in
+          let p : Pair = (w.in-Some.path.now, stop) in
           let gives : Gives rounds r p = (w.in-Some.ensures.sooner.0 refl, w.in-Some.ensures.path) in
           let added : IsAdded old new p = w.in_ok-insert.ensures.added in
           let below = subst (λ k. k < stops) c.number.ensures.value w.if-number-stops.true in
@@ -61,7 +61,7 @@ loop-stop-preserved g c =
             keeps = inv.keeps;
             all = has_then rounds (SeenAt r stops listed n) (λ i t. AtStop r stop i t × (t < stops)) (SeenAt r stops listed (n + 1)) old old split inv.all (λ q h. h)
                 (has_narrower rounds (AtStop r stop) (λ i t. AtStop r stop i t × (t < stops)) old here
-                (has_none rounds r stop old (λ sooner. none_is w.pattern.result w.in_default.is (w.pattern.ensures.sooner.1 sooner))));
+                (has_none rounds r stop old (λ sooner. none_is w.pattern_stops.result w.in_default.is (w.pattern_stops.ensures.sooner.1 sooner))));
           }
       | else-number-stops w ↦
           let past = w.if-number-stops.false in
@@ -79,9 +79,9 @@ loop-stop-preserved g c =
 pub insert-requires : goal.insert-requires
 insert-requires g c =
     let rounds = rounds_of c.args.view.now in
-    let p : Pair = (c.in-Some.path.items, c.stop-item.result) in
+    let p : Pair = (c.in-Some.path.now, c.stop-item.result) in
     let gives : Gives rounds c.args.rides p = (c.in-Some.ensures.sooner.0 refl, c.in-Some.ensures.path) in
-    record { some = c.requires.ridden p (subst (λ k. k < c.args.stops) c.number.ensures.value c.if-number-stops.true) gives }
+    record { some = c.requires.ridden p (subst (λ k. k < c.args.stops) c.number.ensures.value c.if-number-stops.true) gives; short = c.in-Some.ensures.short }
 
 pub returns-clause-all : goal.returns-clause-all
 returns-clause-all g c = λ p given.
@@ -101,7 +101,7 @@ returns-in_err-insert-clause-keeps g c =
 pub returns-in_err-insert-clause-large : goal.returns-in_err-insert-clause-large
 returns-in_err-insert-clause-large g c = λ is.
     let rounds = rounds_of c.args.view.now in
-    let p : Pair = (c.in-Some.path.items, c.stop-item.result) in
+    let p : Pair = (c.in-Some.path.now, c.stop-item.result) in
     let gives : Gives rounds c.args.rides p = (c.in-Some.ensures.sooner.0 refl, c.in-Some.ensures.path) in
     let old = c.loop-stop.tree.pairs in
     let fault = same_fault c.from_residual.result c.in_err-insert.field-0.0 c.from_residual.ensures.1 is in

@@ -1,6 +1,5 @@
-use Rattle.std.proofs.Common.{◌≡◌, None, Option, replicate}
-use Rattle.rounds.specs.Mark.{Mark}
+use Rattle.std.proofs.Common.{◌≡◌, length}
 use Rattle.rounds.proofs.labels.no_labels.Given as goal
 
 abbrev pub invariant-loop : goal.invariant-loop
-invariant-loop l = l.labels.items ≡ replicate {A = Option Mark} l.counter None
+invariant-loop l = length l.labels.items ≡ l.counter

@@ -28,4 +28,5 @@ returns-clause-none c = λ stop.
     let i = c.self.inside in
     let moments = c.clear_moments.new.moments in
     let w = whole_of i.arrivals.len moments i.arrivals.items c.deref_mut.result.now c.deref_mut.ensures.value c.deref_mut.ensures.len c.clear_moments.auto.moments in
-    ap (λ (ms : List (Option ℕ)). at (with_moments ms i.labels.items) stop) w ∙ none_kept moments i.labels.items c.clear_moments.ensures stop
+    let long : length moments ≡ length i.arrivals.items = c.clear_moments.auto.moments ∙ ap (length {A = Option ℕ}) c.deref_mut.ensures.value in
+    ap (λ (ms : List (Option ℕ)). at (with_moments ms i.labels.items) stop) w ∙ none_kept moments i.labels.items (c.self.invariant.size ∙ sym long) c.clear_moments.ensures stop

@@ -5,7 +5,7 @@ use Rattle.rounds.proofs.LabelSteps.{with_length, with_put, agreed_put}
 use Rattle.rounds.proofs.labels.Labels.put.Goals as goal
 
 -- the stop has a moment's position
-within : (moments : List (Option ℕ)) (labels marks : List (Option Mark)) (stop : ℕ) → AreAgreed moments labels → with_moments moments labels ≡ marks → stop < length marks
+within : (moments : List (Option ℕ)) (labels : List Mark) (marks : List (Option Mark)) (stop : ℕ) → AreAgreed moments labels → with_moments moments labels ≡ marks → stop < length marks
     → stop < length moments
 within moments labels marks stop is same lt =
     let long = with_length moments labels is.size in
@@ -31,10 +31,10 @@ pub invariant_of-self : goal.invariant_of-self
 invariant_of-self c =
     let i = c.self.inside in
     let lt = within i.arrivals.items i.labels.items c.args.self.now c.args.stop c.self.invariant c.self.view_is c.requires.known in
-    rw c.write.ensures (agreed_put i.arrivals.items i.labels.items c.args.stop c.args.arrival (moved c.args.label.now c.args.arrival c.args.ride) refl lt c.self.invariant)
+    rw c.set.ensures (agreed_put i.arrivals.items i.labels.items c.args.stop c.args.arrival (moved c.args.label.now c.args.arrival c.args.ride) refl lt c.self.invariant)
 
 pub returns : goal.returns
 returns c =
     let i = c.self.inside in
-    rw c.write.ensures (with_put i.arrivals.items i.labels.items c.args.stop c.args.arrival (moved c.args.label.now c.args.arrival c.args.ride) c.self.invariant.size
+    rw c.set.ensures (with_put i.arrivals.items i.labels.items c.args.stop c.args.arrival (moved c.args.label.now c.args.arrival c.args.ride) c.self.invariant.size
     ∙ ap (λ (ms : List (Option Mark)). set ms c.args.stop (Some (moved c.args.label.now c.args.arrival c.args.ride))) c.self.view_is)
