@@ -3,3 +3,4 @@
 mod calendars;
 mod changes;
 mod counts;
+mod listed;

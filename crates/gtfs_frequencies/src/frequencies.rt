@@ -18,19 +18,21 @@ use std::alloc::Global;
 use std::hash::RandomState;
 use std::io::Read;
 
-// Keys of rows: each the number of a trip and a start_time.
-type FrequencyKeys = IndexSet<(u32, u32), RandomState>;
+/// Keys of rows: each the number of a trip and a start_time.
+pub type FrequencyKeys = IndexSet<(u32, u32), RandomState>;
 
+/// Where the columns of frequencies.txt are.
 #[derive(Clone, Copy)]
-struct FrequencyColumns {
-    trip: Option<usize>,
-    start: Option<usize>,
-    end: Option<usize>,
-    headway: Option<usize>,
-    exact: Option<usize>,
+pub struct FrequencyColumns {
+    pub trip: Option<usize>,
+    pub start: Option<usize>,
+    pub end: Option<usize>,
+    pub headway: Option<usize>,
+    pub exact: Option<usize>,
 }
 
-fn frequency_columns(sheet: &Sheet) -> FrequencyColumns
+/// Looks for the columns in the header.
+pub fn frequency_columns(sheet: &Sheet) -> FrequencyColumns
     ensures { AreFrequencyColumns sheet.now result }
 {
     FrequencyColumns {
@@ -67,8 +69,8 @@ fn is_exactness(text: &str) -> bool
     text.is_empty() || text == "0" || text == "1"
 }
 
-// The values of a row, if its fields pass their tests.
-fn read_row(
+/// The values of a row of frequencies.txt, if its fields pass their tests. Whether it is the first of its trip and start isn't tested.
+pub fn read_row(
     sheet: &Sheet,
     columns: FrequencyColumns,
     trips: &Texts<'_>,

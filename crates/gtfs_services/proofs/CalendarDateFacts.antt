@@ -83,7 +83,7 @@ same_is : (a b : List ℕ × Date) → same_parts (parts_of a) (parts_of b) ≡ 
 same_is a b = elim (bytes_eq a.0 b.0) as (λ t. (((t && int_eq a.1.year b.1.year) && int_eq (pos a.1.month) (pos b.1.month)) && int_eq (pos a.1.day) (pos b.1.day)) ≡ (t && int_eq (epoch_day a.1) (epoch_day b.1)))
     [ true ↦ same_days a.1 b.1 | false ↦ refl ]
 
-any_is : (a : List ℕ × Date) (bs : List (List ℕ × Date)) → list_any (same_parts (parts_of a)) (map parts_of bs) ≡ list_any (is_same a) bs
+pub any_is : (a : List ℕ × Date) (bs : List (List ℕ × Date)) → list_any (same_parts (parts_of a)) (map parts_of bs) ≡ list_any (is_same a) bs
 any_is a [] = refl
 any_is a (b ∷ bs) = λ k. same_is a b k || any_is a bs k
 

@@ -17,15 +17,18 @@ use std::alloc::Global;
 use std::hash::RandomState;
 use std::io::Read;
 
+/// Where the columns of calendar.txt are.
 #[derive(Clone, Copy)]
-struct CalendarColumns {
-    service: Option<usize>,
-    weekdays: [Option<usize>; 7],
-    start: Option<usize>,
-    end: Option<usize>,
+pub struct CalendarColumns {
+    pub service: Option<usize>,
+    /// From Monday on.
+    pub weekdays: [Option<usize>; 7],
+    pub start: Option<usize>,
+    pub end: Option<usize>,
 }
 
-fn calendar_columns(sheet: &Sheet) -> CalendarColumns
+/// Looks for the columns in the header.
+pub fn calendar_columns(sheet: &Sheet) -> CalendarColumns
     ensures { AreCalendarColumns sheet.now result }
 {
     CalendarColumns {
@@ -44,7 +47,8 @@ fn calendar_columns(sheet: &Sheet) -> CalendarColumns
     }
 }
 
-fn are_there(columns: &[Option<usize>]) -> bool
+/// Whether each of these columns is there.
+pub fn are_there(columns: &[Option<usize>]) -> bool
     ensures { result ≡ list_all is_some columns.now }
 {
     columns.iter().all(|column| column.is_some())
@@ -73,8 +77,8 @@ fn weekdays_of(sheet: &Sheet, columns: &[Option<usize>; 7], row: usize) -> Optio
     Some(weekdays)
 }
 
-// The values of a row whose service is new or isn't, where it passes its tests.
-fn read_row(
+/// The values of a row of calendar.txt whose service is new or isn't, if it passes its tests.
+pub fn read_row(
     alloc: Global,
     sheet: &Sheet,
     columns: CalendarColumns,

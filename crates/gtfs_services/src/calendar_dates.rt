@@ -18,17 +18,19 @@ use std::alloc::Global;
 use std::hash::RandomState;
 use std::io::Read;
 
-// A service, and the year, month and day of a date.
-type ServiceDate<'a> = (&'a str, i16, i8, i8);
+/// A service, and the year, month and day of a date.
+pub type ServiceDate<'a> = (&'a str, i16, i8, i8);
 
+/// Where the columns of calendar_dates.txt are.
 #[derive(Clone, Copy)]
-struct DateColumns {
-    service: Option<usize>,
-    date: Option<usize>,
-    exception_type: Option<usize>,
+pub struct DateColumns {
+    pub service: Option<usize>,
+    pub date: Option<usize>,
+    pub exception_type: Option<usize>,
 }
 
-fn date_columns(sheet: &Sheet) -> DateColumns
+/// Looks for the columns in the header.
+pub fn date_columns(sheet: &Sheet) -> DateColumns
     ensures { AreDateColumns sheet.now result }
 {
     DateColumns {
@@ -49,7 +51,8 @@ fn change_of(text: &str) -> Option<DateChange>
     }
 }
 
-fn service_date(service: &str, date: Date) -> ServiceDate<'_>
+/// What a row names: no other row may name it too.
+pub fn service_date(service: &str, date: Date) -> ServiceDate<'_>
     ensures service { result.0.now ≡ service.now }
     ensures year { result.1 ≡ date.year }
     ensures month { result.2 ≡ pos date.month }
@@ -58,8 +61,8 @@ fn service_date(service: &str, date: Date) -> ServiceDate<'_>
     (service, date.year(), date.month(), date.day())
 }
 
-// The values of a row, where its fields pass their tests.
-fn read_row(
+/// The values of a row of calendar_dates.txt, if its fields pass their tests. Whether it is the first of its service and date isn't tested.
+pub fn read_row(
     alloc: Global,
     sheet: &Sheet,
     columns: DateColumns,

@@ -1,10 +1,10 @@
 //! Trips and the days of their services: trips.txt, calendar.txt and calendar_dates.txt.
 #![tactic(auto)]
 
-mod calendar;
-mod calendar_dates;
+pub mod calendar;
+pub mod calendar_dates;
 pub mod laws;
-mod trips;
+pub mod trips;
 
 pub use calendar::read_calendar;
 pub use calendar_dates::read_calendar_dates;

@@ -27,13 +27,15 @@ pub struct TripRows<'a> {
     pub ids: Texts<'a>,
 }
 
+/// Where the columns of trips.txt are.
 #[derive(Clone, Copy)]
-struct TripColumns {
-    id: Option<usize>,
-    service: Option<usize>,
+pub struct TripColumns {
+    pub id: Option<usize>,
+    pub service: Option<usize>,
 }
 
-fn trip_columns(sheet: &Sheet) -> TripColumns
+/// Looks for the columns in the header.
+pub fn trip_columns(sheet: &Sheet) -> TripColumns
     ensures { AreTripColumns sheet.now result }
 {
     TripColumns {
@@ -42,8 +44,8 @@ fn trip_columns(sheet: &Sheet) -> TripColumns
     }
 }
 
-// What is wrong with a row.
-fn row_fault(sheet: &Sheet, columns: TripColumns, is_new: bool, row: usize) -> Option<FaultKind>
+/// What is wrong with a row of trips.txt, whose id is new or isn't.
+pub fn row_fault(sheet: &Sheet, columns: TripColumns, is_new: bool, row: usize) -> Option<FaultKind>
     requires row { row < length sheet.now }
     requires columns { AreTripColumns sheet.now columns }
     requires is_new { is_new ≡ has_new_key sheet.now (trip_id sheet.now) row }

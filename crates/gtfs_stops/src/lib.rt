@@ -2,8 +2,8 @@
 #![tactic(auto)]
 
 pub mod laws;
-mod stops;
-mod transfers;
+pub mod stops;
+pub mod transfers;
 
 pub use stops::{StopIds, StopRows, read_stops};
 pub use transfers::{TransferRows, read_transfers};

@@ -18,7 +18,7 @@ use std::alloc::{AllocError, Global};
 use std::hash::RandomState;
 
 /// The most stops that a feed may have.
-const STOP_LIMIT: usize = 1_000_000;
+pub const STOP_LIMIT: usize = 1_000_000;
 
 /// The rows of stops.txt that are kept, and what its ids name.
 #[derive(Drop)]
@@ -36,21 +36,23 @@ pub struct StopIds<'a> {
     pub stations: Texts<'a>,
 }
 
+/// Where the columns of stops.txt are.
 #[derive(Clone, Copy)]
-struct StopColumns {
-    id: Option<usize>,
-    location_type: Option<usize>,
-    parent: Option<usize>,
+pub struct StopColumns {
+    pub id: Option<usize>,
+    pub location_type: Option<usize>,
+    pub parent: Option<usize>,
 }
 
-// The kinds of rows that are kept.
+/// The kinds of rows that are kept.
 #[derive(Clone, Copy)]
-enum RowKind {
+pub enum RowKind {
     Stop,
     Station,
 }
 
-fn stop_columns(sheet: &Sheet) -> StopColumns
+/// Looks for the columns in the header.
+pub fn stop_columns(sheet: &Sheet) -> StopColumns
     ensures { AreStopColumns sheet.now result }
 {
     StopColumns {
@@ -77,8 +79,8 @@ fn means(kind: RowKind, text: &str) -> bool
     }
 }
 
-// Adds the ids of the rows of a kind, in the whole file, each once.
-fn add_ids_of<'a>(
+/// Adds the ids of the rows of a kind, in the whole file, each once.
+pub fn add_ids_of<'a>(
     sheet: &'a Sheet,
     columns: StopColumns,
     kind: RowKind,
@@ -103,8 +105,8 @@ fn parent_stands(is_stop: bool, parent: &str, stations: &Texts<'_>) -> bool
     !is_stop || parent.is_empty() || stations.contains(parent)
 }
 
-// What is wrong with a row.
-fn row_fault(
+/// What is wrong with a row of stops.txt, whose id is new or isn't. Its parent_station is looked up among the ids of all stations.
+pub fn row_fault(
     sheet: &Sheet,
     columns: StopColumns,
     stations: &Texts<'_>,

@@ -24,19 +24,21 @@ pub struct TransferRows {
     pub skipped: usize,
 }
 
+/// Where the columns of transfers.txt are.
 #[derive(Clone, Copy)]
-struct TransferColumns {
-    from: Option<usize>,
-    to: Option<usize>,
-    transfer_type: Option<usize>,
-    min_transfer_time: Option<usize>,
-    from_route: Option<usize>,
-    to_route: Option<usize>,
-    from_trip: Option<usize>,
-    to_trip: Option<usize>,
+pub struct TransferColumns {
+    pub from: Option<usize>,
+    pub to: Option<usize>,
+    pub transfer_type: Option<usize>,
+    pub min_transfer_time: Option<usize>,
+    pub from_route: Option<usize>,
+    pub to_route: Option<usize>,
+    pub from_trip: Option<usize>,
+    pub to_trip: Option<usize>,
 }
 
-fn transfer_columns(sheet: &Sheet) -> TransferColumns
+/// Looks for the columns in the header.
+pub fn transfer_columns(sheet: &Sheet) -> TransferColumns
     ensures { AreTransferColumns sheet.now result }
 {
     TransferColumns {
@@ -191,8 +193,8 @@ fn place_fault(
     first_wrong(ids.all.contains(from), ids.all.contains(to), stands)
 }
 
-// What is wrong with a row.
-fn row_fault(
+/// What is wrong with a row of transfers.txt.
+pub fn row_fault(
     sheet: &Sheet,
     columns: TransferColumns,
     ids: &StopIds<'_>,

@@ -1,0 +1,83 @@
+-- The faults of files, one after the other.
+use Rattle.std.proofs.Common.{◌≡◌, ◌∙◌, sym, ap, refl, cond, ℕ, Bool, true, false, ◌⊎◌, inl, inr, List, [], ◌∷◌, ◌++◌, Option, None, Some}
+use Rattle.std.specs.Prelude.{is_none, is_some, option_and_then, option_to_list, ◌||◌}
+use Rattle.gtfs_text.specs.Sheets.{Table}
+use Rattle.gtfs_rows.specs.declared.fault.FeedFault.{FeedFault}
+use Rattle.gtfs_rows.specs.declared.fault.FeedFile.{FeedFile}
+use Rattle.gtfs_rows.specs.Faults.{fault_at, first_fault, test}
+use Rattle.gtfs_rows.specs.declared.fault.FaultKind.TheVariants as kinds
+use Rattle.gtfs_rows.specs.declared.fault.FeedFile.TheVariants as files
+use Rattle.gtfs_rows.specs.Rows.{IsContent, opening_tests, table_in}
+use Rattle.feed_faults.specs.Lists.{Adds}
+use Rattle.feed_faults.specs.Files.{file_faults, known_in, optional_faults, services_faults}
+use Rattle.feed_faults.specs.Opened.{IsOpened, sheet_faults}
+use Rattle.feed_faults.specs.Tables.{calendar_dates_faults, calendar_faults, or_else}
+use Rattle.feed_faults.specs.declared.list.FaultList.{FaultList}
+use Rattle.feed_faults.proofs.ListFacts.{adds-is, adds-then, adds-unread}
+
+-- a reader that failed is not forgotten
+pub unread-stays : (b c : FaultList) (xs : List FeedFault) → b.unread ≡ true → Adds b c xs → c.unread ≡ true
+unread-stays b c xs unread adds = elim adds.how [
+  | inl u ↦ u
+  | inr all ↦ absurd (let clash : true ≡ false = sym unread ∙ all.was_read in cc clash)
+]
+
+fault-only : (o : Option FeedFault) (faults : List FeedFault) → is_some o ≡ true → option_to_list o ++ [] ≡ or_else o faults
+fault-only None faults h = absurd (cc h)
+fault-only (Some f) faults h = refl
+
+-- a file that was opened, and the faults of its table
+pub file-added : {a b c : FaultList} (file : FeedFile) (faults : Table → List FeedFault) (bytes : Option (List ℕ)) (sheet : Option Table)
+    → IsOpened file bytes a b sheet → Adds b c (sheet_faults faults sheet) → Adds a c (file_faults file faults bytes)
+file-added {a} {b} {c} file faults bytes (Some table) opened added =
+    let same : faults table ≡ file_faults file faults bytes = ap faults opened.2 ∙ sym (ap (λ (o : Option FeedFault). or_else o (faults (table_in bytes))) opened.1) in
+    adds-is same (adds-then opened.0 added)
+file-added {a} {b} {c} file faults bytes None opened added =
+    elim opened.1 [
+      | inl unread ↦ adds-unread a c (file_faults file faults bytes) (unread-stays b c [] unread added)
+      | inr there ↦ adds-is (fault-only (first_fault (opening_tests file bytes)) (faults (table_in bytes)) there) (adds-then opened.0 added)
+    ]
+
+-- what is known of a file that was opened, unless a reader failed
+pub known-opened : {X : Type 0} (a b : FaultList) (file : FeedFile) (known : Table → Option X) (bytes : Option (List ℕ)) (sheet : Option Table)
+    → IsOpened file bytes a b sheet → (b.unread ≡ true) ⊎ (option_and_then known sheet ≡ known_in file known bytes)
+known-opened {X} a b file known bytes (Some table) opened = inr (ap known opened.2 ∙ sym (ap (λ (o : Option FeedFault). cond (is_none o) (known (table_in bytes)) None) opened.1))
+known-opened {X} a b file known bytes None opened = elim opened.1 [
+  | inl unread ↦ inl unread
+  | inr there ↦ inr (nothing (first_fault (opening_tests file bytes)) there)
+]
+  where
+    nothing : (o : Option FeedFault) → is_some o ≡ true → None ≡ cond (is_none o) (known (table_in bytes)) None
+    nothing None h = absurd (cc h)
+    nothing (Some f) h = refl
+
+-- a file that may be missing, and is there
+pub optional-file : {R : Type 0} (remaining : R → Option (List ℕ)) (reader : Option R) (bytes : Option (List ℕ)) (file : FeedFile) (faults : Table → List FeedFault)
+    → IsContent remaining reader bytes → is_some reader ≡ true → file_faults file faults bytes ≡ optional_faults file faults bytes
+optional-file remaining (Some r) (Some b) file faults content there = refl
+optional-file remaining (Some r) None file faults content there = absurd content
+optional-file remaining None (Some b) file faults content there = absurd content
+optional-file remaining None None file faults content there = absurd (cc there)
+
+-- both files of services, of which one is there, or none
+pub services-there : (calendar dates : Option (List ℕ)) → (is_some calendar || is_some dates) ≡ true
+    → optional_faults files.Calendar calendar_faults calendar ++ optional_faults files.CalendarDates calendar_dates_faults dates ≡ services_faults calendar dates
+services-there calendar dates there = rw there refl
+
+pub services-missing : (calendar dates : Option (List ℕ)) → (is_some calendar || is_some dates) ≡ false
+    → option_to_list (first_fault (test kinds.MissingFile files.Calendar 0 (is_some calendar || is_some dates) ∷ [])) ≡ services_faults calendar dates
+services-missing calendar dates missing = rw missing refl
+
+pub services-fault : (calendar dates : Option (List ℕ)) → (is_some calendar || is_some dates) ≡ false
+    → first_fault (test kinds.MissingFile files.Calendar 0 (is_some calendar || is_some dates) ∷ []) ≡ Some (fault_at kinds.MissingFile files.Calendar 0)
+services-fault calendar dates missing = rw missing refl
+
+pub or-false : (a b : Bool) → a ≡ false → b ≡ false → (a || b) ≡ false
+or-false a b p q = rw (p, q) refl
+
+pub or-left : (a b : Bool) → a ≡ true → (a || b) ≡ true
+or-left a b p = rw p refl
+
+pub or-right : (a b : Bool) → b ≡ true → (a || b) ≡ true
+or-right true b p = refl
+or-right false b p = p

@@ -1,0 +1,39 @@
+-- What comes of opening a file, and the faults of several files together. Only private clauses cite these words.
+use Rattle.std.specs.Prelude.{◌≡◌, ◌⊎◌, ℕ, true, List, [], ◌++◌, Option, None, Some, is_some, option_to_list}
+use Rattle.gtfs_text.specs.Sheets.{Table}
+use Rattle.gtfs_rows.specs.declared.fault.FeedFault.{FeedFault}
+use Rattle.gtfs_rows.specs.declared.fault.FeedFile.{FeedFile}
+use Rattle.gtfs_rows.specs.declared.fault.FeedFile.TheVariants as files
+use Rattle.gtfs_rows.specs.Faults.{first_fault}
+use Rattle.gtfs_rows.specs.Rows.{opening_tests, table_in}
+use Rattle.gtfs_stops.specs.Stops.{IdLists}
+use Rattle.gtfs_tables.specs.Feed.{Feed}
+use Rattle.feed_faults.specs.Files.{file_faults, known_in, optional_faults, services_faults}
+use Rattle.feed_faults.specs.Lists.{Adds}
+use Rattle.feed_faults.specs.Tables.{frequencies_faults, stop_times_faults, transfers_faults, trips_faults, trips_known}
+use Rattle.feed_faults.specs.declared.list.FaultList.{FaultList}
+
+-- the file is a table; or its fault was added, and there is one unless a reader failed
+abbrev pub IsOpened : FeedFile → Option (List ℕ) → FaultList → FaultList → Option Table → Type 0
+IsOpened file bytes old new (Some table) =
+    Adds old new [] × (first_fault (opening_tests file bytes) ≡ None) × (table ≡ table_in bytes)
+IsOpened file bytes old new None =
+    Adds old new (option_to_list (first_fault (opening_tests file bytes)))
+    × ((new.unread ≡ true) ⊎ (is_some (first_fault (opening_tests file bytes)) ≡ true))
+
+-- the faults of a table, if there is one
+abbrev pub sheet_faults : (Table → List FeedFault) → Option Table → List FeedFault
+sheet_faults faults None = []
+sheet_faults faults (Some table) = faults table
+
+-- the faults of the files whose rows name rows of others, by the ids that are known
+abbrev pub linked_faults : Option IdLists → Option (List (List ℕ)) → Feed → List FeedFault
+linked_faults ids trips feed =
+    file_faults files.StopTimes (stop_times_faults ids trips) feed.stop_times
+    ++ (optional_faults files.Transfers (transfers_faults ids) feed.transfers ++ optional_faults files.Frequencies (frequencies_faults trips) feed.frequencies)
+
+-- those of all files but stops.txt
+abbrev pub others_faults : Option IdLists → Feed → List FeedFault
+others_faults ids feed =
+    file_faults files.Trips trips_faults feed.trips
+    ++ (services_faults feed.calendar feed.calendar_dates ++ linked_faults ids (known_in files.Trips trips_known feed.trips) feed)
