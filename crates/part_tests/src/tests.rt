@@ -1,5 +1,6 @@
 //! A module for each subject.
 
+mod connected;
 mod days;
 mod disks;
 mod feeds;

@@ -1,0 +1,5 @@
+pub mod ConnectionFacts
+pub mod FoundFacts
+pub mod EventFacts
+pub mod AddedFacts
+pub mod TreeFacts

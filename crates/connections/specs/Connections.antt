@@ -1,0 +1,37 @@
+-- Connections: the best journeys with a ride, each with the last moment at which one can leave for it. They are those of a set of
+-- journeys between two places, of which the numbers are known by their departures.
+-- RAPTOR (Delling, Pajor, Werneck, ALENEX 2012), section 4: a range query asks for the best journeys of all departures within a range.
+use Rattle.std.specs.Prelude.{◌≡◌, ℕ, ◌<◌, ◌≤◌, ◌⊎◌, List}
+use Rattle.std.specs.List.{All, AllPairs, Contains}
+use Rattle.timetable.specs.declared.parts.Numbers.{Numbers}
+use Rattle.timetable.specs.Journeys.{Unbeaten}
+use Rattle.pattern_query.specs.Answer.{numbers}
+use Rattle.connections.specs.declared.connection.Connection.{Connection}
+use Rattle.connections.specs.declared.connection.Window.{Window}
+
+-- no journey of the set that begins after d has one ride or more, but no more than these, and arrives by then
+abbrev pub IsLast : (ℕ → Numbers → Type 0) → ℕ → Numbers → Type 0
+IsLast Of d n = (later : ℕ) (m : Numbers) → d < later → 1 ≤ m.rides → m.rides ≤ n.rides → m.arrival ≤ n.arrival → ¬ Of later m
+
+-- the numbers are among the best at d, they have a ride, and d is the last moment at which one can leave for them
+pub record Connects (Of : ℕ → Numbers → Type 0) (d : ℕ) (n : Numbers) : Type 0 where
+  pub ridden : 1 ≤ n.rides
+  pub best : Unbeaten (Of d) n
+  pub last : IsLast Of d n
+
+-- a connection that departs within the window
+pub record IsConnection (Of : ℕ → Numbers → Type 0) (window : Window) (c : Connection) : Type 0 where
+  pub after : window.first ≤ c.departure
+  pub before : c.departure ≤ window.last
+  pub connects : Connects Of c.departure (numbers c.journey)
+
+-- one departs earlier than the other, or with it and arrives earlier
+abbrev pub IsBefore : Connection → Connection → Type 0
+IsBefore a b = (a.departure < b.departure) ⊎ ((a.departure ≡ b.departure) × (a.journey.arrival < b.journey.arrival))
+
+-- the connections of the window: by departure, then by arrival, one for each of their numbers
+pub record AreConnections (Of : ℕ → Numbers → Type 0) (window : Window) (list : List Connection) : Type 0 where
+  pub rising : AllPairs IsBefore list
+  pub each : All (IsConnection Of window) list
+  pub all : (d : ℕ) (n : Numbers) → window.first ≤ d → d ≤ window.last → Connects Of d n
+      → (c : Connection) × Contains list c × (c.departure ≡ d) × (numbers c.journey ≡ n)

@@ -1,0 +1,12 @@
+//! Connections between two stops within a window of departures: the best journeys with a ride, each with the last moment at which one can
+//! leave for it.
+#![tactic(auto)]
+
+mod asking;
+mod connection;
+mod moments;
+mod scanning;
+
+pub use asking::ask_connections;
+pub use connection::{Connection, Window};
+pub use scanning::scan_connections;
