@@ -29,7 +29,7 @@ _tp() {
         --format) choices="lines json geojson" ;;
         --days) choices="1 2 3 4 5 6 7 8 9 10 11 12 13 14" ;;
         --rides) choices="1 2 3 4 5 6 7 8" ;;
-        --date | --on | --from | --at | --zone | --default-walk | --workers) return ;;
+        --date | --on | --from | --at | --zone | --default-walk | --workers | --part) return ;;
         *)
             case $command in
                 "") choices="check stops direct scan build list ask serve audit migrate faults help --help --version" ;;
@@ -37,7 +37,10 @@ _tp() {
                 stops) choices="--feed --all --header --format --help" ;;
                 direct) choices="--feed --date --from --to --at --format --days --zone --rides --default-walk --help" ;;
                 scan) choices="--feed --date --from --to --at --legs --names --format --days --zone --rides --default-walk --help" ;;
-                build) choices="--feed --date --store --workers --progress --format --days --zone --rides --default-walk --help" ;;
+                build)
+                    choices="--feed --date --store --workers --progress --part --format"
+                    choices+=" --days --zone --rides --default-walk --help"
+                    ;;
                 list) choices="--feed --date --store --format --days --zone --rides --default-walk --help" ;;
                 ask)
                     choices="--feed --date --store --from --to --at --on --legs --names --format"

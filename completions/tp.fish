@@ -33,6 +33,7 @@ complete -c tp -n '__fish_seen_subcommand_from direct scan build list ask serve 
 complete -c tp -n '__fish_seen_subcommand_from direct scan build list ask serve audit migrate' -l default-walk -x -d 'Seconds of a walk that has none'
 complete -c tp -n '__fish_seen_subcommand_from build serve audit' -l workers -x -d 'The number of workers'
 complete -c tp -n '__fish_seen_subcommand_from build audit migrate' -l progress -d 'Report progress'
+complete -c tp -n '__fish_seen_subcommand_from build' -l part -x -d 'Only one of N parts of the stops, I/N'
 complete -c tp -n '__fish_seen_subcommand_from scan ask' -l legs -d 'Print rides and walks'
 complete -c tp -n '__fish_seen_subcommand_from scan ask' -l names -d 'Print names, for people'
 complete -c tp -n '__fish_seen_subcommand_from check stops direct scan build list ask serve' -l format -xa 'lines json geojson' -d 'The format of the answer'

@@ -13,7 +13,7 @@ use crate::texts::{
     ABOUT, ALL, ASK, ASK_MORE, ASK_USAGE, AT, AUDIT, AUDIT_ALL, AUDIT_MORE, AUDIT_PROGRESS,
     AUDIT_USAGE, AUDITED, AUDITORS, BUILD, BUILD_MORE, CHECK, CHECK_MORE, DIRECT, DIRECT_MORE,
     FAULT_TABLE, FAULTS, FEED, FORMAT, FROM, HEADER, LEGS, LIST, LIST_MORE, MIGRATE, MIGRATE_MORE,
-    MIGRATE_PROGRESS, MORE, NAMES, NEW_STORE, OLD_STORE, ON, PLAIN_FORMAT, PROGRESS, SCAN,
+    MIGRATE_PROGRESS, MORE, NAMES, NEW_STORE, OLD_STORE, ON, PART, PLAIN_FORMAT, PROGRESS, SCAN,
     SCAN_MORE, SERVE, SERVE_MORE, STOPS, STOPS_MORE, STORE, TEXT, TO, VERSION, WEEK, WORKERS,
 };
 use clap::builder::ValueParser;
@@ -141,6 +141,7 @@ fn build<'a>(alloc: Global) -> Result<Command<'a>, Error>
 {
     let command = building(alloc, "build", BUILD, BUILD_MORE);
     let command = with(command, flag(alloc, "progress", PROGRESS));
+    let command = with(command, optional(alloc, "part", "PART", PART));
     with(command, optional(alloc, "format", "FORMAT", FORMAT))
 }
 

@@ -97,7 +97,8 @@ pub(crate) const BUILD_MORE: &str = "\
 It may be stopped at any moment, as by Ctrl-C: what was stored stands, and the same command goes on.
 It prints `stored N of M`, and `missing ID` for each stop whose tree would be too large, or for which
 memory was refused; the status is 3 then. While it builds, it reports on standard error how far it
-is, if that is a terminal.
+is, if that is a terminal. With --part it builds one of N parts of the stops and counts only these,
+so that N machines can share a feed, each with a store of its own.
 
 Example: tp build --feed demo/feed-m --date 20240102 --store demo.store";
 
@@ -210,6 +211,9 @@ pub(crate) const HEADER: &str = "Print a line with the names of the fields first
 
 pub(crate) const WORKERS: &str =
     "How many trees are built at once, each in a thread of its own, 1 to 64";
+
+pub(crate) const PART: &str =
+    "I/N: build only each Nth stop of stops.txt, from number I on, which is 0 to N - 1";
 
 pub(crate) const PROGRESS: &str =
     "Report how far the build is, also if standard error is no terminal";

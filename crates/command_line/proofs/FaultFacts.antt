@@ -1,5 +1,5 @@
 -- A fault of a part of the words is one of the whole.
-use Rattle.std.proofs.Common.{◌≡◌, ◌∙◌, List, Option, Some, sym}
+use Rattle.std.proofs.Common.{◌≡◌, ◌∙◌, List, Option, Some}
 use Rattle.jiff.specs.Types.{Date}
 use Rattle.clap.specs.Words.{Row}
 use Rattle.question_lines.specs.declared.question.Question.{Question}

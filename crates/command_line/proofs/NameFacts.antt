@@ -1,5 +1,5 @@
 -- What a command's name says of what its words give.
-use Rattle.std.proofs.Common.{◌≡◌, ◌≢◌, List, codes}
+use Rattle.std.proofs.Common.{◌≢◌, List, codes}
 use Rattle.clap.specs.Words.{Row, Text}
 use Rattle.command_line.specs.Jobs.{IsCommand, IsSearch, IsTask}
 use Rattle.command_line.specs.declared.job.Command.{Command}

@@ -2,7 +2,7 @@
 use Rattle.std.specs.Prelude.{◌≡◌, ◌↔◌, IsTrue, List, Option, None, Some, MatchOption, codes}
 use Rattle.std.specs.Option.{option_map}
 use Rattle.jiff.specs.Types.{Date}
-use Rattle.clap.specs.Words.{Row, Text, first_of}
+use Rattle.clap.specs.Words.{Row, first_of}
 use Rattle.options.specs.Values.{HasFlag, HasText}
 use Rattle.command_line.specs.Days.{IsDate}
 use Rattle.command_line.specs.Formats.{IsPlainStyle, IsStyle}

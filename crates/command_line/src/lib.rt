@@ -1,6 +1,7 @@
 //! The command line of the journey planner's program: from its words to what it is asked to do, with days and times read.
 #![tactic(auto)]
 
+mod asked_part;
 mod asked_workers;
 mod audited;
 mod feed_check;

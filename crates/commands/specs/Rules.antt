@@ -90,6 +90,6 @@ IsTaskDone v style basis k (tasks.Ask question legs) old new found =
     (IsStoredRefusal basis k moment question old new)
 IsTaskDone v style basis k tasks.List old new found = MatchResult found (FindsReport (IsListed basis k old new)) (IsUntold basis k old new)
 IsTaskDone v style basis k (tasks.Audit whose) old new found = IsAuditDone basis k whose old new found
-IsTaskDone v style basis k (tasks.Build workers progress) old new found =
-    MatchResult found (FindsReport (ReportsBuilt (IsBuilt basis k old new))) (IsUnbuilt basis k old new)
+IsTaskDone v style basis k (tasks.Build workers progress part) old new found =
+    MatchResult found (FindsReport (ReportsBuilt (IsBuilt basis part k old new))) (IsUnbuilt basis part k old new)
 IsTaskDone v style basis k (tasks.Migrate path progress) old new found = IsMigrated v basis k path.now old new found

@@ -22,7 +22,7 @@ abbrev pub told_for : Task → Fault → Fault
 told_for (tasks.Ask question legs) fault = fault
 told_for tasks.List fault = fault
 told_for (tasks.Audit whose) fault = fault
-told_for (tasks.Build workers progress) fault = fault
+told_for (tasks.Build workers progress part) fault = fault
 told_for (tasks.Migrate old progress) fault = in_migration New fault
 
 -- there was no file in which the store may be opened, and that is the fault

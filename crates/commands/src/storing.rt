@@ -123,14 +123,18 @@ fn on_disk<'a, S: System>(
             (found_report(report), disk)
         }
         Task::Audit { whose } => audit_on(alloc, system, file, disk, whose),
-        Task::Build { workers, progress } => {
+        Task::Build {
+            workers,
+            progress,
+            part,
+        } => {
             let mut meter = system.meter(*progress);
             let building = Building {
                 basis,
                 rides,
                 workers: *workers,
             };
-            let (report, disk) = build(alloc, system.threads(), &building, disk, &mut meter);
+            let (report, disk) = build(alloc, system.threads(), &building, *part, disk, &mut meter);
             (found_report(report), disk)
         }
         Task::Migrate { old, progress } => migrate_on(alloc, system, file, disk, old, *progress),

@@ -5,12 +5,14 @@ ghost use Rattle.std.specs.Prelude.{◌<◌, ◌≤◌};
 use crate::audience::Audience;
 use crate::gate::Gate;
 use crate::halt::Halt;
+use stop_parts::Part;
 
-/// How many workers build, the gate that is told of each build, the flag that each worker looks at before it claims, and who sees the trees
-/// once they are stored.
+/// The number of the workers, the part of the stops that they build, and the gate that is called before and after each build. Each worker
+/// looks at the flag `stop` before it claims a source. The audience sees each tree once it is stored.
 #[derive(Drop)]
 pub struct Crew<'a, G: Gate> {
     pub workers: usize,
+    pub part: Part,
     pub gate: &'a G,
     pub stop: &'a Halt,
     pub audience: Audience,

@@ -5,6 +5,7 @@ ghost use Rattle.section_store.specs.Sections.{form_of};
 ghost use Rattle.precomputing.specs.Flushed.{Flushed, ShowsTo};
 
 use crate::audience::Audience;
+use crate::parted::Parted;
 use crate::progress::Progress;
 use crate::publishing::Publisher;
 use crate::taking::Taker;
@@ -18,7 +19,7 @@ use std::alloc::Global;
 use std::sync::Wait;
 
 /// Stores trees, and shows them to the audience, until no more come or the device fails. `progress` is told of each that is stored.
-pub(crate) fn flush_desk<D: Disk, B: Basis, R: Wait, P: Progress>(
+pub(crate) fn flush_desk<D: Disk, B: Basis + Parted, R: Wait, P: Progress>(
     rt: &R,
     alloc: Global,
     taker: Taker<'_, B, R>,
@@ -29,7 +30,7 @@ pub(crate) fn flush_desk<D: Disk, B: Basis, R: Wait, P: Progress>(
     requires ready { desk.next ≡ Step.WriteBody }
     requires fresh { (taker.taken.items ≡ []) × (taker.acked.items ≡ []) }
     requires form { form_of B.table B.rides ≡ desk.form }
-    ensures flushed { Flushed D.honest D.state D.failures result.1 desk result.0 }
+    ensures flushed { Flushed B.part D.honest D.state D.failures result.1 desk result.0 }
     ensures shown { ShowsTo audience desk.board result.0.board }
 {
     goes_on();

@@ -1,6 +1,7 @@
 //! Builds the trees that a store lacks.
 
 ghost use Rattle.std.specs.Prelude.{◌≡◌, ◌<◌, ◌≤◌, [], IfOk, length, take, vec_capacity};
+ghost use Rattle.stop_parts.specs.Parts.{whole};
 ghost use Rattle.section_store.specs.Sources.{IsSetOf};
 ghost use Rattle.precomputing.specs.Flushed.{ShowsTo};
 ghost use Rattle.precomputing.specs.Prepared.{IsPrepared};
@@ -10,9 +11,9 @@ use crate::audience::Audience;
 use crate::crew::Crew;
 use crate::gate::Gate;
 use crate::halt::Halt;
-use crate::missing::{has_each, mark, missing_stops};
+use crate::missing::{count_in, has_each, mark, missing_stops, settled_stops};
 use crate::outcome::Outcome;
-use crate::progress::{Progress, Silent};
+use crate::progress::{Counted, Progress, Silent};
 use crate::threads::run_over;
 use disk_model::Disk;
 use flusher::FlushEnd;
@@ -23,14 +24,15 @@ use std::alloc::{AllocError, Global};
 use std::marker::Brand;
 use std::sync::Wait;
 use std::thread::Threads;
+use stop_parts::Part;
 use timetable::StopId;
 use work_ledger::Ledger;
 
 // How many finished trees wait to be stored at most.
 const ROOM: usize = 64;
 
-// What is made before anything is started: the ledger, the set of the stored stops, and room for those that lack a tree at the end. And
-// how many stops there are, and how many trees are stored before.
+// What is made before anything is started: the ledger, which gives out stops of the part, the set of the stored stops, and room for those
+// that lack a tree at the end. And how many stops there are, and how many trees are stored before.
 #[derive(Drop)]
 struct Prepared {
     ledger: Ledger,
@@ -40,11 +42,12 @@ struct Prepared {
     before: usize,
 }
 
-// Makes all that is made before anything is started.
+// Makes the ledger, the set and the room, before any thread starts. In the ledger the stops of other parts count as stored.
 fn prepare<D: Disk>(
     alloc: Global,
     planner: &Planner,
     desk: &Desk<D>,
+    part: Part,
 ) -> Result<Prepared, AllocError>
     requires own { desk.now.form ≡ planner.now.form }
     ensures { IfOk result (IsPrepared desk.now) }
@@ -53,7 +56,9 @@ fn prepare<D: Disk>(
     let stored = desk.stored();
     let room = Vec::with_capacity(alloc, stops)?;
     let set = StopSet::of(alloc, stops, stored)?;
-    let ledger = Ledger::new(alloc, planner.network().shared(), planner.k(), stored, ROOM)?;
+    let settled = settled_stops(alloc, stored, part, stops)?;
+    let network = planner.network();
+    let ledger = Ledger::new(alloc, network.shared(), planner.k(), &settled, ROOM)?;
     Ok(Prepared {
         ledger,
         set,
@@ -63,18 +68,25 @@ fn prepare<D: Disk>(
     })
 }
 
-// What is left, where the set has those that were stored before.
-fn left(set: StopSet, stored: &[StopId], before: usize, stops: usize, room: Vec<StopId>) -> Outcome
+// What is left of the part. The set has the stops whose trees were stored before.
+fn left(
+    set: StopSet,
+    stored: &[StopId],
+    before: usize,
+    part: Part,
+    stops: usize,
+    room: Vec<StopId>,
+) -> Outcome
     requires before { before ≤ length stored.now }
     requires set { IsSetOf stops set (take before stored.now) }
     requires few { stops ≤ 1_000_000 }
     requires bare { room.items ≡ [] }
     requires room { stops ≤ vec_capacity room }
-    ensures { IsLeft stops stored.now result }
+    ensures { IsLeft part stops stored.now result }
 {
     let mut set = set;
     mark(&mut set, stored, before);
-    let missing = missing_stops(&set, stops, room);
+    let missing = missing_stops(&set, part, stops, room);
     if missing.len() == 0 {
         return Outcome::Done;
     }
@@ -94,7 +106,7 @@ fn build<D: Disk + Drop, R: Threads + Wait + Sync, G: Gate + Sync, P: Progress>(
     requires own { desk.form ≡ planner.now.form }
     requires ready { desk.next ≡ Step.WriteBody }
     requires prepared { IsPrepared desk prepared }
-    ensures precomputed { IsPrecomputed D.honest D.state D.failures desk result.0 result.1 }
+    ensures precomputed { IsPrecomputed crew.now.part D.honest D.state D.failures desk result.0 result.1 }
     ensures shown { ShowsTo crew.now.audience desk.board result.0.board }
 {
     let Prepared {
@@ -111,19 +123,19 @@ fn build<D: Disk + Drop, R: Threads + Wait + Sync, G: Gate + Sync, P: Progress>(
         None => (desk, Outcome::NoMemory),
         Some(FlushEnd::DeviceFailed) => (desk, Outcome::DeviceFailed),
         Some(FlushEnd::Drained) => {
-            let outcome = left(set, desk.stored(), before, stops, room);
+            let outcome = left(set, desk.stored(), before, crew.part, stops, room);
             (desk, outcome)
         }
     }
 }
 
-/// Builds the trees that the desk's store lacks, in the crew's threads, while the calling thread stores them. It shows each to the crew's
-/// audience once it is stored. All threads have ended when this returns. The gate is told of each build, by the thread that makes it.
-/// `progress` is told how many are stored as it begins, and after each put, by the calling thread. Once the flag is set no source is
-/// claimed any more, and what is in hand ends.
+/// Builds the trees of the crew's part of the stops that the desk's store lacks, in the crew's threads, while the calling thread stores
+/// them. The crew's audience sees each tree once it is stored. All threads have ended when this returns. The thread that builds a tree calls
+/// the gate. The calling thread gives `progress` the number of the part's stored stops as it begins, and after each put.
+/// Once the flag is set no source is claimed any more, and what is in hand ends.
 ///
-/// If each stop has its tree, nothing is started, and no memory is taken. A source whose tree is too large, or for which memory is refused,
-/// stays missing. A thread that can't be made is left out. After `DeviceFailed` the store has to be opened again.
+/// If each stop of the part has its tree, nothing is started, and no memory is taken. A source whose tree is too large, or for which memory
+/// is refused, stays missing. A thread that can't be made is left out. After `DeviceFailed` the store has to be opened again.
 ///
 /// Of an honest disk: at each moment since, each outcome of a crash stands for a front of the new list that holds the old one; where the
 /// device failed, one source more may be there. What each outcome held each one holds, and a trusted disk stays trusted.
@@ -137,24 +149,30 @@ pub fn precompute_telling<D: Disk + Drop, R: Threads + Wait + Sync, G: Gate + Sy
 ) -> (Desk<D>, Outcome)
     requires own { desk.form ≡ planner.now.form }
     requires ready { desk.next ≡ Step.WriteBody }
-    ensures precomputed { IsPrecomputed D.honest D.state D.failures desk result.0 result.1 }
-    ensures at_once { IsDoneAtOnce desk result.0 result.1 }
+    ensures precomputed { IsPrecomputed crew.now.part D.honest D.state D.failures desk result.0 result.1 }
+    ensures at_once { IsDoneAtOnce crew.now.part desk result.0 result.1 }
     ensures shown { ShowsTo crew.now.audience desk.board result.0.board }
 {
     goes_on();
     let stops = planner.network().timetable().stops();
     let before = desk.stored().len();
+    let of_part = count_in(crew.part, desk.stored());
+    let mut progress = Counted {
+        progress,
+        others: before.saturating_sub(of_part),
+        of: crew.part.among(stops),
+    };
     progress.stored(before, stops);
-    if has_each(&desk, stops) {
+    if has_each(&desk, crew.part, stops) {
         return (desk, Outcome::Done);
     }
-    let Ok(prepared) = prepare(alloc, planner, &desk) else {
+    let Ok(prepared) = prepare(alloc, planner, &desk, crew.part) else {
         return (desk, Outcome::NoMemory);
     };
-    build(alloc, rt, desk, planner, crew, progress, prepared)
+    build(alloc, rt, desk, planner, crew, &mut progress, prepared)
 }
 
-/// The same with `workers` workers, but how many trees are stored is reported to nobody.
+/// The same of all stops, with `workers` workers, but how many trees are stored is reported to nobody.
 pub fn precompute_until<D: Disk + Drop, R: Threads + Wait + Sync, G: Gate + Sync>(
     alloc: Global,
     rt: &R,
@@ -167,11 +185,12 @@ pub fn precompute_until<D: Disk + Drop, R: Threads + Wait + Sync, G: Gate + Sync
     requires own { desk.form ≡ planner.now.form }
     requires workers { (0 < workers) × (workers ≤ 64) }
     requires ready { desk.next ≡ Step.WriteBody }
-    ensures precomputed { IsPrecomputed D.honest D.state D.failures desk result.0 result.1 }
-    ensures at_once { IsDoneAtOnce desk result.0 result.1 }
+    ensures precomputed { IsPrecomputed whole D.honest D.state D.failures desk result.0 result.1 }
+    ensures at_once { IsDoneAtOnce whole desk result.0 result.1 }
 {
     let crew = Crew {
         workers,
+        part: Part::whole(),
         gate,
         stop,
         audience: Audience::Readers,
@@ -191,8 +210,8 @@ pub fn precompute<D: Disk + Drop, R: Threads + Wait + Sync, G: Gate + Sync>(
     requires own { desk.form ≡ planner.now.form }
     requires workers { (0 < workers) × (workers ≤ 64) }
     requires ready { desk.next ≡ Step.WriteBody }
-    ensures precomputed { IsPrecomputed D.honest D.state D.failures desk result.0 result.1 }
-    ensures at_once { IsDoneAtOnce desk result.0 result.1 }
+    ensures precomputed { IsPrecomputed whole D.honest D.state D.failures desk result.0 result.1 }
+    ensures at_once { IsDoneAtOnce whole desk result.0 result.1 }
 {
     let stop = Halt::new();
     precompute_until(alloc, rt, desk, planner, workers, gate, &stop)

@@ -12,6 +12,7 @@ use crate::crew::Crew;
 use crate::flushing::flush_desk;
 use crate::gate::Gate;
 use crate::held::Held;
+use crate::parted::Parted;
 use crate::progress::Progress;
 use crate::taking::Taker;
 use crate::worker::work;
@@ -37,7 +38,7 @@ fn leave_one<B: Basis, R: Wait, G: Gate>(workshop: &Workshop<'_, B, R, G>) {
 // Starts `workers` workers, and stores what they hand in, as the seat says. All of them have ended when this returns. The end is none if
 // no thread could be made; then nothing was done.
 fn run<
-    B: Basis + Send + Sync,
+    B: Basis + Parted + Send + Sync,
     D: Disk + Drop,
     R: Threads + Wait + Sync,
     G: Gate + Sync,
@@ -56,7 +57,7 @@ fn run<
     requires form { form_of B.table B.rides ≡ desk.form }
     ensures flushed { MatchOption result.1
         (result.0 ≡ desk)
-        (λ end. Flushed D.honest D.state D.failures end desk result.0) }
+        (λ end. Flushed B.part D.honest D.state D.failures end desk result.0) }
     ensures shown { ShowsTo audience desk.board result.0.board }
 {
     let rt = workshop.rt;
@@ -69,7 +70,7 @@ fn run<
                 × (taker.acked.items ≡ []) × (form_of B.table B.rides ≡ held.desk.form) }
             ensures { MatchOption result.1
                 (result.0 ≡ held.entry.desk)
-                (λ end. Flushed D.honest D.state D.failures end held.entry.desk result.0)
+                (λ end. Flushed B.part D.honest D.state D.failures end held.entry.desk result.0)
                 × ShowsTo audience held.entry.desk.board result.0.board }
         {
             let mut started = false;
@@ -92,10 +93,10 @@ fn run<
     )
 }
 
-/// Builds trees in the crew's threads, as the ledger gives out their sources, and stores them. No more threads are made than trees are
-/// missing. None if memory is refused or no thread could be made, and then nothing was done.
+/// Builds trees in the crew's threads, as the ledger gives out their sources, and stores those of the crew's part. No more threads are made
+/// than trees may be missing. None if memory is refused or no thread could be made, and then nothing was done.
 pub(crate) fn run_over<
-    B: Basis + Send + Sync,
+    B: Basis + Parted + Send + Sync,
     D: Disk + Drop,
     R: Threads + Wait + Sync,
     G: Gate + Sync,
@@ -112,23 +113,25 @@ pub(crate) fn run_over<
     requires table { ledger.table ≡ B.table }
     requires rides { ledger.rides ≡ B.rides }
     requires form { form_of B.table B.rides ≡ desk.form }
+    requires part { crew.now.part ≡ B.part }
     requires own { planner.now.form ≡ form_of B.table B.rides }
     requires ready { desk.next ≡ Step.WriteBody }
     ensures flushed { MatchOption result.1
         (result.0 ≡ desk)
-        (λ end. Flushed D.honest D.state D.failures end desk result.0) }
+        (λ end. Flushed B.part D.honest D.state D.failures end desk result.0) }
     ensures shown { ShowsTo crew.now.audience desk.board result.0.board }
 {
     let stops = ledger.timetable().stops();
     let missing = stops.saturating_sub(desk.stored().len());
-    let workers = crew.workers.min(missing.max(1));
+    let most = missing.min(crew.part.among(stops));
+    let workers = crew.workers.min(most.max(1));
     let Ok((shared, mut seats)) = Shared::<B>::open(alloc, ledger, workers + 1) else {
         return (desk, None);
     };
     let Some(seat) = seats.pop() else {
         return (desk, None);
     };
-    let Ok(taker) = Taker::new(alloc, rt, &shared, &seat, stops) else {
+    let Ok(taker) = Taker::new(alloc, rt, &shared, &seat, crew.part, stops) else {
         return (desk, None);
     };
     let seats = Mutex::new(seats);

@@ -1,6 +1,8 @@
 -- What a build leaves of a store.
 use Rattle.std.proofs.Common.{◌≡◌, ◌≤◌, ◌⊎◌, ◌↔◌, ◌++◌, ℕ, List, [], length, append-nil, arith, refl, sym, ◌∙◌, ap, subst, inl, inr, Result, Ok, Err, OnOk, IfOk, IfErr, MatchResult}
 use Rattle.std.proofs.lemmas.List.{append_assoc, length-append}
+use Rattle.std.proofs.lemmas.List.Elements.{All-nil}
+use Rattle.stop_parts.specs.Parts.{IsOf, Share}
 use Rattle.disk_model.specs.Disk.{State}
 use Rattle.timetable.specs.Table.{stops_of}
 use Rattle.pattern_tree.specs.Content.{Content}
@@ -24,7 +26,7 @@ use Rattle.faults.specs.declared.fault.Fault.TheVariants as faults
 use Rattle.answer_lines.specs.declared.report.Built.{Built}
 use Rattle.answer_lines.specs.declared.report.Report.{Report}
 use Rattle.feed_basis.specs.Basis.{BasisData}
-use Rattle.store_building.specs.Builds.{CountsLeft, CountsStored, IsBuilding, IsBuilt, IsEndOf, IsReportOf, IsStopped, IsWhole, ReportsBuilt}
+use Rattle.store_building.specs.Builds.{AddsOf, CountsLeft, CountsStored, IsBuilding, IsBuilt, IsEndOf, IsReportOf, IsStopped, IsWhole, ReportsBuilt}
 use Rattle.store_terms.specs.Stores.{OnlyFailing, form_over}
 use Rattle.store_terms.proofs.OpeningFacts.{memory_fails}
 
@@ -53,11 +55,11 @@ pub record Laws : Type 0 where
   pub loses : LosesNothingInTurn
 
 -- a store that is opened, and goes on from there
-is_building : Laws → (form : Form) (old mid new : State) (place : ℕ) (before list begun : List ℕ)
+is_building : Laws → (part : Share) (form : Form) (old mid new : State) (place : ℕ) (before list begun : List ℕ)
     → IsOpening form old mid → StandsForSources form before old.read → IsKept form place before mid
-    → IsPrefix before list → length begun ≤ 1 → GoesOn form before (list ++ begun) mid new → HoldsAll form list new
-    → IsBuilding form old new before list (list ++ begun)
-is_building laws form old mid new place before list begun opening stood kept adds few goes held = record {
+    → IsPrefix before list → AddsOf part before (list ++ begun) → length begun ≤ 1 → GoesOn form before (list ++ begun) mid new → HoldsAll form list new
+    → IsBuilding part form old new before list (list ++ begun)
+is_building laws part form old mid new place before list begun opening stood kept adds own few goes held = record {
   stood = stood;
   life = laws.life form old mid new place before (list ++ begun) opening stood kept
       (adds.0 ++ begun, sym (append_assoc before adds.0 begun) ∙ ap (λ (l : List ℕ). l ++ begun) adds.1) goes;
@@ -65,6 +67,7 @@ is_building laws form old mid new place before list begun opening stood kept add
   trusts = laws.trust form old mid new opening.trusts goes.trusts;
   adds = adds;
   done = (begun, refl);
+  own = own;
   few = (let e = length-append list begun in omega (arith, e, few));
   held = held;
 }
@@ -77,78 +80,86 @@ pub record Opens {D : Type 0} (honest : D → Type 0) (state : D → State) (for
   pub sound : IsSound honest state first
 
 -- what is said of a build that was opened at the first desk, and stopped at the last
-abbrev pub Stopped : {D : Type 0} → (D → State) → Form → State → DeskView D → DeskView D → List ℕ → Type 0
-Stopped state form old first last begun = IsBuilding form old (state last.disk) first.stored last.stored (last.stored ++ begun)
+abbrev pub Stopped : {D : Type 0} → Share → (D → State) → Form → State → DeskView D → DeskView D → List ℕ → Type 0
+Stopped part state form old first last begun = IsBuilding part form old (state last.disk) first.stored last.stored (last.stored ++ begun)
 
-module _ {D : Type 0} (honest : D → Type 0) (state : D → State) (failures : D → ℕ) (laws : Laws) (form : Form) (old : State)
+module _ {D : Type 0} (part : Share) (honest : D → Type 0) (state : D → State) (failures : D → ℕ) (laws : Laws) (form : Form) (old : State)
     (first last : DeskView D) where
-  flushed : (end : FlushEnd) → Opens honest state form old first → (f : Flushed honest state failures end first last) → Stopped state form old first last f.begun
+  flushed : (end : FlushEnd) → Opens honest state form old first → (f : Flushed part honest state failures end first last) → Stopped part state form old first last f.begun
   flushed end o f =
-      is_building laws form old (state first.disk) (state last.disk) first.place first.stored last.stored f.begun o.opening o.stood
+      is_building laws part form old (state first.disk) (state last.disk) first.place first.stored last.stored f.begun o.opening o.stood
       (subst (λ (x : Form). IsKept x first.place first.stored (state first.disk)) o.same o.sound.kept)
-      (f.added, sym f.stored) f.few
+      (f.added, sym f.stored)
+      (record {
+        more = f.added ++ f.begun;
+        is = ap (λ (l : List ℕ). l ++ f.begun) f.stored ∙ append_assoc first.stored f.added f.begun;
+        own = f.own;
+      })
+      f.few
       (subst (λ (x : Form). GoesOn x first.stored (last.stored ++ f.begun) (state first.disk) (state last.disk)) o.same (f.goes o.sound))
       (subst (λ (x : Form). HoldsAll x last.stored (state last.disk)) o.same (f.held o.sound))
 
-  untouched : Opens honest state form old first → last ≡ first → Stopped state form old first last []
+  untouched : Opens honest state form old first → last ≡ first → Stopped part state form old first last []
   untouched o is =
-      is_building laws form old (state first.disk) (state last.disk) first.place first.stored last.stored [] o.opening o.stood
+      is_building laws part form old (state first.disk) (state last.disk) first.place first.stored last.stored [] o.opening o.stood
       (subst (λ (x : Form). IsKept x first.place first.stored (state first.disk)) o.same o.sound.kept)
-      ([], append-nil first.stored ∙ sym (ap (λ (d : DeskView D). d.stored) is)) (omega arith)
+      ([], append-nil first.stored ∙ sym (ap (λ (d : DeskView D). d.stored) is))
+      (record { more = []; is = ap (λ (d : DeskView D). d.stored ++ []) is; own = All-nil (IsOf part) })
+      (omega arith)
       (laws.nothing form first.stored (last.stored ++ []) (state first.disk) (state last.disk) (ap (λ (d : DeskView D). state d.disk) is))
       (subst (λ (d : DeskView D). HoldsAll form d.stored (state d.disk)) (sym is)
       (laws.held form first.place first.stored (state first.disk)
       (subst (λ (x : Form). IsKept x first.place first.stored (state first.disk)) o.same o.sound.kept)))
 
   -- however a build comes to its end
-  pub stopped : (outcome : Outcome) → Opens honest state form old first → IsPrecomputed honest state failures first last outcome → (begun : List ℕ) × Stopped state form old first last begun
+  pub stopped : (outcome : Outcome) → Opens honest state form old first → IsPrecomputed part honest state failures first last outcome → (begun : List ℕ) × Stopped part state form old first last begun
   stopped outcomes.Done o p = (p.0.begun, flushed Drained o p.0)
   stopped (outcomes.Partial missing) o p = (p.0.begun, flushed Drained o p.0)
   stopped outcomes.DeviceFailed o p = (p.begun, flushed DeviceFailed o p)
   stopped outcomes.NoMemory o p = ([], untouched o p)
 
-  drained : Opens honest state form old first → (f : Flushed honest state failures Drained first last)
-      → IsBuilding form old (state last.disk) first.stored last.stored last.stored × StandsForSources form last.stored (state last.disk).read
+  drained : Opens honest state form old first → (f : Flushed part honest state failures Drained first last)
+      → IsBuilding part form old (state last.disk) first.stored last.stored last.stored × StandsForSources form last.stored (state last.disk).read
   drained o f = (
-    subst (λ storing. IsBuilding form old (state last.disk) first.stored last.stored storing) (append-nil last.stored)
-        (subst (Stopped state form old first last) (f.none refl) (flushed Drained o f)),
+    subst (λ storing. IsBuilding part form old (state last.disk) first.stored last.stored storing) (append-nil last.stored)
+        (subst (Stopped part state form old first last) (f.none refl) (flushed Drained o f)),
     subst (λ (x : Form). StandsForSources x last.stored (state last.disk).read) (f.form ∙ o.same)
         (kept_stands last.form last.place last.stored (state last.disk) (f.sound o.sound refl).kept),
   )
 
   -- a build that came to its end has begun nothing that isn't acknowledged, and the file stands for its list
-  pub whole : (outcome : Outcome) → IsWhole outcome → Opens honest state form old first → IsPrecomputed honest state failures first last outcome
-      → IsBuilding form old (state last.disk) first.stored last.stored last.stored × StandsForSources form last.stored (state last.disk).read
+  pub whole : (outcome : Outcome) → IsWhole outcome → Opens honest state form old first → IsPrecomputed part honest state failures first last outcome
+      → IsBuilding part form old (state last.disk) first.stored last.stored last.stored × StandsForSources form last.stored (state last.disk).read
   whole outcomes.Done is o p = drained o p.0
   whole (outcomes.Partial missing) is o p = drained o p.0
   whole outcomes.DeviceFailed is o p = absurd is
   whole outcomes.NoMemory is o p = absurd is
 
-module _ {D : Type 0} (honest : D → Type 0) (state : D → State) (failures : D → ℕ) (first last : DeskView D) where
-  pub stays_honest : (outcome : Outcome) → IsPrecomputed honest state failures first last outcome → honest first.disk ↔ honest last.disk
+module _ {D : Type 0} (part : Share) (honest : D → Type 0) (state : D → State) (failures : D → ℕ) (first last : DeskView D) where
+  pub stays_honest : (outcome : Outcome) → IsPrecomputed part honest state failures first last outcome → honest first.disk ↔ honest last.disk
   stays_honest outcomes.Done p = p.0.still_honest
   stays_honest (outcomes.Partial missing) p = p.0.still_honest
   stays_honest outcomes.DeviceFailed p = p.still_honest
   stays_honest outcomes.NoMemory p = subst (λ (d : DeskView D). honest first.disk ↔ honest d.disk) (sym p) (λ h. h, λ h. h)
 
-  same_form : (outcome : Outcome) → IsPrecomputed honest state failures first last outcome → last.form ≡ first.form
+  same_form : (outcome : Outcome) → IsPrecomputed part honest state failures first last outcome → last.form ≡ first.form
   same_form outcomes.Done p = p.0.form
   same_form (outcomes.Partial missing) p = p.0.form
   same_form outcomes.DeviceFailed p = p.form
   same_form outcomes.NoMemory p = ap (λ (d : DeskView D). d.form) p
 
-  left : (outcome : Outcome) → IsPrecomputed honest state failures first last outcome
-      → CountsLeft (stops_of last.form.table) last.stored outcome
+  left : (outcome : Outcome) → IsPrecomputed part honest state failures first last outcome
+      → CountsLeft part (stops_of last.form.table) last.stored outcome
   left outcomes.Done p = p.1
   left (outcomes.Partial missing) p = p.1.0
   left outcomes.DeviceFailed p = tt
   left outcomes.NoMemory p = tt
 
   -- what is left is told of the stops of that form
-  pub left_of : (form : Form) (outcome : Outcome) → first.form ≡ form → IsPrecomputed honest state failures first last outcome
-      → CountsLeft (stops_of form.table) last.stored outcome
+  pub left_of : (form : Form) (outcome : Outcome) → first.form ≡ form → IsPrecomputed part honest state failures first last outcome
+      → CountsLeft part (stops_of form.table) last.stored outcome
   left_of form outcome same p =
-      subst (λ (x : Form). CountsLeft (stops_of x.table) last.stored outcome) (same_form outcome p ∙ same) (left outcome p)
+      subst (λ (x : Form). CountsLeft part (stops_of x.table) last.stored outcome) (same_form outcome p ∙ same) (left outcome p)
 
   -- want of memory tells of no failed call
   of_memory : (fault : Fault) → fault ≡ faults.Memory → OnlyFailing (failures first.disk) (failures last.disk) fault
@@ -156,7 +167,7 @@ module _ {D : Type 0} (honest : D → Type 0) (state : D → State) (failures : 
       subst (OnlyFailing (failures first.disk) (failures last.disk)) (sym is) (memory_fails (failures first.disk) (failures last.disk))
 
   -- a build without a report tells of a failed call only where one failed
-  pub end_fails : (outcome : Outcome) (fault : Fault) → IsEndOf outcome fault → IsPrecomputed honest state failures first last outcome
+  pub end_fails : (outcome : Outcome) (fault : Fault) → IsEndOf outcome fault → IsPrecomputed part honest state failures first last outcome
       → OnlyFailing (failures first.disk) (failures last.disk) fault
   end_fails outcomes.Done fault is p = of_memory fault is
   end_fails (outcomes.Partial missing) fault is p = of_memory fault is
@@ -192,17 +203,17 @@ refused (Ok built) report Q is h = subst (λ (r : Result Report Fault). IfErr r 
 refused (Err fault) report Q is h = subst (λ (r : Result Report Fault). IfErr r Q) (sym is) h
 
 -- what a report says of the build, which came to its end or was stopped
-pub came : {D : Type 0} (honest : D → Type 0) (state : D → State) (failures : D → ℕ) (laws : Laws) (basis : BasisData) (k : ℕ) (old : State)
+pub came : {D : Type 0} (part : Share) (honest : D → Type 0) (state : D → State) (failures : D → ℕ) (laws : Laws) (basis : BasisData) (k : ℕ) (old : State)
     (first last : DeskView D) (outcome : Outcome) (report : Result Built Fault) → Opens honest state (form_over basis k) old first
-    → IsPrecomputed honest state failures first last outcome → OnOk report (IsWhole outcome) → IfOk report (CountsStored basis last.stored)
-    → IfErr report (IsEndOf outcome) → MatchResult report (IsBuilt basis k old (state last.disk)) (IsStopped basis k old (state last.disk))
-came honest state failures laws basis k old first last outcome report opens p is_whole counts ended =
+    → IsPrecomputed part honest state failures first last outcome → OnOk report (IsWhole outcome) → IfOk report (CountsStored basis part last.stored)
+    → IfErr report (IsEndOf outcome) → MatchResult report (IsBuilt basis part k old (state last.disk)) (IsStopped basis part k old (state last.disk))
+came part honest state failures laws basis k old first last outcome report opens p is_whole counts ended =
     let form = form_over basis k in
-    let went = stopped honest state failures laws form old first last outcome opens p in
-    matched report (IsWhole outcome) (CountsStored basis last.stored) (IsBuilt basis k old (state last.disk)) (IsEndOf outcome)
-    (IsStopped basis k old (state last.disk)) is_whole counts ended
+    let went = stopped part honest state failures laws form old first last outcome opens p in
+    matched report (IsWhole outcome) (CountsStored basis part last.stored) (IsBuilt basis part k old (state last.disk)) (IsEndOf outcome)
+    (IsStopped basis part k old (state last.disk)) is_whole counts ended
     (λ is report told.
-    let w = whole honest state failures laws form old first last outcome is opens p in
+    let w = whole part honest state failures laws form old first last outcome is opens p in
     record { before = first.stored; list = last.stored; building = w.0; stands = w.1; told = told })
     (λ fault is. record {
       before = first.stored;

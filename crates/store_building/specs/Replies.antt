@@ -2,6 +2,7 @@
 use Rattle.std.specs.Prelude.{ℕ, Bool, List, Option, IfSome, MatchResult}
 use Rattle.std.specs.List.{All, AllZip}
 use Rattle.disk_model.specs.Disk.{State}
+use Rattle.stop_parts.specs.Parts.{whole}
 use Rattle.pattern_tree.specs.Content.{Content}
 use Rattle.section_store.specs.Lasting.{IsTrusted, IsExact}
 use Rattle.section_store.specs.Sections.{Form, Stands}
@@ -35,5 +36,5 @@ pub record AreReplied (basis : BasisData) (k : ℕ) (tells : Telling) (wanted : 
 -- The lines are replied to while a build goes on, which came to its end or was stopped.
 pub record IsServing (basis : BasisData) (k : ℕ) (tells : Telling) (wanted : Bool) (old new : State) (input before after : Option (List ℕ))
     (served : Served) : Type 0 where
-  pub built : MatchResult served.built (IsBuilt basis k old new) (IsStopped basis k old new)
+  pub built : MatchResult served.built (IsBuilt basis whole k old new) (IsStopped basis whole k old new)
   pub replied : IfSome input (λ bytes. AreReplied basis k tells wanted old bytes before after served.end)

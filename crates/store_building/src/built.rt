@@ -12,13 +12,14 @@ use command_line::Workers;
 use disk_model::Disk;
 use faults::Fault;
 use feed_basis::Basis;
-use precomputing::{Audience, Crew, Free, Halt, Outcome, Progress, precompute_telling};
+use precomputing::{Audience, Crew, Free, Halt, Outcome, Progress, count_in, precompute_telling};
 use recovery::laws::opening_goes_on;
 use section_store::going_laws::goes_on;
 use section_store::laws::loses_nothing_in_turn;
 use std::alloc::{AllocError, Global};
 use std::sync::Wait;
 use std::thread::Threads;
+use stop_parts::Part;
 use store_terms::ids;
 use timetable::{Rides, StopId};
 
@@ -30,33 +31,35 @@ pub struct Building<'a> {
     pub workers: Workers,
 }
 
-// What is said if these stops are stored, and those are missing.
+// What is said of a part if these stops are stored, and those of the part are missing.
 fn counted<'a>(
     alloc: Global,
     basis: &'a Basis,
+    part: Part,
     stored: &[StopId],
     missing: &[StopId],
 ) -> Result<Built<'a>, AllocError>
-    requires { missing.now ≡ missing_of (stops_of basis.now.timetable) stored.now }
-    ensures { IfOk result (CountsStored basis.now stored.now) }
+    requires { missing.now ≡ missing_of part (stops_of basis.now.timetable) stored.now }
+    ensures { IfOk result (CountsStored basis.now part stored.now) }
 {
     Ok(Built {
-        stored: stored.len(),
-        of: basis.timetable().stops(),
+        stored: count_in(part, stored),
+        of: part.among(basis.timetable().stops()),
         missing: ids(alloc, basis, missing)?,
     })
 }
 
-/// What came of a build, as the program reports it.
+/// What came of the build of a part, as the program reports it.
 pub fn told<'a>(
     alloc: Global,
     basis: &'a Basis,
+    part: Part,
     stored: &[StopId],
     outcome: &Outcome,
 ) -> Result<Built<'a>, Fault<'a>>
-    requires { CountsLeft (stops_of basis.now.timetable) stored.now outcome.now }
+    requires { CountsLeft part (stops_of basis.now.timetable) stored.now outcome.now }
     ensures whole { OnOk result (IsWhole outcome.now) }
-    ensures counts { IfOk result (CountsStored basis.now stored.now) }
+    ensures counts { IfOk result (CountsStored basis.now part stored.now) }
     ensures ended { IfErr result (IsEndOf outcome.now) }
 {
     let missing: &[StopId] = match outcome {
@@ -65,7 +68,7 @@ pub fn told<'a>(
         Outcome::DeviceFailed => return Err(Fault::PutFailed),
         Outcome::NoMemory => return Err(Fault::Memory),
     };
-    match counted(alloc, basis, stored, missing) {
+    match counted(alloc, basis, part, stored, missing) {
         Ok(built) => Ok(built),
         Err(_) => Err(Fault::Memory),
     }
@@ -81,10 +84,10 @@ fn report_of<'a>(built: Result<Built<'a>, Fault<'a>>) -> Result<Report<'a>, Faul
     }
 }
 
-/// Stores the trees that the file of the disk lacks: workers build them in threads, and the calling thread stores each as it is handed in.
-/// It reports how many the file has then, and the stops without one. The file is recovered, and a fresh one begun. No tree is kept in
-/// memory once it is stored. The build reports to `progress` how far it is. The disk comes back. A stop is left without its tree if that is
-/// too large, or memory is refused for it.
+/// Stores the trees of a part of the stops that the file of the disk lacks: workers build them in threads, and the calling thread stores
+/// each as it is handed in. It reports how many of the part the file has then, and the part's stops without one. The file is recovered, and
+/// a fresh one begun. No tree is kept in memory once it is stored. The build reports to `progress` how far it is. The disk comes back. A
+/// stop is left without its tree if that is too large, or memory is refused for it.
 ///
 /// Of an honest disk, whatever the order of the workers' steps: stopped before, within or after any call, the file stands for a list that
 /// begins with the old one, and has each tree whose storing was done; the same build again goes on from there.
@@ -92,12 +95,13 @@ pub fn build<'a, D: Disk + Drop, T: Threads + Wait + Sync, P: Progress>(
     alloc: Global,
     rt: &T,
     building: &Building<'a>,
+    part: Part,
     disk: D,
     progress: &mut P,
 ) -> (Result<Report<'a>, Fault<'a>>, D)
     ensures built { D.honest disk → MatchResult result.0
-        (ReportsBuilt (IsBuilt building.now.basis.now building.now.rides (D.state disk) (D.state result.1)))
-        (IsUnbuilt building.now.basis.now building.now.rides (D.state disk) (D.state result.1)) }
+        (ReportsBuilt (IsBuilt building.now.basis.now part building.now.rides (D.state disk) (D.state result.1)))
+        (IsUnbuilt building.now.basis.now part building.now.rides (D.state disk) (D.state result.1)) }
     ensures device { IfErr result.0 (OnlyFailing (D.failures disk) (D.failures result.1)) }
     ensures honest { D.honest disk ↔ D.honest result.1 }
 {
@@ -116,12 +120,13 @@ pub fn build<'a, D: Disk + Drop, T: Threads + Wait + Sync, P: Progress>(
     let stop = Halt::new();
     let crew = Crew {
         workers: usize::from(workers.number),
+        part,
         gate: &Free,
         stop: &stop,
         audience: Audience::Nobody,
     };
     let (desk, outcome) = precompute_telling(alloc, rt, desk, &planner, &crew, progress);
     progress.ended();
-    let built = told(alloc, basis, desk.stored(), &outcome);
+    let built = told(alloc, basis, part, desk.stored(), &outcome);
     (report_of(built), desk.into_disk(rt))
 }

@@ -22,6 +22,7 @@ use std::alloc::Global;
 use std::io::{BufRead, Write};
 use std::sync::Wait;
 use std::thread::Threads;
+use stop_parts::Part;
 
 /// What came of the questions of an input, and of the build beside them.
 #[derive(Debug, Drop)]
@@ -135,6 +136,6 @@ pub fn serve<
     let (desk, outcome, (out, end)) = precompute_while(
         alloc, rt, desk, &planner, workers, &Free, serving,
     );
-    let built = told(alloc, basis, desk.stored(), &outcome);
+    let built = told(alloc, basis, Part::whole(), desk.stored(), &outcome);
     (Ok(Served { end, built }), desk.into_disk(rt), out)
 }

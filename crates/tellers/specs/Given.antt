@@ -22,7 +22,7 @@ abbrev pub task_places : Task → Option Places
 task_places (tasks.Ask question legs) = Some (places_of question)
 task_places tasks.List = None
 task_places (tasks.Audit whose) = None
-task_places (tasks.Build workers progress) = None
+task_places (tasks.Build workers progress part) = None
 task_places (tasks.Migrate old progress) = None
 
 abbrev pub search_places : Search → Option Places

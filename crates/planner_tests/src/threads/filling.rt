@@ -13,6 +13,7 @@ use std::sync::atomic::{AtomicU64, Ordering};
 use std::test::Fail;
 use std::thread;
 use std::thread::Threads;
+use stop_parts::Part;
 use timetable::StopId;
 
 // One tree is stored, 64 wait, and each of the two workers has one more.
@@ -85,6 +86,7 @@ fn fills<R: Threads + Wait + Sync>(rt: &R, alloc: Global, basis: &Basis) -> bool
     let stop = Halt::new();
     let crew = Crew {
         workers: 2,
+        part: Part::whole(),
         gate: &count,
         stop: &stop,
         audience: Audience::Readers,

@@ -34,7 +34,8 @@ returns-in-Build-clause-found g c = λ honest.
     let k = c.args.file.now.rides in
     let old = g.S.Store.Disk.state c.args.disk in
     let new = g.S.Store.Disk.state c.build-report.result.1 in
-    rw c.in-Build.is (report_found c.build-report.result.0 c.found_report-in-Build.result (ReportsBuilt (IsBuilt basis k old new)) (IsUnbuilt basis k old new)
+    let part = c.in-Build.part in
+    rw c.in-Build.is (report_found c.build-report.result.0 c.found_report-in-Build.result (ReportsBuilt (IsBuilt basis part k old new)) (IsUnbuilt basis part k old new)
     c.found_report-in-Build.ensures (c.build-report.ensures.built honest))
 
 pub returns-in-Audit-clause-found : goal.returns-in-Audit-clause-found

@@ -12,6 +12,9 @@ run_over-desk-requires-clause-table g c κs within = refl
 pub run_over-desk-requires-clause-rides : goal.run_over-desk-requires-clause-rides
 run_over-desk-requires-clause-rides g c κs within = refl
 
+pub run_over-desk-requires-clause-part : goal.run_over-desk-requires-clause-part
+run_over-desk-requires-clause-part g c κs within = refl
+
 pub run_over-desk-requires-clause-form : goal.run_over-desk-requires-clause-form
 run_over-desk-requires-clause-form g c κs within = c.requires.prepared.ledger
 
@@ -25,7 +28,7 @@ pub returns-in-None-clause-precomputed : goal.returns-in-None-clause-precomputed
 returns-in-None-clause-precomputed g c =
     let desk = c.args.desk in
     let new = c.run_over-desk.result.0 in
-    subst (λ (o : Option FlushEnd). MatchOption o (new ≡ desk) (λ end. Flushed g.D.Disk.honest g.D.Disk.state g.D.Disk.failures end desk new))
+    subst (λ (o : Option FlushEnd). MatchOption o (new ≡ desk) (λ end. Flushed c.args.crew.now.part g.D.Disk.honest g.D.Disk.state g.D.Disk.failures end desk new))
     c.in-None.is c.run_over-desk.ensures.flushed
 
 pub returns-in-None-clause-shown : goal.returns-in-None-clause-shown
@@ -38,8 +41,8 @@ pub left-outcome-requires-clause-before : goal.left-outcome-requires-clause-befo
 left-outcome-requires-clause-before g c =
     let desk = c.args.desk in
     let new = c.run_over-desk.result.0 in
-    let flushed : Flushed g.D.Disk.honest g.D.Disk.state g.D.Disk.failures c.in-Some-Drained.field-0 desk new =
-    subst (λ (o : Option FlushEnd). MatchOption o (new ≡ desk) (λ end. Flushed g.D.Disk.honest g.D.Disk.state g.D.Disk.failures end desk new))
+    let flushed : Flushed c.args.crew.now.part g.D.Disk.honest g.D.Disk.state g.D.Disk.failures c.in-Some-Drained.field-0 desk new =
+    subst (λ (o : Option FlushEnd). MatchOption o (new ≡ desk) (λ end. Flushed c.args.crew.now.part g.D.Disk.honest g.D.Disk.state g.D.Disk.failures end desk new))
     c.in-Some-Drained.is c.run_over-desk.ensures.flushed in
     let long = ap (λ (l : List ℕ). length l) (c.stored.ensures.stored ∙ flushed.stored) in
     let parts = length-append desk.stored flushed.added in
@@ -61,8 +64,8 @@ left-outcome-requires-clause-set g c =
     let new = c.run_over-desk.result.0 in
     let set = c.args.prepared.set in
     let now : List ℕ = c.stored.result.now in
-    let flushed : Flushed g.D.Disk.honest g.D.Disk.state g.D.Disk.failures c.in-Some-Drained.field-0 desk new =
-    subst (λ (o : Option FlushEnd). MatchOption o (new ≡ desk) (λ end. Flushed g.D.Disk.honest g.D.Disk.state g.D.Disk.failures end desk new))
+    let flushed : Flushed c.args.crew.now.part g.D.Disk.honest g.D.Disk.state g.D.Disk.failures c.in-Some-Drained.field-0 desk new =
+    subst (λ (o : Option FlushEnd). MatchOption o (new ≡ desk) (λ end. Flushed c.args.crew.now.part g.D.Disk.honest g.D.Disk.state g.D.Disk.failures end desk new))
     c.in-Some-Drained.is c.run_over-desk.ensures.flushed in
     let front : take c.args.prepared.before now ≡ desk.stored =
     ap (λ n. take n now) c.requires.prepared.before

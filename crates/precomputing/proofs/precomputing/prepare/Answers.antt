@@ -22,7 +22,7 @@ returns g c =
     ∙ ap (λ (t : Table). stops_of t) (c.timetable.ensures.value ∙ c.network.ensures ∙ ap (λ (f : Form). f.table) (sym c.requires.own)) in
     record {
       ledger =
-          ap₂ (λ (t : Table) (k : ℕ). form_of t k) (c.in_ok-ledger.ensures.table ∙ c.shared.ensures ∙ c.network-2.ensures) c.in_ok-ledger.ensures.rides
+          ap₂ (λ (t : Table) (k : ℕ). form_of t k) (c.in_ok-ledger.ensures.table ∙ c.shared.ensures ∙ c.network-network.ensures) c.in_ok-ledger.ensures.rides
           ∙ c.k.ensures.own ∙ sym c.requires.own;
       set =
           subst (λ (n : ℕ). IsSetOf n c.in_ok-set.set desk.stored) stops

@@ -36,21 +36,21 @@ returns-clause-built g c = λ honest.
     } in
     let opens : Opens g.D.Disk.honest state (form_over basis k) old first =
     record { same = e.form; opening = e.moments honest; stood = e.stood honest; sound = e.sound honest } in
-    let counts = subst (λ (l : List ℕ). IfOk c.told-built.result (CountsStored basis l)) c.stored.ensures.stored c.told-built.ensures.counts in
-    reported c.told-built.result c.report_of.result (IsBuilt basis k old (state c.into_disk.result)) (IsUnbuilt basis k old (state c.into_disk.result))
+    let counts = subst (λ (l : List ℕ). IfOk c.told-built.result (CountsStored basis c.args.part l)) c.stored.ensures.stored c.told-built.ensures.counts in
+    reported c.told-built.result c.report_of.result (IsBuilt basis c.args.part k old (state c.into_disk.result)) (IsUnbuilt basis c.args.part k old (state c.into_disk.result))
     c.report_of.ensures
-    (subst (λ d. MatchResult c.told-built.result (IsBuilt basis k old (state d)) (IsUnbuilt basis k old (state d))) (sym c.into_disk.ensures)
-    (weaker c.told-built.result (IsBuilt basis k old (state last.disk)) (IsStopped basis k old (state last.disk)) (IsUnbuilt basis k old (state last.disk))
+    (subst (λ d. MatchResult c.told-built.result (IsBuilt basis c.args.part k old (state d)) (IsUnbuilt basis c.args.part k old (state d))) (sym c.into_disk.ensures)
+    (weaker c.told-built.result (IsBuilt basis c.args.part k old (state last.disk)) (IsStopped basis c.args.part k old (state last.disk)) (IsUnbuilt basis c.args.part k old (state last.disk))
     (λ fault h. inr h)
-    (came g.D.Disk.honest state g.D.Disk.failures laws basis k old first last outcome c.told-built.result opens p
+    (came c.args.part g.D.Disk.honest state g.D.Disk.failures laws basis k old first last outcome c.told-built.result opens p
     c.told-built.ensures.whole counts c.told-built.ensures.ended)))
 
 pub told-built-requires : goal.told-built-requires
 told-built-requires g c =
     let last = c.precompute_telling-desk.result.0 in
     let outcome = c.precompute_telling-desk.result.1 in
-    subst (λ (l : List ℕ). CountsLeft (stops_of c.args.building.now.basis.now.timetable) l outcome) (sym c.stored.ensures.stored)
-    (left_of g.D.Disk.honest g.D.Disk.state g.D.Disk.failures c.in-Ok.opened.1 last (form_over c.args.building.now.basis.now c.args.building.now.rides) outcome
+    subst (λ (l : List ℕ). CountsLeft c.args.part (stops_of c.args.building.now.basis.now.timetable) l outcome) (sym c.stored.ensures.stored)
+    (left_of c.args.part g.D.Disk.honest g.D.Disk.state g.D.Disk.failures c.in-Ok.opened.1 last (form_over c.args.building.now.basis.now c.args.building.now.rides) outcome
     c.in-Ok.ensures.form c.precompute_telling-desk.ensures.precomputed)
 
 pub returns-clause-device : goal.returns-clause-device
@@ -63,7 +63,7 @@ returns-clause-device g c =
     (subst (λ d. IfErr c.told-built.result (OnlyFailing (failures c.args.disk) (failures d))) (sym c.into_disk.ensures)
     (subst (λ n. IfErr c.told-built.result (OnlyFailing n (failures last.disk))) c.in-Ok.ensures.device
     (of_refusal c.told-built.result (IsEndOf outcome) (OnlyFailing (failures first.disk) (failures last.disk))
-    (λ fault is. end_fails g.D.Disk.honest g.D.Disk.state failures first last outcome fault is c.precompute_telling-desk.ensures.precomputed)
+    (λ fault is. end_fails c.args.part g.D.Disk.honest g.D.Disk.state failures first last outcome fault is c.precompute_telling-desk.ensures.precomputed)
     c.told-built.ensures.ended)))
 
 pub returns-clause-honest : goal.returns-clause-honest
@@ -72,5 +72,5 @@ returns-clause-honest g c =
     let first = c.in-Ok.opened.1 in
     let last = c.precompute_telling-desk.result.0 in
     let opened = c.in-Ok.ensures.honest in
-    let stays = stays_honest honest g.D.Disk.state g.D.Disk.failures first last c.precompute_telling-desk.result.1 c.precompute_telling-desk.ensures.precomputed in
+    let stays = stays_honest c.args.part honest g.D.Disk.state g.D.Disk.failures first last c.precompute_telling-desk.result.1 c.precompute_telling-desk.ensures.precomputed in
     subst (λ d. honest c.args.disk ↔ honest d) (sym c.into_disk.ensures) (λ h. stays.0 (opened.0 h), λ h. opened.1 (stays.1 h))

@@ -7,4 +7,4 @@ use Rattle.store_building.proofs.built.counted.Goals as goal
 pub ids-requires : goal.ids-requires
 ids-requires c =
     let stops = stops_of c.args.basis.now.timetable in
-    subst (λ (l : List ℕ). All (λ s. s < stops) l) (sym c.requires) (missing_known stops c.args.stored.now)
+    subst (λ (l : List ℕ). All (λ s. s < stops) l) (sym c.requires) (missing_known c.args.part stops c.args.stored.now)

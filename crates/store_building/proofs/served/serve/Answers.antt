@@ -1,5 +1,6 @@
 use Rattle.std.proofs.Common.{◌↔◌, List, ℕ, sym, subst, IfOk, IfErr, MatchResult}
 use Rattle.timetable.specs.Table.{stops_of}
+use Rattle.stop_parts.specs.Parts.{Share, whole}
 use Rattle.store_building.specs.Builds.{CountsLeft, CountsStored, IsBuilt, IsEndOf, IsStopped}
 use Rattle.store_terms.specs.Stores.{OnlyFailing, form_over}
 use Rattle.store_building.proofs.BuildFacts.{Laws, Opens, came, end_fails, left_of, stays_honest}
@@ -36,10 +37,11 @@ returns-clause-served g c = λ honest.
     } in
     let opens : Opens g.D.Disk.honest state (form_over basis k) old first =
     record { same = e.form; opening = e.moments honest; stood = e.stood honest; sound = e.sound honest } in
-    let counts = subst (λ (l : List ℕ). IfOk c.told-built.result (CountsStored basis l)) c.stored.ensures.stored c.told-built.ensures.counts in
+    let counts = subst (λ (l : List ℕ). IfOk c.told-built.result (CountsStored basis whole l)) c.stored.ensures.stored
+    (subst (λ (p : Share). IfOk c.told-built.result (CountsStored basis p c.stored.result.now)) c.whole.ensures c.told-built.ensures.counts) in
     record {
-      built = subst (λ d. MatchResult c.told-built.result (IsBuilt basis k old (state d)) (IsStopped basis k old (state d))) (sym c.into_disk.ensures)
-          (came g.D.Disk.honest state g.D.Disk.failures laws basis k old first last outcome c.told-built.result opens
+      built = subst (λ d. MatchResult c.told-built.result (IsBuilt basis whole k old (state d)) (IsStopped basis whole k old (state d))) (sym c.into_disk.ensures)
+          (came whole g.D.Disk.honest state g.D.Disk.failures laws basis k old first last outcome c.told-built.result opens
           c.precompute_while-desk.ensures.precomputed c.told-built.ensures.whole counts c.told-built.ensures.ended);
       replied = replied basis k _ _ old _ _ _ c.precompute_while-desk.result.2.1 c.in-Ok.opened.reader c.in-Ok.opened.planner e.planner (e.reader honest)
           c.precompute_while-desk.ensures.gave;
@@ -49,9 +51,10 @@ pub told-built-requires : goal.told-built-requires
 told-built-requires g c =
     let last = c.precompute_while-desk.result.0 in
     let outcome = c.precompute_while-desk.result.1 in
-    subst (λ (l : List ℕ). CountsLeft (stops_of c.args.building.now.basis.now.timetable) l outcome) (sym c.stored.ensures.stored)
-    (left_of g.D.Disk.honest g.D.Disk.state g.D.Disk.failures c.in-Ok.opened.desk last (form_over c.args.building.now.basis.now c.args.building.now.rides) outcome
-    c.in-Ok.ensures.form c.precompute_while-desk.ensures.precomputed)
+    subst (λ (p : Share). CountsLeft p (stops_of c.args.building.now.basis.now.timetable) c.stored.result.now outcome) (sym c.whole.ensures)
+    (subst (λ (l : List ℕ). CountsLeft whole (stops_of c.args.building.now.basis.now.timetable) l outcome) (sym c.stored.ensures.stored)
+    (left_of whole g.D.Disk.honest g.D.Disk.state g.D.Disk.failures c.in-Ok.opened.desk last (form_over c.args.building.now.basis.now c.args.building.now.rides) outcome
+    c.in-Ok.ensures.form c.precompute_while-desk.ensures.precomputed))
 
 pub returns-clause-device : goal.returns-clause-device
 returns-clause-device g c =
@@ -62,7 +65,7 @@ returns-clause-device g c =
     subst (λ d. IfErr c.told-built.result (OnlyFailing (failures c.args.disk) (failures d))) (sym c.into_disk.ensures)
     (subst (λ n. IfErr c.told-built.result (OnlyFailing n (failures last.disk))) c.in-Ok.ensures.device
     (of_refusal c.told-built.result (IsEndOf outcome) (OnlyFailing (failures first.disk) (failures last.disk))
-    (λ fault is. end_fails g.D.Disk.honest g.D.Disk.state failures first last outcome fault is c.precompute_while-desk.ensures.precomputed)
+    (λ fault is. end_fails whole g.D.Disk.honest g.D.Disk.state failures first last outcome fault is c.precompute_while-desk.ensures.precomputed)
     c.told-built.ensures.ended))
 
 pub returns-clause-honest : goal.returns-clause-honest
@@ -71,5 +74,5 @@ returns-clause-honest g c =
     let first = c.in-Ok.opened.desk in
     let last = c.precompute_while-desk.result.0 in
     let opened = c.in-Ok.ensures.honest in
-    let stays = stays_honest honest g.D.Disk.state g.D.Disk.failures first last c.precompute_while-desk.result.1 c.precompute_while-desk.ensures.precomputed in
+    let stays = stays_honest whole honest g.D.Disk.state g.D.Disk.failures first last c.precompute_while-desk.result.1 c.precompute_while-desk.ensures.precomputed in
     subst (λ d. honest c.args.disk ↔ honest d) (sym c.into_disk.ensures) (λ h. stays.0 (opened.0 h), λ h. opened.1 (stays.1 h))
