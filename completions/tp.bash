@@ -33,7 +33,7 @@ _tp() {
         *)
             case $command in
                 "") choices="check stops direct scan build list ask serve audit migrate faults help --help --version" ;;
-                check) choices="--feed --date --format --help" ;;
+                check) choices="--feed --date --all --format --help" ;;
                 stops) choices="--feed --all --header --format --help" ;;
                 direct) choices="--feed --date --from --to --at --format --days --zone --rides --default-walk --help" ;;
                 scan) choices="--feed --date --from --to --at --legs --names --format --days --zone --rides --default-walk --help" ;;

@@ -2,7 +2,7 @@
 
 complete -c tp -f
 
-complete -c tp -n __fish_use_subcommand -a check -d 'What the feed has, or its first fault'
+complete -c tp -n __fish_use_subcommand -a check -d 'What the feed has, or its faults'
 complete -c tp -n __fish_use_subcommand -a stops -d 'The stops whose id or name contains a text'
 complete -c tp -n __fish_use_subcommand -a direct -d 'The soonest arrival by one ride'
 complete -c tp -n __fish_use_subcommand -a scan -d 'The best journeys between two stops'
@@ -38,4 +38,4 @@ complete -c tp -n '__fish_seen_subcommand_from scan ask' -l legs -d 'Print rides
 complete -c tp -n '__fish_seen_subcommand_from scan ask' -l names -d 'Print names, for people'
 complete -c tp -n '__fish_seen_subcommand_from check stops direct scan build list ask serve' -l format -xa 'lines json geojson' -d 'The format of the answer'
 complete -c tp -n '__fish_seen_subcommand_from stops' -l header -d 'Print the names of the fields first'
-complete -c tp -n '__fish_seen_subcommand_from stops audit' -l all -d 'Print all stops, or audit all stored trees'
+complete -c tp -n '__fish_seen_subcommand_from check stops audit' -l all -d 'List all faults, print all stops, or audit all trees'

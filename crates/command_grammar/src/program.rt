@@ -11,10 +11,11 @@ ghost use Rattle.command_grammar.specs.Made.{IsMade, IsProgram};
 
 use crate::texts::{
     ABOUT, ALL, ASK, ASK_MORE, ASK_USAGE, AT, AUDIT, AUDIT_ALL, AUDIT_MORE, AUDIT_PROGRESS,
-    AUDIT_USAGE, AUDITED, AUDITORS, BUILD, BUILD_MORE, CHECK, CHECK_MORE, DIRECT, DIRECT_MORE,
-    FAULT_TABLE, FAULTS, FEED, FORMAT, FROM, HEADER, LEGS, LIST, LIST_MORE, MIGRATE, MIGRATE_MORE,
-    MIGRATE_PROGRESS, MORE, NAMES, NEW_STORE, OLD_STORE, ON, PART, PLAIN_FORMAT, PROGRESS, SCAN,
-    SCAN_MORE, SERVE, SERVE_MORE, STOPS, STOPS_MORE, STORE, TEXT, TO, VERSION, WEEK, WORKERS,
+    AUDIT_USAGE, AUDITED, AUDITORS, BUILD, BUILD_MORE, CHECK, CHECK_ALL, CHECK_MORE, DIRECT,
+    DIRECT_MORE, FAULT_TABLE, FAULTS, FEED, FORMAT, FROM, HEADER, LEGS, LIST, LIST_MORE, MIGRATE,
+    MIGRATE_MORE, MIGRATE_PROGRESS, MORE, NAMES, NEW_STORE, OLD_STORE, ON, PART, PLAIN_FORMAT,
+    PROGRESS, SCAN, SCAN_MORE, SERVE, SERVE_MORE, STOPS, STOPS_MORE, STORE, TEXT, TO, VERSION, WEEK,
+    WORKERS,
 };
 use clap::builder::ValueParser;
 use clap::{Arg, ArgMatches, Command, Error};
@@ -57,6 +58,7 @@ fn check<'a>(alloc: Global) -> Result<Command<'a>, Error>
     let command = named(alloc, "check", CHECK);
     let command = with(command, required(alloc, "feed", "DIR", FEED));
     let command = with(command, optional(alloc, "date", "YYYYMMDD", WEEK));
+    let command = with(command, flag(alloc, "all", CHECK_ALL));
     let command = with(command, optional(alloc, "format", "FORMAT", PLAIN_FORMAT));
     ending(command, CHECK_MORE)
 }

@@ -55,7 +55,7 @@ for them, 4 the store is at fault, 5 an audit found a difference, 6 the question
 unknown stop, a day that isn't covered, a tree that isn't stored), 7 out of memory, 8 standard output
 refused a write.";
 
-pub(crate) const CHECK: &str = "Prints what a feed has, or its first fault";
+pub(crate) const CHECK: &str = "Prints what a feed has, or its first fault, or all its faults";
 
 pub(crate) const CHECK_MORE: &str = "\
 Prints how many stops, stations, services, trips, calls, transfers and frequencies the feed has, and
@@ -64,8 +64,12 @@ optional file that isn't there, and `unread NAME` for what else is in the folder
 that can't be listed. If the feed is at fault, only its first fault is reported. A service counts if
 a trip names it. Of the days it prints the first and the last day of service, and how many trips run
 on each of seven days: those around --date, or else the first ones from the first day of service on.
+With --all it lists all faults of the feed on standard output, the first 1,000 of them, and `more N`
+for the others.
 
 Example: tp check --feed demo/feed-m";
+
+pub(crate) const CHECK_ALL: &str = "List all faults of the feed, not the first only";
 
 pub(crate) const WEEK: &str =
     "The day around which trips are counted, three days before it and after it";

@@ -12,6 +12,7 @@ use Rattle.command_line.specs.declared.stop_search.StopSearch.{StopSearch}
 -- the words of a check, whatever date they say
 pub record HasCheckWords (rows : List Row) (check : FeedCheck) : Type 0 where
   pub feed : HasText rows (codes "feed") check.feed.now
+  pub all : IsTrue check.all ↔ HasFlag rows (codes "all")
   pub style : IsPlainStyle rows check.style
 
 -- the date that the words name, if they name one

@@ -10,7 +10,7 @@ use crate::unread::{Unread, Word};
 use clap::ArgMatches;
 use gtfs_text::date;
 use jiff::civil::Date;
-use options::text_of;
+use options::{flag_of, text_of};
 
 /// A check of a feed as a whole.
 #[derive(Clone, Copy, Debug, PartialEq, Eq)]
@@ -19,6 +19,8 @@ pub struct FeedCheck<'a> {
     pub feed: &'a str,
     /// The date around which the trips of a day are counted: from the first day of service on, if there is none.
     pub date: Option<Date>,
+    /// Whether all faults of the feed are listed, not the first only.
+    pub all: bool,
     /// How the result is printed: as lines, or as JSON.
     pub style: Style,
 }
@@ -34,10 +36,12 @@ pub(crate) fn check_of<'a>(found: &ArgMatches<'a>) -> Result<FeedCheck<'a>, Unre
     let Some(style) = plain_style_of(found) else {
         return Err(Unread::Shown(2));
     };
+    let all = flag_of(found, "all");
     let Some(text) = text_of(found, "date") else {
         return Ok(FeedCheck {
             feed,
             date: None,
+            all,
             style,
         });
     };
@@ -45,6 +49,7 @@ pub(crate) fn check_of<'a>(found: &ArgMatches<'a>) -> Result<FeedCheck<'a>, Unre
         Some(day) => Ok(FeedCheck {
             feed,
             date: Some(day),
+            all,
             style,
         }),
         None => Err(Unread::BadDate(

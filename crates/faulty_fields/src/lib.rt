@@ -5,4 +5,4 @@ mod columns;
 mod forms;
 mod reading;
 
-pub use reading::{Field, fields_at, missing_columns};
+pub use reading::{Field, fields_at, fields_of_all, missing_columns};

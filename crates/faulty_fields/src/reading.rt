@@ -123,6 +123,82 @@ pub fn fields_at<R: Read + Drop>(
     fields_of(alloc, fault, &header, &row)
 }
 
+// The rows of faults, each with its fault's place among them, in the order of rows.
+fn rows_in_order(alloc: Global, faults: &[FeedFault]) -> Result<Vec<(usize, usize)>, AllocError> {
+    let mut rows = Vec::new(alloc);
+    for (place, fault) in faults.iter().enumerate() {
+        rows.push((fault.row, place))?;
+    }
+    rows.sort_unstable();
+    Ok(rows)
+}
+
+// Reads on from a row to another. False if there is no such row.
+fn read_on<R: Read + Drop>(
+    reader: &mut Reader<R>,
+    record: &mut StringRecord,
+    from: usize,
+    to: usize,
+) -> Result<bool, AllocError> {
+    for _ in from..to {
+        if !next(reader, record)? {
+            return Ok(false);
+        }
+    }
+    Ok(true)
+}
+
+// An empty list of fields for each fault.
+fn none_yet(alloc: Global, faults: &[FeedFault]) -> Result<Vec<Vec<Field>>, AllocError> {
+    let mut found = Vec::new(alloc);
+    for _ in faults {
+        found.push(Vec::new(alloc))?;
+    }
+    Ok(found)
+}
+
+// Puts the fields of the fault at a place.
+fn put_fields(
+    alloc: Global,
+    found: &mut Vec<Vec<Field>>,
+    faults: &[FeedFault],
+    place: usize,
+    header: &StringRecord,
+    row: &StringRecord,
+) -> Result<(), AllocError> {
+    if let (Some(slot), Some(fault)) = (found.get_mut(place), faults.get(place)) {
+        *slot = fields_of(alloc, fault, header, row)?;
+    }
+    Ok(())
+}
+
+/// The fields of a file that each of these faults of it is about, in the order of the faults, each as `fields_at` gives them. The file is
+/// read once. It holds one record at a time, and fails only if memory runs out.
+pub fn fields_of_all<R: Read + Drop>(
+    alloc: Global,
+    source: R,
+    faults: &[FeedFault],
+) -> Result<Vec<Vec<Field>>, AllocError> {
+    let mut found = none_yet(alloc, faults)?;
+    let mut reader = records(alloc, source);
+    let mut header = StringRecord::new(alloc);
+    let mut record = StringRecord::new(alloc);
+    if !next(&mut reader, &mut header)? {
+        return Ok(found);
+    }
+    let mut passed = 0;
+    for (row, place) in rows_in_order(alloc, faults)? {
+        if !read_on(&mut reader, &mut record, passed, row)? {
+            return Ok(found);
+        }
+        passed = row;
+        if row > 0 {
+            put_fields(alloc, &mut found, faults, place, &header, &record)?;
+        }
+    }
+    Ok(found)
+}
+
 /// The columns that a file must have and its header lacks, by the file's bytes. It fails only if memory runs out.
 pub fn missing_columns<R: Read + Drop>(
     alloc: Global,

@@ -95,14 +95,51 @@ fn write_members(out: &mut JsonWriter, fault: &FaultText<'_>) {
     write_stops(out, &fault.stops);
 }
 
+// Writes a fault.
+fn write_object(out: &mut JsonWriter, fault: &FaultText<'_>) {
+    out.begin_object();
+    write_members(out, fault);
+    out.end_object();
+}
+
 // Writes a fault under its name.
 fn write_fault(out: &mut JsonWriter, fault: &FaultText<'_>) {
     out.begin_object();
     out.name("fault");
-    out.begin_object();
-    write_members(out, fault);
+    write_object(out, fault);
     out.end_object();
-    out.end_object();
+}
+
+/// Faults of a feed, written one after the other as an object of JSON.
+#[derive(Drop)]
+pub struct FaultListWriter {
+    out: JsonWriter,
+}
+
+impl FaultListWriter {
+    /// A list without a fault, for the command of that name.
+    pub fn new(alloc: Global, command: &str) -> FaultListWriter {
+        let mut out = JsonWriter::new(alloc);
+        out.begin_object();
+        out.member("command", &command);
+        out.name("faults");
+        out.begin_list();
+        FaultListWriter { out }
+    }
+
+    /// Writes the next fault.
+    pub fn fault(&mut self, fault: &FaultText<'_>) {
+        write_object(&mut self.out, fault);
+    }
+
+    /// The object, on one line, without a line's end. There are `more` faults that weren't written. It fails only if memory ran out.
+    pub fn into_text(self, more: usize) -> Result<String, AllocError> {
+        let mut out = self.out;
+        out.end_list();
+        out.member("more", &more);
+        out.end_object();
+        out.into_text()
+    }
 }
 
 /// A fault as an object of JSON, on one line, without a line's end. It fails only if memory runs out.

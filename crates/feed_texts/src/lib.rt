@@ -6,7 +6,7 @@ mod feed;
 mod stop_list;
 mod stop_map;
 
-pub use fault::{FaultText, GivenText, NamedStop, fault_text_json};
+pub use fault::{FaultListWriter, FaultText, GivenText, NamedStop, fault_text_json};
 pub use feed::{FeedText, feed_json};
 pub use stop_list::{BuildCount, ListedStop, StopList, stop_list_json};
 pub use stop_map::stop_list_geojson;

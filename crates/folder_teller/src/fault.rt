@@ -33,16 +33,16 @@ fn words_of(shown: &str) -> (Option<&str>, &str) {
     }
 }
 
-// The name of the feed's file that is at fault.
-fn file_of(fault: &Fault<'_>) -> Option<&'static str> {
+/// The name of the feed's file that is at fault.
+pub(crate) fn file_of(fault: &Fault<'_>) -> Option<&'static str> {
     match fault {
         Fault::Feed(fault) => Some(file_name(fault.file)),
         _ => None,
     }
 }
 
-// The row of the feed's file that is at fault.
-fn row_of(fault: &Fault<'_>) -> Option<usize> {
+/// The row of the feed's file that is at fault.
+pub(crate) fn row_of(fault: &Fault<'_>) -> Option<usize> {
     match fault {
         Fault::Feed(fault) => Some(fault.row),
         _ => None,
@@ -77,8 +77,8 @@ fn end_meant(places: &Option<Places<'_>>, fault: &Fault<'_>) -> Option<&'static 
     }
 }
 
-// What a fault says by itself, if it is shown so.
-fn text_of<'a>(shown: &'a str, status: u8) -> FaultText<'a> {
+/// What a fault says by itself, if it is shown so.
+pub(crate) fn text_of<'a>(shown: &'a str, status: u8) -> FaultText<'a> {
     let (code, name) = words_of(shown);
     FaultText {
         code,

@@ -46,8 +46,12 @@ fn zone_hint(alloc: Global, zone: &str) -> Result<String, AllocError> {
     )
 }
 
-// The line of a folder that isn't there, or is a file.
-fn folder_hint(rt: &HostRuntime, alloc: Global, folder: &str) -> Result<String, AllocError> {
+/// The line of a folder that isn't there, or is a file.
+pub(crate) fn folder_hint(
+    rt: &HostRuntime,
+    alloc: Global,
+    folder: &str,
+) -> Result<String, AllocError> {
     match fs::metadata(rt, folder) {
         Ok(found) if found.is_dir() => Ok(String::new(alloc)),
         Ok(_) => format!(in alloc;

@@ -4,11 +4,13 @@
 mod fault;
 mod found;
 mod hints;
+mod listed;
 mod meant;
 mod parts;
 mod replies;
 mod teller;
 mod texts;
 
+pub use listed::FaultParts;
 pub use replies::Lookup;
 pub use teller::FolderTeller;

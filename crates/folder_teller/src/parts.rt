@@ -2,7 +2,7 @@
 
 use command_line::Word;
 use faults::{Fault, file_name};
-use faulty_fields::{fields_at, missing_columns};
+use faulty_fields::{Field, fields_at, missing_columns};
 use feed_texts::GivenText;
 use gtfs_tables::{FaultKind, FeedFault, FeedFile};
 use service_days::DayFault;
@@ -48,8 +48,8 @@ impl Part {
     }
 }
 
-// A file of the folder; none if it can't be opened.
-fn opened(
+/// A file of the folder; none if it can't be opened.
+pub(crate) fn opened(
     rt: &HostRuntime,
     alloc: Global,
     folder: &str,
@@ -65,8 +65,8 @@ fn opened(
     }
 }
 
-// Adds the columns that a file must have and lacks.
-fn add_missing(
+/// Adds the columns that a file must have and lacks.
+pub(crate) fn add_missing(
     alloc: Global,
     file: File,
     name: FeedFile,
@@ -81,14 +81,13 @@ fn add_missing(
     Ok(())
 }
 
-// Adds the fields that a fault of a row is about.
-fn add_fields(
+/// Adds the fields that a fault of a row is about.
+pub(crate) fn add_fields(
     alloc: Global,
-    file: File,
-    fault: &FeedFault,
+    fields: Vec<Field>,
     parts: &mut Vec<Part>,
 ) -> Result<(), AllocError> {
-    for field in fields_at(alloc, file, fault)? {
+    for field in fields {
         parts.push(Part {
             name: String::from_str(alloc, field.column)?,
             text: Some(field.text),
@@ -112,7 +111,7 @@ fn add_of_feed(
         Some(file) if fault.kind == FaultKind::MissingColumn => {
             add_missing(alloc, file, fault.file, parts)
         }
-        Some(file) => add_fields(alloc, file, fault, parts),
+        Some(file) => add_fields(alloc, fields_at(alloc, file, fault)?, parts),
         None => Ok(()),
     }
 }

@@ -5,12 +5,14 @@ ghost use Rattle.tellers.specs.Tellings.{any_text};
 use crate::fault::fault_json;
 use crate::found::{feed_text, found_text, listed_by_ids};
 use crate::hints::hint;
+use crate::listed::{FaultParts, hint_at, list_json, parts_of_all};
 use crate::replies::{Lookup, MEMORY_REFUSED, reply_text};
 use crate::texts::{asked_by, line, stops_text, told_text};
 use answer_lines::{Answer, Report};
 use command_line::{Format, Plan, StopSearch};
 use faults::Fault;
 use feed_basis::Basis;
+use feed_faults::FaultList;
 use feed_names::open_names;
 use feed_report::FeedReport;
 use feed_texts::{BuildCount, ListedStop, StopList};
@@ -93,6 +95,8 @@ impl<'r> FolderTeller<'r> {
 impl Teller for FolderTeller<'_> {
     type Lookup = Lookup;
 
+    type Places = FaultParts;
+
     ghost telling = { any_text };
 
     fn answer(
@@ -142,6 +146,37 @@ impl Teller for FolderTeller<'_> {
         report: &FeedReport,
     ) -> Result<String, AllocError> {
         feed_text(alloc, report)
+    }
+
+    // There is no map of a feed as a whole, so each format is JSON here.
+    fn fault_list(
+        &self,
+        alloc: Global,
+        _format: Format,
+        folder: &str,
+        list: &FaultList,
+    ) -> Result<String, AllocError> {
+        line(list_json(self.rt, alloc, folder, list)?)
+    }
+
+    fn places(
+        &self,
+        alloc: Global,
+        folder: &str,
+        faults: &[FeedFault],
+    ) -> Result<FaultParts, AllocError> {
+        parts_of_all(self.rt, alloc, folder, faults)
+    }
+
+    fn place_hint(
+        &self,
+        alloc: Global,
+        places: &FaultParts,
+        at: usize,
+        _given: &Given<'_>,
+        _fault: &Fault<'_>,
+    ) -> Option<String> {
+        hint_at(alloc, places, at).ok()
     }
 
     fn stops(&self, alloc: Global, search: &StopSearch<'_>) -> Result<String, Fault<'static>> {

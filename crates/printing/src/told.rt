@@ -5,6 +5,7 @@ ghost use Rattle.printing.specs.Told.{told_status, told_text};
 
 use answer_lines::{Answer, Report};
 use command_grammar::FAULT_TABLE;
+use fault_report::FaultReport;
 use feed_report::FeedReport;
 use std::fmt;
 
@@ -13,6 +14,8 @@ use std::fmt;
 pub enum Told<'a> {
     /// What a feed has.
     Feed(FeedReport),
+    /// All faults of a feed.
+    FeedFaults(FaultReport),
     /// An answer to a question.
     Answer(Answer),
     /// What a store has, or what came of a build.
@@ -31,6 +34,7 @@ impl Told<'_> {
         match self {
             Told::Report(report) => report.status(),
             Told::Text { status, .. } => *status,
+            Told::FeedFaults(_) => 1,
             Told::Feed(_) | Told::Answer(_) | Told::Faults => 0,
         }
     }
@@ -42,6 +46,7 @@ impl fmt::Display for Told<'_> {
     fn fmt<W: fmt::Write>(&self, f: &mut fmt::Formatter<W>) -> fmt::Result {
         match self {
             Told::Feed(report) => write!(f, "{report}"),
+            Told::FeedFaults(report) => write!(f, "{report}"),
             Told::Answer(answer) => writeln!(f, "{answer}"),
             Told::Report(report) => write!(f, "{report}"),
             Told::Faults => writeln!(f, "{FAULT_TABLE}"),

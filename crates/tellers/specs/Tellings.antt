@@ -8,18 +8,20 @@ use Rattle.command_line.specs.declared.format.Style.TheVariants as styles
 use Rattle.command_line.specs.declared.stop_search.StopSearch.{StopSearch}
 use Rattle.feed_basis.specs.Basis.{BasisData}
 use Rattle.feed_report.specs.declared.report.FeedReport.{FeedReport}
+use Rattle.feed_faults.specs.declared.list.FaultList.{FaultList}
 use Rattle.gtfs_rows.specs.declared.fault.FeedFault.{FeedFault}
 use Rattle.faults.specs.declared.fault.Fault.{Fault}
 use Rattle.faults.specs.declared.fault.Fault.TheVariants as faults
 use Rattle.serving.specs.Tellings.{Telling as ReplyTelling, line_telling}
 use Rattle.tellers.specs.declared.given.Given.{Given}
 
--- Which texts may tell an answer, a report, what a feed has, a reply or a fault in a format; which may list the stops that are searched
--- for, and which lines may be added to those of a fault.
+-- Which texts may tell an answer, a report, what a feed has, all its faults, a reply or a fault in a format; which may list the stops that
+-- are searched for, and which lines may be added to those of a fault.
 pub record Telling : Type 1 where
   pub tells : Format → BasisData → Answer → List ℕ → Type 0
   pub reports : Format → Report → List ℕ → Type 0
   pub feeds : Format → FeedReport → List ℕ → Type 0
+  pub lists : Format → FaultList → List ℕ → Type 0
   pub finds : StopSearch → List ℕ → Type 0
   pub replies : Format → BasisData → ReplyTelling
   pub faults : Format → Given → Fault → List ℕ → Type 0
@@ -31,6 +33,7 @@ any_text = record {
   tells = λ _ _ _ _. Unit {0};
   reports = λ _ _ _. Unit {0};
   feeds = λ _ _ _. Unit {0};
+  lists = λ _ _ _. Unit {0};
   finds = λ _ _. Unit {0};
   replies = λ _ _ _ _ _. Unit {0};
   faults = λ _ _ _ _. Unit {0};

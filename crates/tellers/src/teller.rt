@@ -12,7 +12,9 @@ use answer_lines::{Answer, Report};
 use command_line::{Format, Plan, StopSearch, Style};
 use faults::Fault;
 use feed_basis::Basis;
+use feed_faults::FaultList;
 use feed_report::FeedReport;
+use gtfs_rows::FeedFault;
 use question_lines::Question;
 use serving::Reply;
 use std::alloc::{AllocError, Global};
@@ -23,6 +25,9 @@ use std::alloc::{AllocError, Global};
 pub trait Teller: Copy {
     /// What names and times of replies are looked up in.
     type Lookup: Drop;
+
+    /// What the files of a feed have at the places of its faults.
+    type Places: Drop;
 
     /// Which texts may be made.
     ghost telling: { Telling };
@@ -58,6 +63,37 @@ pub trait Teller: Copy {
         report: &FeedReport,
     ) -> Result<String, AllocError>
         ensures { IfOk result (λ text. telling.feeds format report.now (string_bytes text)) };
+
+    /// The text in a format of all faults of the feed in a folder. It fails only if memory runs out.
+    fn fault_list(
+        &self,
+        alloc: Global,
+        format: Format,
+        folder: &str,
+        list: &FaultList,
+    ) -> Result<String, AllocError>
+        ensures { IfOk result (λ text. telling.lists format list.now (string_bytes text)) };
+
+    /// What the files of the feed in a folder have at the places of these faults, looked up once for all of them. It fails only if memory
+    /// runs out.
+    fn places(
+        &self,
+        alloc: Global,
+        folder: &str,
+        faults: &[FeedFault],
+    ) -> Result<Self::Places, AllocError>;
+
+    /// Lines that are added to those of a fault, as `hint` gives them, by the places of faults of which this is the one at `at`, from 0.
+    /// None if there is nothing to add.
+    fn place_hint(
+        &self,
+        alloc: Global,
+        places: &Self::Places,
+        at: usize,
+        given: &Given<'_>,
+        fault: &Fault<'_>,
+    ) -> Option<String>
+        ensures { IfSome result (λ text. telling.hints given.now fault.now (string_bytes text)) };
 
     /// The text of the stops and stations that are searched for. A fault is of the feed, or want of memory.
     fn stops(&self, alloc: Global, search: &StopSearch<'_>) -> Result<String, Fault<'static>>

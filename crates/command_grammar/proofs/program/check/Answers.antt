@@ -3,9 +3,11 @@ use Rattle.command_grammar.proofs.program.check.Goals as goal
 pub returns : goal.returns
 returns c =
     c.ending.ensures _ (
+    c.with-command-4.ensures _ _ (
     c.with-command-3.ensures _ _ (
     c.with-command-2.ensures _ _ (
     c.with-command.ensures _ _ c.named-command.ensures c.required.ensures.rule c.required.ensures.local
     ) c.optional.ensures.rule c.optional.ensures.local
+    ) c.flag.ensures.rule c.flag.ensures.local
     ) c.optional-2.ensures.rule c.optional-2.ensures.local
     )

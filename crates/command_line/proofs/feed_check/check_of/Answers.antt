@@ -11,6 +11,7 @@ returns-in-Some-date-clause-check c =
     let named = sym c.text_of-2.ensures ∙ ap (option_map (λ text. text.now)) c.in-Some-text_of.is in (
       record {
         feed = sym c.text_of.ensures ∙ ap (option_map (λ text. text.now)) c.in-Some.is;
+        all = c.flag_of-all.ensures;
         style = c.in-Some-plain_style_of.ensures.style;
       },
       subst (λ read. IfSome read (λ day. IsNamedDate rows (Some day))) c.in-Some-date.is
@@ -21,9 +22,10 @@ pub returns-in-None-clause-fault : goal.returns-in-None-clause-fault
 returns-in-None-clause-fault c =
     let named = sym c.text_of-2.ensures ∙ ap (option_map (λ text. text.now)) c.in-Some-text_of.is in
     record {
-      check = record { feed = c.in-Some.feed; date = None; style = c.in-Some-plain_style_of.style };
+      check = record { feed = c.in-Some.feed; date = None; all = c.flag_of-all.result; style = c.in-Some-plain_style_of.style };
       outline = record {
         feed = sym c.text_of.ensures ∙ ap (option_map (λ text. text.now)) c.in-Some.is;
+        all = c.flag_of-all.ensures;
         style = c.in-Some-plain_style_of.ensures.style;
       };
       told = refl;
