@@ -1,19 +1,19 @@
 -- The faults of files, one after the other.
 use Rattle.std.proofs.Common.{◌≡◌, ◌∙◌, sym, ap, refl, cond, ℕ, Bool, true, false, ◌⊎◌, inl, inr, List, [], ◌∷◌, ◌++◌, Option, None, Some}
-use Rattle.std.specs.Prelude.{is_none, is_some, option_and_then, option_to_list, ◌||◌}
+use Rattle.std.specs.Prelude.{is_none, is_some, option_and_then, option_to_list, ◌||◌, IfOk, Result}
 use Rattle.gtfs_text.specs.Sheets.{Table}
 use Rattle.gtfs_rows.specs.declared.fault.FeedFault.{FeedFault}
 use Rattle.gtfs_rows.specs.declared.fault.FeedFile.{FeedFile}
-use Rattle.gtfs_rows.specs.Faults.{fault_at, first_fault, test}
+use Rattle.gtfs_rows.specs.Faults.{fault_at, first_fault}
 use Rattle.gtfs_rows.specs.declared.fault.FaultKind.TheVariants as kinds
 use Rattle.gtfs_rows.specs.declared.fault.FeedFile.TheVariants as files
 use Rattle.gtfs_rows.specs.Rows.{IsContent, opening_tests, table_in}
-use Rattle.feed_faults.specs.Lists.{Adds}
+use Rattle.file_faults.specs.Lists.{Adds}
 use Rattle.feed_faults.specs.Files.{file_faults, known_in, optional_faults, services_faults}
-use Rattle.feed_faults.specs.Opened.{IsOpened, sheet_faults}
-use Rattle.feed_faults.specs.Tables.{calendar_dates_faults, calendar_faults, or_else}
-use Rattle.feed_faults.specs.declared.list.FaultList.{FaultList}
-use Rattle.feed_faults.proofs.ListFacts.{adds-is, adds-then, adds-unread}
+use Rattle.feed_faults.specs.Opened.{IsOpened, IsOpenedIfThere, sheet_faults}
+use Rattle.file_faults.specs.Tables.{calendar_dates_faults, calendar_faults, or_else}
+use Rattle.file_faults.specs.declared.list.FaultList.{FaultList}
+use Rattle.file_faults.proofs.ListFacts.{adds-is, adds-none, adds-then, adds-unread}
 
 -- a reader that failed is not forgotten
 pub unread-stays : (b c : FaultList) (xs : List FeedFault) → b.unread ≡ true → Adds b c xs → c.unread ≡ true
@@ -51,13 +51,22 @@ known-opened {X} a b file known bytes None opened = elim opened.1 [
     nothing None h = absurd (cc h)
     nothing (Some f) h = refl
 
--- a file that may be missing, and is there
-pub optional-file : {R : Type 0} (remaining : R → Option (List ℕ)) (reader : Option R) (bytes : Option (List ℕ)) (file : FeedFile) (faults : Table → List FeedFault)
-    → IsContent remaining reader bytes → is_some reader ≡ true → file_faults file faults bytes ≡ optional_faults file faults bytes
-optional-file remaining (Some r) (Some b) file faults content there = refl
-optional-file remaining (Some r) None file faults content there = absurd content
-optional-file remaining None (Some b) file faults content there = absurd content
-optional-file remaining None None file faults content there = absurd (cc there)
+-- the same of a file that may be missing
+pub optional-added : {a b c : FaultList} (file : FeedFile) (faults : Table → List FeedFault) (bytes : Option (List ℕ)) (sheet : Option Table)
+    → IsOpenedIfThere file bytes a b sheet → Adds b c (sheet_faults faults sheet) → Adds a c (optional_faults file faults bytes)
+optional-added file faults None sheet opened added = adds-then opened.0 (adds-is (ap (sheet_faults faults) opened.1) added)
+optional-added file faults (Some bytes) sheet opened added = file-added file faults (Some bytes) sheet opened added
+
+-- whose reader is there, or isn't
+pub opened-there : {R E : Type 0} (remaining : R → Option (List ℕ)) (reader : R) (bytes : Option (List ℕ)) (file : FeedFile) (a b : FaultList) (result : Result (Option Table) E)
+    → IsContent remaining (Some reader) bytes → IfOk result (IsOpened file bytes a b) → IfOk result (IsOpenedIfThere file bytes a b)
+opened-there remaining reader (Some bytes) file a b result content opened = opened
+opened-there remaining reader None file a b result content opened = absurd content
+
+pub not-there : {R : Type 0} (remaining : R → Option (List ℕ)) (bytes : Option (List ℕ)) (file : FeedFile) (a : FaultList)
+    → IsContent remaining None bytes → IsOpenedIfThere file bytes a a None
+not-there remaining (Some bytes) file a content = absurd content
+not-there remaining None file a content = (adds-none a, refl)
 
 -- both files of services, of which one is there, or none
 pub services-there : (calendar dates : Option (List ℕ)) → (is_some calendar || is_some dates) ≡ true
@@ -65,12 +74,8 @@ pub services-there : (calendar dates : Option (List ℕ)) → (is_some calendar 
 services-there calendar dates there = rw there refl
 
 pub services-missing : (calendar dates : Option (List ℕ)) → (is_some calendar || is_some dates) ≡ false
-    → option_to_list (first_fault (test kinds.MissingFile files.Calendar 0 (is_some calendar || is_some dates) ∷ [])) ≡ services_faults calendar dates
+    → fault_at kinds.MissingFile files.Calendar 0 ∷ [] ≡ services_faults calendar dates
 services-missing calendar dates missing = rw missing refl
-
-pub services-fault : (calendar dates : Option (List ℕ)) → (is_some calendar || is_some dates) ≡ false
-    → first_fault (test kinds.MissingFile files.Calendar 0 (is_some calendar || is_some dates) ∷ []) ≡ Some (fault_at kinds.MissingFile files.Calendar 0)
-services-fault calendar dates missing = rw missing refl
 
 pub or-false : (a b : Bool) → a ≡ false → b ≡ false → (a || b) ≡ false
 or-false a b p q = rw (p, q) refl

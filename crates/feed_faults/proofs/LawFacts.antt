@@ -13,7 +13,7 @@ use Rattle.gtfs_rows.proofs.RowFacts.{first_more, first_some, front_passes, rang
 use Rattle.gtfs_rows.proofs.TextFacts.{apart_push}
 use Rattle.feed_faults.specs.Files.{file_faults, optional_faults}
 use Rattle.feed_faults.specs.Laws.{first_of}
-use Rattle.feed_faults.specs.Tables.{columns_test, or_else, row_faults, size_test, table_faults}
+use Rattle.file_faults.specs.Tables.{columns_test, or_else, row_faults, size_test, table_faults}
 
 -- ---- tests and faults, one after the other
 

@@ -24,8 +24,8 @@ use Rattle.gtfs_frequencies.specs.Frequencies.{column_names as frequency_columns
 use Rattle.gtfs_tables.specs.Feed.{Feed, feed_tests, services_tests}
 use Rattle.feed_faults.specs.Files.{faults_of, file_faults, known_in, optional_faults, services_faults}
 use Rattle.feed_faults.specs.Laws.{first_of}
-use Rattle.feed_faults.specs.Seen.{passing}
-use Rattle.feed_faults.specs.Tables.{calendar_dates_faults, calendar_faults, call_columns, call_row_tests, columns_test, date_tests, distinct_ids, frequencies_faults, has_few_ids, ids_known, row_faults, size_test, start_tests, stop_times_faults, stops_faults, transfers_faults, trip_faults, trips_faults, trips_known}
+use Rattle.file_faults.specs.Seen.{passing}
+use Rattle.file_faults.specs.Tables.{calendar_dates_faults, calendar_faults, call_columns, call_row_tests, columns_test, date_tests, distinct_ids, frequencies_faults, has_few_ids, ids_known, row_faults, size_test, start_tests, stop_times_faults, stops_faults, transfers_faults, trip_faults, trips_faults, trips_known}
 use Rattle.feed_faults.proofs.LawFacts.{Agree, agree-append, agree-each, agree-else, agree-file, agree-optional, agree-plain, agree-rows, agree-table, apart-to}
 
 -- where all rows pass their tests, each row passes those in front

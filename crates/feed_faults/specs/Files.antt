@@ -9,7 +9,7 @@ use Rattle.gtfs_rows.specs.declared.fault.FeedFile.TheVariants as files
 use Rattle.gtfs_rows.specs.Faults.{test, first_fault}
 use Rattle.gtfs_rows.specs.Rows.{opening_tests, table_in}
 use Rattle.gtfs_tables.specs.Feed.{Feed}
-use Rattle.feed_faults.specs.Tables.{calendar_dates_faults, calendar_faults, frequencies_faults, ids_known, or_else, stop_times_faults, stops_faults, transfers_faults, trips_faults, trips_known}
+use Rattle.file_faults.specs.Tables.{calendar_dates_faults, calendar_faults, frequencies_faults, ids_known, or_else, stop_times_faults, stops_faults, transfers_faults, trips_faults, trips_known}
 
 -- the faults of a file: if it isn't there, or a record isn't UTF-8, that one; else those of its table
 abbrev pub file_faults : FeedFile → (Table → List FeedFault) → Option (List ℕ) → List FeedFault

@@ -9,9 +9,9 @@ use Rattle.gtfs_rows.specs.Rows.{opening_tests, table_in}
 use Rattle.gtfs_stops.specs.Stops.{IdLists}
 use Rattle.gtfs_tables.specs.Feed.{Feed}
 use Rattle.feed_faults.specs.Files.{file_faults, known_in, optional_faults, services_faults}
-use Rattle.feed_faults.specs.Lists.{Adds}
-use Rattle.feed_faults.specs.Tables.{frequencies_faults, stop_times_faults, transfers_faults, trips_faults, trips_known}
-use Rattle.feed_faults.specs.declared.list.FaultList.{FaultList}
+use Rattle.file_faults.specs.Lists.{Adds}
+use Rattle.file_faults.specs.Tables.{frequencies_faults, stop_times_faults, transfers_faults, trips_faults, trips_known}
+use Rattle.file_faults.specs.declared.list.FaultList.{FaultList}
 
 -- the file is a table; or its fault was added, and there is one unless a reader failed
 abbrev pub IsOpened : FeedFile → Option (List ℕ) → FaultList → FaultList → Option Table → Type 0
@@ -20,6 +20,11 @@ IsOpened file bytes old new (Some table) =
 IsOpened file bytes old new None =
     Adds old new (option_to_list (first_fault (opening_tests file bytes)))
     × ((new.unread ≡ true) ⊎ (is_some (first_fault (opening_tests file bytes)) ≡ true))
+
+-- the same of a file that may be missing
+abbrev pub IsOpenedIfThere : FeedFile → Option (List ℕ) → FaultList → FaultList → Option Table → Type 0
+IsOpenedIfThere file None old new opened = Adds old new [] × (opened ≡ None)
+IsOpenedIfThere file (Some bytes) old new opened = IsOpened file (Some bytes) old new opened
 
 -- the faults of a table, if there is one
 abbrev pub sheet_faults : (Table → List FeedFault) → Option Table → List FeedFault

@@ -6,17 +6,15 @@ ghost use Rattle.gtfs_rows.specs.Rows.{IsContent, texts_in};
 ghost use Rattle.gtfs_stops.specs.Stops.{lists_in};
 ghost use Rattle.gtfs_tables.specs.Feed.{AreReaders, Feed};
 ghost use Rattle.feed_faults.specs.Files.{faults_of, file_faults, optional_faults, services_faults};
-ghost use Rattle.feed_faults.specs.Lists.{Adds, Lists};
-ghost use Rattle.feed_faults.specs.Opened.{IsOpened, linked_faults, others_faults, sheet_faults};
-ghost use Rattle.feed_faults.specs.Tables.{calendar_dates_faults, calendar_faults, frequencies_faults, ids_known, stop_times_faults, stops_faults};
-ghost use Rattle.feed_faults.specs.Tables.{transfers_faults, trips_faults, trips_known};
+ghost use Rattle.file_faults.specs.Lists.{Adds, Lists};
+ghost use Rattle.feed_faults.specs.Opened.{IsOpened, IsOpenedIfThere, linked_faults, others_faults, sheet_faults};
+ghost use Rattle.file_faults.specs.Tables.{calendar_dates_faults, calendar_faults, frequencies_faults, ids_known, stop_times_faults, stops_faults};
+ghost use Rattle.file_faults.specs.Tables.{transfers_faults, trips_faults, trips_known};
 
-use crate::calendars::{list_calendar, list_calendar_dates};
-use crate::calls::list_calls;
-use crate::links::{list_frequencies, list_transfers};
-use crate::list::FaultList;
-use crate::stops::list_stops;
-use crate::trips::list_trips;
+use file_faults::{
+    FaultList, list_calendar, list_calendar_dates, list_calls, list_frequencies, list_stops,
+    list_transfers, list_trips,
+};
 use gtfs_rows::{FaultKind, FeedFault, FeedFile, Texts, open_sheet};
 use gtfs_stops::StopIds;
 use gtfs_tables::Files;
@@ -37,9 +35,24 @@ fn open<R: Read + Drop>(
     match open_sheet(alloc, file, reader) {
         Ok(sheet) => Ok(Some(sheet)),
         Err(fault) => {
-            list.add(fault)?;
+            list.add_unopened(fault)?;
             Ok(None)
         }
+    }
+}
+
+// The same for a file that may be missing.
+fn open_if_there<R: Read + Drop>(
+    alloc: Global,
+    file: FeedFile,
+    reader: Option<R>,
+    list: &mut FaultList,
+) -> Result<Option<Sheet>, AllocError>
+    ensures { (bytes : Option (List ℕ)) → IsContent R.remaining reader bytes → IfOk result (IsOpenedIfThere file bytes list.old list.new) }
+{
+    match reader {
+        Some(reader) => open(alloc, file, Some(reader), list),
+        None => Ok(None),
     }
 }
 
@@ -88,10 +101,7 @@ fn list_calendar_file<R: Read + Drop>(
     ensures { (bytes : Option (List ℕ)) → IsContent R.remaining reader bytes
         → OnOk result (Adds list.old list.new (optional_faults files.Calendar calendar_faults bytes)) }
 {
-    if reader.is_none() {
-        return Ok(());
-    }
-    match open(alloc, FeedFile::Calendar, reader, list)? {
+    match open_if_there(alloc, FeedFile::Calendar, reader, list)? {
         Some(sheet) => list_calendar(alloc, hash_keys, &sheet, list),
         None => Ok(()),
     }
@@ -107,10 +117,7 @@ fn list_dates_file<R: Read + Drop>(
     ensures { (bytes : Option (List ℕ)) → IsContent R.remaining reader bytes
         → OnOk result (Adds list.old list.new (optional_faults files.CalendarDates calendar_dates_faults bytes)) }
 {
-    if reader.is_none() {
-        return Ok(());
-    }
-    match open(alloc, FeedFile::CalendarDates, reader, list)? {
+    match open_if_there(alloc, FeedFile::CalendarDates, reader, list)? {
         Some(sheet) => list_calendar_dates(alloc, hash_keys, &sheet, list),
         None => Ok(()),
     }
@@ -145,7 +152,8 @@ fn list_calls_file<R: Read + Drop>(
 ) -> Result<(), AllocError>
     requires stops { IfSome ids.now (λ ids. length ids.stops.keys ≤ 1_000_000) }
     requires trips { IfSome trips.now (λ ids. length ids.keys ≤ 999_999_999) }
-    ensures { (bytes : Option (List ℕ)) → IsContent R.remaining reader bytes → OnOk result (Adds list.old list.new (file_faults files.StopTimes
+    ensures { (bytes : Option (List ℕ)) → IsContent R.remaining reader bytes
+        → OnOk result (Adds list.old list.new (file_faults files.StopTimes
         (stop_times_faults (option_map lists_in ids.now) (option_map (λ ids. texts_in ids.keys) trips.now)) bytes)) }
 {
     match open(alloc, FeedFile::StopTimes, reader, list)? {
@@ -166,10 +174,7 @@ fn list_transfers_file<R: Read + Drop>(
     ensures { (bytes : Option (List ℕ)) → IsContent R.remaining reader bytes → OnOk result (Adds list.old list.new
         (optional_faults files.Transfers (transfers_faults (option_map lists_in ids.now)) bytes)) }
 {
-    if reader.is_none() {
-        return Ok(());
-    }
-    match open(alloc, FeedFile::Transfers, reader, list)? {
+    match open_if_there(alloc, FeedFile::Transfers, reader, list)? {
         Some(sheet) => list_transfers(&sheet, ids, list),
         None => Ok(()),
     }
@@ -187,28 +192,17 @@ fn list_frequencies_file<R: Read + Drop>(
     ensures { (bytes : Option (List ℕ)) → IsContent R.remaining reader bytes → OnOk result (Adds list.old list.new
         (optional_faults files.Frequencies (frequencies_faults (option_map (λ ids. texts_in ids.keys) trips.now)) bytes)) }
 {
-    if reader.is_none() {
-        return Ok(());
-    }
-    match open(alloc, FeedFile::Frequencies, reader, list)? {
+    match open_if_there(alloc, FeedFile::Frequencies, reader, list)? {
         Some(sheet) => list_frequencies(alloc, hash_keys, &sheet, trips, list),
         None => Ok(()),
     }
 }
 
-// The files whose rows name rows of others.
-#[derive(Drop)]
-struct Linked<R> {
-    stop_times: Option<R>,
-    transfers: Option<R>,
-    frequencies: Option<R>,
-}
-
-// Lists the faults of these files.
+// Lists the faults of the files whose rows name rows of others. Their readers are taken out of `files`.
 fn list_linked<R: Read + Drop>(
     alloc: Global,
     hash_keys: RandomState,
-    files: Linked<R>,
+    files: &mut Files<R>,
     ids: &Option<StopIds<'_>>,
     trips: &Option<Texts<'_>>,
     list: &mut FaultList,
@@ -216,43 +210,55 @@ fn list_linked<R: Read + Drop>(
     requires stops { IfSome ids.now (λ ids. length ids.stops.keys ≤ 1_000_000) }
     requires stations { IfSome ids.now (λ ids. length ids.stations.keys ≤ 999_999_999) }
     requires trips { IfSome trips.now (λ ids. length ids.keys ≤ 999_999_999) }
-    ensures { (feed : Feed) → IsContent R.remaining files.stop_times feed.stop_times → IsContent R.remaining files.transfers feed.transfers
-        → IsContent R.remaining files.frequencies feed.frequencies → OnOk result (Adds list.old list.new
+    ensures { (feed : Feed) → IsContent R.remaining files.old.stop_times feed.stop_times
+        → IsContent R.remaining files.old.transfers feed.transfers → IsContent R.remaining files.old.frequencies feed.frequencies
+        → OnOk result (Adds list.old list.new
         (linked_faults (option_map lists_in ids.now) (option_map (λ ids. texts_in ids.keys) trips.now) feed)) }
 {
-    list_calls_file(alloc, hash_keys, files.stop_times, ids, trips, list)?;
-    list_transfers_file(alloc, files.transfers, ids, list)?;
-    list_frequencies_file(alloc, hash_keys, files.frequencies, trips, list)
+    list_calls_file(alloc, hash_keys, files.stop_times.take(), ids, trips, list)?;
+    list_transfers_file(alloc, files.transfers.take(), ids, list)?;
+    list_frequencies_file(alloc, hash_keys, files.frequencies.take(), trips, list)
 }
 
-// All files but stops.txt.
-#[derive(Drop)]
-struct Others<R> {
-    trips: Option<R>,
-    calendar: Option<R>,
-    calendar_dates: Option<R>,
-    linked: Linked<R>,
-}
-
-// Lists the faults of these files.
+// Lists the faults of all files but stops.txt. Their readers are taken out of `files`.
 fn list_others<R: Read + Drop>(
     alloc: Global,
     hash_keys: RandomState,
-    files: Others<R>,
+    files: &mut Files<R>,
     ids: &Option<StopIds<'_>>,
     list: &mut FaultList,
 ) -> Result<(), AllocError>
     requires stops { IfSome ids.now (λ ids. length ids.stops.keys ≤ 1_000_000) }
     requires stations { IfSome ids.now (λ ids. length ids.stations.keys ≤ 999_999_999) }
-    ensures { (feed : Feed) → IsContent R.remaining files.trips feed.trips → IsContent R.remaining files.calendar feed.calendar
-        → IsContent R.remaining files.calendar_dates feed.calendar_dates → IsContent R.remaining files.linked.stop_times feed.stop_times
-        → IsContent R.remaining files.linked.transfers feed.transfers → IsContent R.remaining files.linked.frequencies feed.frequencies
+    ensures { (feed : Feed) → IsContent R.remaining files.old.trips feed.trips → IsContent R.remaining files.old.calendar feed.calendar
+        → IsContent R.remaining files.old.calendar_dates feed.calendar_dates → IsContent R.remaining files.old.stop_times feed.stop_times
+        → IsContent R.remaining files.old.transfers feed.transfers → IsContent R.remaining files.old.frequencies feed.frequencies
         → OnOk result (Adds list.old list.new (others_faults (option_map lists_in ids.now) feed)) }
 {
-    let sheet = open(alloc, FeedFile::Trips, files.trips, list)?;
+    let sheet = open(alloc, FeedFile::Trips, files.trips.take(), list)?;
     let known = trip_ids(alloc, hash_keys, &sheet, list)?;
-    list_services(alloc, hash_keys, files.calendar, files.calendar_dates, list)?;
-    list_linked(alloc, hash_keys, files.linked, ids, &known, list)
+    list_services(
+        alloc,
+        hash_keys,
+        files.calendar.take(),
+        files.calendar_dates.take(),
+        list,
+    )?;
+    list_linked(alloc, hash_keys, files, ids, &known, list)
+}
+
+// Lists the faults of all files. Their readers are taken out of `files`.
+fn list_files<R: Read + Drop>(
+    alloc: Global,
+    hash_keys: RandomState,
+    files: &mut Files<R>,
+    list: &mut FaultList,
+) -> Result<(), AllocError>
+    ensures { (feed : Feed) → AreReaders R.remaining files.old feed → OnOk result (Adds list.old list.new (faults_of feed)) }
+{
+    let sheet = open(alloc, FeedFile::Stops, files.stops.take(), list)?;
+    let ids = stop_ids(alloc, hash_keys, &sheet, list)?;
+    list_others(alloc, hash_keys, files, &ids, list)
 }
 
 /// Lists the faults of a feed's files, the first 1,000 of them, and counts the others. In each file they come in the order of its rows, and
@@ -271,19 +277,8 @@ pub fn list_faults<R: Read + Drop>(
 ) -> Result<FaultList, AllocError>
     ensures { (feed : Feed) → AreReaders R.remaining files feed → IfOk result (λ list. Lists list (faults_of feed)) }
 {
+    let mut files = files;
     let mut list = FaultList::new(alloc);
-    let stops = open(alloc, FeedFile::Stops, files.stops, &mut list)?;
-    let ids = stop_ids(alloc, hash_keys, &stops, &mut list)?;
-    let others = Others {
-        trips: files.trips,
-        calendar: files.calendar,
-        calendar_dates: files.calendar_dates,
-        linked: Linked {
-            stop_times: files.stop_times,
-            transfers: files.transfers,
-            frequencies: files.frequencies,
-        },
-    };
-    list_others(alloc, hash_keys, others, &ids, &mut list)?;
+    list_files(alloc, hash_keys, &mut files, &mut list)?;
     Ok(list)
 }

@@ -1,11 +1,9 @@
 use Rattle.std.proofs.Common.{◌≡◌, ◌∙◌, sym, ap, not, true, false, [], ◌∷◌}
 use Rattle.std.specs.Prelude.{is_some, ◌||◌}
-use Rattle.gtfs_rows.specs.declared.fault.FaultKind.TheVariants as kinds
-use Rattle.gtfs_rows.specs.declared.fault.FeedFile.TheVariants as files
-use Rattle.gtfs_rows.specs.Faults.{test}
+use Rattle.gtfs_rows.specs.declared.fault.FeedFault.{FeedFault}
 use Rattle.gtfs_tables.proofs.FeedFacts.{same_presence}
-use Rattle.feed_faults.proofs.FileFacts.{or-false, or-left, or-right, services-fault, services-missing, services-there}
-use Rattle.feed_faults.proofs.ListFacts.{adds-is, adds-then, on-ok-then}
+use Rattle.feed_faults.proofs.FileFacts.{or-false, or-left, or-right, services-missing, services-there}
+use Rattle.file_faults.proofs.ListFacts.{adds-is, adds-then, on-ok-then}
 use Rattle.feed_faults.proofs.feed.list_services.Goals as goal
 use Rattle.feed_faults.proofs.feed.list_services.Goals.{else-is_none-via-then-is_none+else-is_none-2, else-is_none-via-else-is_none}
 
@@ -13,10 +11,8 @@ pub returns-then-is_none-2 : goal.returns-then-is_none-2
 returns-then-is_none-2 g c = λ bytes dates first second.
     let a : is_some bytes ≡ false = sym (same_presence g.R.Read.remaining c.args.calendar bytes first) ∙ c.is_none.ensures ∙ ap not c.if-is_none.true in
     let b : is_some dates ≡ false = sym (same_presence g.R.Read.remaining c.args.calendar_dates dates second) ∙ c.is_none-then-is_none.ensures ∙ ap not c.if-is_none-2.true in
-    let missing = or-false (is_some bytes) (is_some dates) a b in
-    on-ok-then c.add_found.result
-    (c.add_found.ensures (test kinds.MissingFile files.Calendar 0 (is_some bytes || is_some dates) ∷ []) (rw c.new.ensures (services-fault bytes dates missing)))
-    (λ added. adds-is (services-missing bytes dates missing) added)
+    on-ok-then c.add_found.result c.add_found.ensures
+    (λ added. adds-is (ap (λ (f : FeedFault). f ∷ []) c.new.ensures ∙ services-missing bytes dates (or-false (is_some bytes) (is_some dates) a b)) added)
 
 pub returns : goal.returns
 returns g c = λ bytes dates first second.
@@ -28,4 +24,4 @@ returns g c = λ bytes dates first second.
           or-left (is_some bytes) (is_some dates) (sym (same_presence g.R.Read.remaining c.args.calendar bytes first) ∙ c.is_none.ensures ∙ ap not w.if-is_none.false)
     ] in
     on-ok-then c.list_dates_file.result (c.list_dates_file.ensures dates second)
-    (λ added. adds-is (services-there bytes dates there) (adds-then (c.in_ok-list_calendar_file.ensures bytes first) added))
+    (λ added. adds-is (services-there bytes dates there) (adds-then {b = c.list_calendar_file.new.list} (c.in_ok-list_calendar_file.ensures bytes first) added))

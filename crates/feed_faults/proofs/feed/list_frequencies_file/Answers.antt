@@ -1,0 +1,18 @@
+use Rattle.std.proofs.Common.{None, Some}
+use Rattle.std.specs.Prelude.{option_map}
+use Rattle.gtfs_rows.specs.Rows.{texts_in}
+use Rattle.gtfs_rows.specs.declared.fault.FeedFile.TheVariants as files
+use Rattle.file_faults.specs.Tables.{frequencies_faults}
+use Rattle.file_faults.proofs.ListFacts.{adds-none, on-ok-then}
+use Rattle.feed_faults.proofs.FileFacts.{optional-added}
+use Rattle.feed_faults.proofs.feed.list_frequencies_file.Goals as goal
+
+pub returns-in-Some : goal.returns-in-Some
+returns-in-Some g c = λ bytes content.
+    let opened = rw c.in-Some.is at (c.in_ok-sheet.ensures bytes content) in
+    on-ok-then c.list_frequencies.result c.list_frequencies.ensures (λ added. optional-added files.Frequencies (frequencies_faults (option_map (λ ids. texts_in ids.keys) c.args.trips.now)) bytes (Some c.in-Some.sheet) opened added)
+
+pub returns-in-None : goal.returns-in-None
+returns-in-None g c = λ bytes content.
+    let opened = rw c.in-None.is at (c.in_ok-sheet.ensures bytes content) in
+    optional-added files.Frequencies (frequencies_faults (option_map (λ ids. texts_in ids.keys) c.args.trips.now)) bytes None opened (adds-none c.open_if_there.new.list)

@@ -1,0 +1,3 @@
+pub mod ListFacts
+pub mod KeyFacts
+pub mod TableFacts
