@@ -1,5 +1,5 @@
 -- The faults of files, one after the other.
-use Rattle.std.proofs.Common.{◌≡◌, ◌∙◌, sym, ap, refl, cond, ℕ, Bool, true, false, ◌⊎◌, inl, inr, List, [], ◌∷◌, ◌++◌, Option, None, Some}
+use Rattle.std.proofs.Common.{◌≡◌, ◌∙◌, sym, ap, refl, cond, ℕ, Bool, true, false, inl, inr, List, [], ◌∷◌, ◌++◌, Option, None, Some}
 use Rattle.std.specs.Prelude.{is_none, is_some, option_and_then, option_to_list, ◌||◌, IfOk, Result}
 use Rattle.gtfs_text.specs.Sheets.{Table}
 use Rattle.gtfs_rows.specs.declared.fault.FeedFault.{FeedFault}
@@ -38,18 +38,22 @@ file-added {a} {b} {c} file faults bytes None opened added =
       | inr there ↦ adds-is (fault-only (first_fault (opening_tests file bytes)) (faults (table_in bytes)) there) (adds-then opened.0 added)
     ]
 
--- what is known of a file that was opened, unless a reader failed
-pub known-opened : {X : Type 0} (a b : FaultList) (file : FeedFile) (known : Table → Option X) (bytes : Option (List ℕ)) (sheet : Option Table)
-    → IsOpened file bytes a b sheet → (b.unread ≡ true) ⊎ (option_and_then known sheet ≡ known_in file known bytes)
-known-opened {X} a b file known bytes (Some table) opened = inr (ap known opened.2 ∙ sym (ap (λ (o : Option FeedFault). cond (is_none o) (known (table_in bytes)) None) opened.1))
-known-opened {X} a b file known bytes None opened = elim opened.1 [
-  | inl unread ↦ inl unread
-  | inr there ↦ inr (nothing (first_fault (opening_tests file bytes)) there)
-]
+-- a file that was opened, and the faults of others that rest on what is known of it
+pub known-added : {X : Type 0} {a b c : FaultList} (file : FeedFile) (faults : Table → List FeedFault) (known : Table → Option X) (rest : Option X → List FeedFault)
+    (bytes : Option (List ℕ)) (sheet : Option Table) → IsOpened file bytes a b sheet → Adds b c (sheet_faults faults sheet ++ rest (option_and_then known sheet))
+    → Adds a c (file_faults file faults bytes ++ rest (known_in file known bytes))
+known-added file faults known rest bytes (Some table) opened added =
+    rw opened.1 (adds-then opened.0 (rw (← opened.2) added))
+known-added {X} {a} {b} {c} file faults known rest bytes None opened added =
+    elim opened.1 [
+      | inl unread ↦ adds-unread a c _ (unread-stays b c (rest None) unread added)
+      | inr there ↦ adds-is (after (first_fault (opening_tests file bytes)) there) (adds-then opened.0 added)
+    ]
   where
-    nothing : (o : Option FeedFault) → is_some o ≡ true → None ≡ cond (is_none o) (known (table_in bytes)) None
-    nothing None h = absurd (cc h)
-    nothing (Some f) h = refl
+    after : (o : Option FeedFault) → is_some o ≡ true
+        → option_to_list o ++ rest None ≡ or_else o (faults (table_in bytes)) ++ rest (cond (is_none o) (known (table_in bytes)) None)
+    after None h = absurd (cc h)
+    after (Some f) h = refl
 
 -- the same of a file that may be missing
 pub optional-added : {a b c : FaultList} (file : FeedFile) (faults : Table → List FeedFault) (bytes : Option (List ℕ)) (sheet : Option Table)

@@ -36,6 +36,7 @@ faults_of feed =
     file_faults files.Stops stops_faults feed.stops
     ++ (file_faults files.Trips trips_faults feed.trips
     ++ (services_faults feed.calendar feed.calendar_dates
-    ++ (file_faults files.StopTimes (stop_times_faults (known_in files.Stops ids_known feed.stops) (known_in files.Trips trips_known feed.trips)) feed.stop_times
+    ++ (file_faults files.StopTimes
+    (stop_times_faults (known_in files.Stops ids_known feed.stops) (known_in files.Trips trips_known feed.trips)) feed.stop_times
     ++ (optional_faults files.Transfers (transfers_faults (known_in files.Stops ids_known feed.stops)) feed.transfers
     ++ optional_faults files.Frequencies (frequencies_faults (known_in files.Trips trips_known feed.trips)) feed.frequencies))))

@@ -35,10 +35,14 @@ sheet_faults faults (Some table) = faults table
 abbrev pub linked_faults : Option IdLists → Option (List (List ℕ)) → Feed → List FeedFault
 linked_faults ids trips feed =
     file_faults files.StopTimes (stop_times_faults ids trips) feed.stop_times
-    ++ (optional_faults files.Transfers (transfers_faults ids) feed.transfers ++ optional_faults files.Frequencies (frequencies_faults trips) feed.frequencies)
+    ++ (optional_faults files.Transfers (transfers_faults ids) feed.transfers
+    ++ optional_faults files.Frequencies (frequencies_faults trips) feed.frequencies)
+
+-- those of the files of services too
+abbrev pub rest_faults : Option IdLists → Option (List (List ℕ)) → Feed → List FeedFault
+rest_faults ids trips feed = services_faults feed.calendar feed.calendar_dates ++ linked_faults ids trips feed
 
 -- those of all files but stops.txt
 abbrev pub others_faults : Option IdLists → Feed → List FeedFault
 others_faults ids feed =
-    file_faults files.Trips trips_faults feed.trips
-    ++ (services_faults feed.calendar feed.calendar_dates ++ linked_faults ids (known_in files.Trips trips_known feed.trips) feed)
+    file_faults files.Trips trips_faults feed.trips ++ rest_faults ids (known_in files.Trips trips_known feed.trips) feed

@@ -1,15 +1,15 @@
 //! The faults of a feed's files, one file after the other.
 
-ghost use Rattle.std.specs.Prelude.{◌≤◌, ◌≡◌, IfOk, IfSome, OnOk, List, Option, ℕ, length, option_and_then, option_map};
+ghost use Rattle.std.specs.Prelude.{◌≤◌, ◌≡◌, ◌++◌, IfOk, IfSome, OnOk, List, Option, ℕ, length, option_and_then, option_map};
 ghost use Rattle.gtfs_rows.specs.declared.fault.FeedFile.TheVariants as files;
 ghost use Rattle.gtfs_rows.specs.Rows.{IsContent, texts_in};
 ghost use Rattle.gtfs_stops.specs.Stops.{lists_in};
 ghost use Rattle.gtfs_tables.specs.Feed.{AreReaders, Feed};
 ghost use Rattle.feed_faults.specs.Files.{faults_of, file_faults, optional_faults, services_faults};
 ghost use Rattle.file_faults.specs.Lists.{Adds, Lists};
-ghost use Rattle.feed_faults.specs.Opened.{IsOpened, IsOpenedIfThere, linked_faults, others_faults, sheet_faults};
-ghost use Rattle.file_faults.specs.Tables.{calendar_dates_faults, calendar_faults, frequencies_faults, ids_known, stop_times_faults, stops_faults};
-ghost use Rattle.file_faults.specs.Tables.{transfers_faults, trips_faults, trips_known};
+ghost use Rattle.feed_faults.specs.Opened.{IsOpened, IsOpenedIfThere, linked_faults, others_faults, rest_faults, sheet_faults};
+ghost use Rattle.file_faults.specs.Tables.{calendar_dates_faults, calendar_faults, frequencies_faults, ids_known, stop_times_faults};
+ghost use Rattle.file_faults.specs.Tables.{stops_faults, transfers_faults, trips_faults, trips_known};
 
 use file_faults::{
     FaultList, list_calendar, list_calendar_dates, list_calls, list_frequencies, list_stops,
@@ -220,6 +220,34 @@ fn list_linked<R: Read + Drop>(
     list_frequencies_file(alloc, hash_keys, files.frequencies.take(), trips, list)
 }
 
+// Lists the faults of trips.txt, which was opened, and of the files after it. Their readers are taken out of `files`.
+fn list_from_trips<R: Read + Drop>(
+    alloc: Global,
+    hash_keys: RandomState,
+    sheet: &Option<Sheet>,
+    files: &mut Files<R>,
+    ids: &Option<StopIds<'_>>,
+    list: &mut FaultList,
+) -> Result<(), AllocError>
+    requires stops { IfSome ids.now (λ ids. length ids.stops.keys ≤ 1_000_000) }
+    requires stations { IfSome ids.now (λ ids. length ids.stations.keys ≤ 999_999_999) }
+    ensures { (feed : Feed) → IsContent R.remaining files.old.calendar feed.calendar
+        → IsContent R.remaining files.old.calendar_dates feed.calendar_dates → IsContent R.remaining files.old.stop_times feed.stop_times
+        → IsContent R.remaining files.old.transfers feed.transfers → IsContent R.remaining files.old.frequencies feed.frequencies
+        → OnOk result (Adds list.old list.new
+        (sheet_faults trips_faults sheet.now ++ rest_faults (option_map lists_in ids.now) (option_and_then trips_known sheet.now) feed)) }
+{
+    let known = trip_ids(alloc, hash_keys, sheet, list)?;
+    list_services(
+        alloc,
+        hash_keys,
+        files.calendar.take(),
+        files.calendar_dates.take(),
+        list,
+    )?;
+    list_linked(alloc, hash_keys, files, ids, &known, list)
+}
+
 // Lists the faults of all files but stops.txt. Their readers are taken out of `files`.
 fn list_others<R: Read + Drop>(
     alloc: Global,
@@ -236,15 +264,25 @@ fn list_others<R: Read + Drop>(
         → OnOk result (Adds list.old list.new (others_faults (option_map lists_in ids.now) feed)) }
 {
     let sheet = open(alloc, FeedFile::Trips, files.trips.take(), list)?;
-    let known = trip_ids(alloc, hash_keys, &sheet, list)?;
-    list_services(
-        alloc,
-        hash_keys,
-        files.calendar.take(),
-        files.calendar_dates.take(),
-        list,
-    )?;
-    list_linked(alloc, hash_keys, files, ids, &known, list)
+    list_from_trips(alloc, hash_keys, &sheet, files, ids, list)
+}
+
+// Lists the faults of stops.txt, which was opened, and of the files after it. Their readers are taken out of `files`.
+fn list_from_stops<R: Read + Drop>(
+    alloc: Global,
+    hash_keys: RandomState,
+    sheet: &Option<Sheet>,
+    files: &mut Files<R>,
+    list: &mut FaultList,
+) -> Result<(), AllocError>
+    ensures { (feed : Feed) → IsContent R.remaining files.old.trips feed.trips → IsContent R.remaining files.old.calendar feed.calendar
+        → IsContent R.remaining files.old.calendar_dates feed.calendar_dates → IsContent R.remaining files.old.stop_times feed.stop_times
+        → IsContent R.remaining files.old.transfers feed.transfers → IsContent R.remaining files.old.frequencies feed.frequencies
+        → OnOk result (Adds list.old list.new
+        (sheet_faults stops_faults sheet.now ++ others_faults (option_and_then ids_known sheet.now) feed)) }
+{
+    let ids = stop_ids(alloc, hash_keys, sheet, list)?;
+    list_others(alloc, hash_keys, files, &ids, list)
 }
 
 // Lists the faults of all files. Their readers are taken out of `files`.
@@ -257,8 +295,7 @@ fn list_files<R: Read + Drop>(
     ensures { (feed : Feed) → AreReaders R.remaining files.old feed → OnOk result (Adds list.old list.new (faults_of feed)) }
 {
     let sheet = open(alloc, FeedFile::Stops, files.stops.take(), list)?;
-    let ids = stop_ids(alloc, hash_keys, &sheet, list)?;
-    list_others(alloc, hash_keys, files, &ids, list)
+    list_from_stops(alloc, hash_keys, &sheet, files, list)
 }
 
 /// Lists the faults of a feed's files, the first 1,000 of them, and counts the others. In each file they come in the order of its rows, and

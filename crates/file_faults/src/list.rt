@@ -136,7 +136,8 @@ impl FaultList {
 
     /// Adds the fault of a file that wasn't opened. It fails if that is want of memory.
     pub fn add_unopened(&mut self, fault: FeedFault) -> Result<(), AllocError>
-        ensures adds { (first : Option FaultData) → Explains first fault.kind fault → OnOk result (Adds self.old self.new (option_to_list first)) }
+        ensures adds { (first : Option FaultData) → Explains first fault.kind fault
+            → OnOk result (Adds self.old self.new (option_to_list first)) }
         ensures fails { (first : Option FaultData) → Explains first fault.kind fault
             → OnOk result ((self.new.unread ≡ true) ⊎ (is_some first ≡ true)) }
     {
