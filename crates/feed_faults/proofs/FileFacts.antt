@@ -1,64 +1,71 @@
 -- The faults of files, one after the other.
-use Rattle.std.proofs.Common.{◌≡◌, ◌∙◌, sym, ap, refl, cond, ℕ, Bool, true, false, inl, inr, List, [], ◌∷◌, ◌++◌, Option, None, Some}
-use Rattle.std.specs.Prelude.{is_none, is_some, option_and_then, option_to_list, ◌||◌, IfOk, Result}
+use Rattle.std.proofs.Common.{◌≡◌, ◌∙◌, ap, subst, refl, ℕ, Bool, true, false, inl, inr, List, [], ◌∷◌, ◌++◌, Option, None, Some}
+use Rattle.std.specs.Prelude.{is_some, option_and_then, ◌||◌, IfOk, Result}
 use Rattle.gtfs_text.specs.Sheets.{Table}
 use Rattle.gtfs_rows.specs.declared.fault.FeedFault.{FeedFault}
 use Rattle.gtfs_rows.specs.declared.fault.FeedFile.{FeedFile}
-use Rattle.gtfs_rows.specs.Faults.{fault_at, first_fault}
+use Rattle.gtfs_rows.specs.Faults.{fault_at}
 use Rattle.gtfs_rows.specs.declared.fault.FaultKind.TheVariants as kinds
 use Rattle.gtfs_rows.specs.declared.fault.FeedFile.TheVariants as files
-use Rattle.gtfs_rows.specs.Rows.{IsContent, opening_tests, table_in}
-use Rattle.file_faults.specs.Lists.{Adds}
+use Rattle.gtfs_rows.specs.Rows.{IsContent}
+use Rattle.file_faults.specs.Lists.{Adds, HasFaults}
+use Rattle.feed_faults.specs.Lists.{Lists}
 use Rattle.feed_faults.specs.Files.{file_faults, known_in, optional_faults, services_faults}
-use Rattle.feed_faults.specs.Opened.{IsOpened, IsOpenedIfThere, sheet_faults}
-use Rattle.file_faults.specs.Tables.{calendar_dates_faults, calendar_faults, or_else}
+use Rattle.feed_faults.specs.Opened.{AddsOrUnread, IsOpened, IsOpenedIfThere, sheet_faults}
+use Rattle.file_faults.specs.Tables.{calendar_dates_faults, calendar_faults}
 use Rattle.file_faults.specs.declared.list.FaultList.{FaultList}
-use Rattle.file_faults.proofs.ListFacts.{adds-is, adds-none, adds-then, adds-unread}
+use Rattle.file_faults.proofs.ListFacts.{adds-is, adds-none, adds-then}
 
--- a reader that failed is not forgotten
-pub unread-stays : (b c : FaultList) (xs : List FeedFault) → b.unread ≡ true → Adds b c xs → c.unread ≡ true
-unread-stays b c xs unread adds = elim adds.how [
-  | inl u ↦ u
-  | inr all ↦ absurd (let clash : true ≡ false = sym unread ∙ all.was_read in cc clash)
+-- ---- what is added, unless a reader failed
+
+pub sure : {a b : FaultList} {xs : List FeedFault} → Adds a b xs → AddsOrUnread a b xs
+sure added = record { how = inr added }
+
+pub then-all : {a b c : FaultList} {xs ys : List FeedFault} → AddsOrUnread a b xs → AddsOrUnread b c ys → AddsOrUnread a c (xs ++ ys)
+then-all first second = elim second.how [
+  | inl unread ↦ record { how = inl unread }
+  | inr later ↦ elim first.how [ inl unread ↦ record { how = inl (later.unread ∙ unread) } | inr here ↦ record { how = inr (adds-then here later) } ]
 ]
 
-fault-only : (o : Option FeedFault) (faults : List FeedFault) → is_some o ≡ true → option_to_list o ++ [] ≡ or_else o faults
-fault-only None faults h = absurd (cc h)
-fault-only (Some f) faults h = refl
+pub all-is : {a b : FaultList} {xs ys : List FeedFault} → xs ≡ ys → AddsOrUnread a b xs → AddsOrUnread a b ys
+all-is {a} {b} same adds = subst (λ fs. AddsOrUnread a b fs) same adds
 
--- a file that was opened, and the faults of its table
-pub file-added : {a b c : FaultList} (file : FeedFile) (faults : Table → List FeedFault) (bytes : Option (List ℕ)) (sheet : Option Table)
-    → IsOpened file bytes a b sheet → Adds b c (sheet_faults faults sheet) → Adds a c (file_faults file faults bytes)
-file-added {a} {b} {c} file faults bytes (Some table) opened added =
-    let same : faults table ≡ file_faults file faults bytes = ap faults opened.2 ∙ sym (ap (λ (o : Option FeedFault). or_else o (faults (table_in bytes))) opened.1) in
-    adds-is same (adds-then opened.0 added)
-file-added {a} {b} {c} file faults bytes None opened added =
-    elim opened.1 [
-      | inl unread ↦ adds-unread a c (file_faults file faults bytes) (unread-stays b c [] unread added)
-      | inr there ↦ adds-is (fault-only (first_fault (opening_tests file bytes)) (faults (table_in bytes)) there) (adds-then opened.0 added)
-    ]
+-- a reader that failed is not forgotten
+stays-unread : {a b c : FaultList} {xs ys : List FeedFault} → b.unread ≡ true → AddsOrUnread b c xs → AddsOrUnread a c ys
+stays-unread unread added = elim added.how [ inl still ↦ record { how = inl still } | inr all ↦ record { how = inl (all.unread ∙ unread) } ]
+
+-- a list that had no fault has those that were added
+pub lists-added : (a b : FaultList) (faults : List FeedFault) → HasFaults a [] → AddsOrUnread a b faults → Lists b faults
+lists-added a b faults none added = elim added.how [ inl unread ↦ inl unread | inr all ↦ inr (all.joins [] none) ]
+
+-- ---- files
 
 -- a file that was opened, and the faults of others that rest on what is known of it
 pub known-added : {X : Type 0} {a b c : FaultList} (file : FeedFile) (faults : Table → List FeedFault) (known : Table → Option X) (rest : Option X → List FeedFault)
-    (bytes : Option (List ℕ)) (sheet : Option Table) → IsOpened file bytes a b sheet → Adds b c (sheet_faults faults sheet ++ rest (option_and_then known sheet))
-    → Adds a c (file_faults file faults bytes ++ rest (known_in file known bytes))
+    (bytes : Option (List ℕ)) (sheet : Option Table) → IsOpened file bytes a b sheet
+    → AddsOrUnread b c (sheet_faults faults sheet ++ rest (option_and_then known sheet))
+    → AddsOrUnread a c (file_faults file faults bytes ++ rest (known_in file known bytes))
 known-added file faults known rest bytes (Some table) opened added =
-    rw opened.1 (adds-then opened.0 (rw (← opened.2) added))
-known-added {X} {a} {b} {c} file faults known rest bytes None opened added =
-    elim opened.1 [
-      | inl unread ↦ adds-unread a c _ (unread-stays b c (rest None) unread added)
-      | inr there ↦ adds-is (after (first_fault (opening_tests file bytes)) there) (adds-then opened.0 added)
-    ]
-  where
-    after : (o : Option FeedFault) → is_some o ≡ true
-        → option_to_list o ++ rest None ≡ or_else o (faults (table_in bytes)) ++ rest (cond (is_none o) (known (table_in bytes)) None)
-    after None h = absurd (cc h)
-    after (Some f) h = refl
+    rw opened.1 (then-all (sure opened.0) (rw (← opened.2) added))
+known-added file faults known rest bytes None opened added = elim opened [
+  | inl unread ↦ stays-unread unread added
+  | inr found ↦ rw found.1 (then-all (sure found.2) added)
+]
+
+-- and the faults of its table
+pub file-added : {a b c : FaultList} (file : FeedFile) (faults : Table → List FeedFault) (bytes : Option (List ℕ)) (sheet : Option Table)
+    → IsOpened file bytes a b sheet → Adds b c (sheet_faults faults sheet) → AddsOrUnread a c (file_faults file faults bytes)
+file-added file faults bytes (Some table) opened added =
+    rw opened.1 (then-all (sure opened.0) (sure (rw (← opened.2) added)))
+file-added file faults bytes None opened added = elim opened [
+  | inl unread ↦ stays-unread unread (sure added)
+  | inr found ↦ rw found.1 (then-all (sure found.2) (sure added))
+]
 
 -- the same of a file that may be missing
 pub optional-added : {a b c : FaultList} (file : FeedFile) (faults : Table → List FeedFault) (bytes : Option (List ℕ)) (sheet : Option Table)
-    → IsOpenedIfThere file bytes a b sheet → Adds b c (sheet_faults faults sheet) → Adds a c (optional_faults file faults bytes)
-optional-added file faults None sheet opened added = adds-then opened.0 (adds-is (ap (sheet_faults faults) opened.1) added)
+    → IsOpenedIfThere file bytes a b sheet → Adds b c (sheet_faults faults sheet) → AddsOrUnread a c (optional_faults file faults bytes)
+optional-added file faults None sheet opened added = sure (adds-then opened.0 (adds-is (ap (sheet_faults faults) opened.1) added))
 optional-added file faults (Some bytes) sheet opened added = file-added file faults (Some bytes) sheet opened added
 
 -- whose reader is there, or isn't

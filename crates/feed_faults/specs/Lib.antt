@@ -1,3 +1,4 @@
 pub mod Files
+pub mod Lists
 pub mod Opened
 pub mod Laws

@@ -1,5 +1,5 @@
 -- What comes of opening a file, and the faults of several files together. Only private clauses cite these words.
-use Rattle.std.specs.Prelude.{◌≡◌, ◌⊎◌, ℕ, true, List, [], ◌++◌, Option, None, Some, is_some, option_to_list}
+use Rattle.std.specs.Prelude.{◌≡◌, ◌⊎◌, ℕ, true, List, [], ◌∷◌, ◌++◌, Option, None, Some}
 use Rattle.gtfs_text.specs.Sheets.{Table}
 use Rattle.gtfs_rows.specs.declared.fault.FeedFault.{FeedFault}
 use Rattle.gtfs_rows.specs.declared.fault.FeedFile.{FeedFile}
@@ -13,13 +13,16 @@ use Rattle.file_faults.specs.Lists.{Adds}
 use Rattle.file_faults.specs.Tables.{frequencies_faults, stop_times_faults, transfers_faults, trips_faults, trips_known}
 use Rattle.file_faults.specs.declared.list.FaultList.{FaultList}
 
--- the file is a table; or its fault was added, and there is one unless a reader failed
+-- these faults were added to a list; or a reader failed
+pub record AddsOrUnread (old new : FaultList) (added : List FeedFault) : Type 0 where
+  pub how : (new.unread ≡ true) ⊎ Adds old new added
+
+-- the file is a table; or a reader failed; or the file's fault was added
 abbrev pub IsOpened : FeedFile → Option (List ℕ) → FaultList → FaultList → Option Table → Type 0
 IsOpened file bytes old new (Some table) =
     Adds old new [] × (first_fault (opening_tests file bytes) ≡ None) × (table ≡ table_in bytes)
 IsOpened file bytes old new None =
-    Adds old new (option_to_list (first_fault (opening_tests file bytes)))
-    × ((new.unread ≡ true) ⊎ (is_some (first_fault (opening_tests file bytes)) ≡ true))
+    (new.unread ≡ true) ⊎ ((fault : FeedFault) × (first_fault (opening_tests file bytes) ≡ Some fault) × Adds old new (fault ∷ []))
 
 -- the same of a file that may be missing
 abbrev pub IsOpenedIfThere : FeedFile → Option (List ℕ) → FaultList → FaultList → Option Table → Type 0

@@ -6,8 +6,9 @@ ghost use Rattle.gtfs_rows.specs.Rows.{IsContent, texts_in};
 ghost use Rattle.gtfs_stops.specs.Stops.{lists_in};
 ghost use Rattle.gtfs_tables.specs.Feed.{AreReaders, Feed};
 ghost use Rattle.feed_faults.specs.Files.{faults_of, file_faults, optional_faults, services_faults};
-ghost use Rattle.file_faults.specs.Lists.{Adds, Lists};
-ghost use Rattle.feed_faults.specs.Opened.{IsOpened, IsOpenedIfThere, linked_faults, others_faults, rest_faults, sheet_faults};
+ghost use Rattle.feed_faults.specs.Lists.{Lists};
+ghost use Rattle.file_faults.specs.Lists.{Adds};
+ghost use Rattle.feed_faults.specs.Opened.{AddsOrUnread, IsOpened, IsOpenedIfThere, linked_faults, others_faults, rest_faults, sheet_faults};
 ghost use Rattle.file_faults.specs.Tables.{calendar_dates_faults, calendar_faults, frequencies_faults, ids_known, stop_times_faults};
 ghost use Rattle.file_faults.specs.Tables.{stops_faults, transfers_faults, trips_faults, trips_known};
 
@@ -99,7 +100,7 @@ fn list_calendar_file<R: Read + Drop>(
     list: &mut FaultList,
 ) -> Result<(), AllocError>
     ensures { (bytes : Option (List ℕ)) → IsContent R.remaining reader bytes
-        → OnOk result (Adds list.old list.new (optional_faults files.Calendar calendar_faults bytes)) }
+        → OnOk result (AddsOrUnread list.old list.new (optional_faults files.Calendar calendar_faults bytes)) }
 {
     match open_if_there(alloc, FeedFile::Calendar, reader, list)? {
         Some(sheet) => list_calendar(alloc, hash_keys, &sheet, list),
@@ -115,7 +116,7 @@ fn list_dates_file<R: Read + Drop>(
     list: &mut FaultList,
 ) -> Result<(), AllocError>
     ensures { (bytes : Option (List ℕ)) → IsContent R.remaining reader bytes
-        → OnOk result (Adds list.old list.new (optional_faults files.CalendarDates calendar_dates_faults bytes)) }
+        → OnOk result (AddsOrUnread list.old list.new (optional_faults files.CalendarDates calendar_dates_faults bytes)) }
 {
     match open_if_there(alloc, FeedFile::CalendarDates, reader, list)? {
         Some(sheet) => list_calendar_dates(alloc, hash_keys, &sheet, list),
@@ -132,7 +133,7 @@ fn list_services<R: Read + Drop>(
     list: &mut FaultList,
 ) -> Result<(), AllocError>
     ensures { (bytes dates : Option (List ℕ)) → IsContent R.remaining calendar bytes → IsContent R.remaining calendar_dates dates
-        → OnOk result (Adds list.old list.new (services_faults bytes dates)) }
+        → OnOk result (AddsOrUnread list.old list.new (services_faults bytes dates)) }
 {
     if calendar.is_none() && calendar_dates.is_none() {
         return list.add_found(Some(FeedFault::new(FaultKind::MissingFile, FeedFile::Calendar, 0)));
@@ -153,7 +154,7 @@ fn list_calls_file<R: Read + Drop>(
     requires stops { IfSome ids.now (λ ids. length ids.stops.keys ≤ 1_000_000) }
     requires trips { IfSome trips.now (λ ids. length ids.keys ≤ 999_999_999) }
     ensures { (bytes : Option (List ℕ)) → IsContent R.remaining reader bytes
-        → OnOk result (Adds list.old list.new (file_faults files.StopTimes
+        → OnOk result (AddsOrUnread list.old list.new (file_faults files.StopTimes
         (stop_times_faults (option_map lists_in ids.now) (option_map (λ ids. texts_in ids.keys) trips.now)) bytes)) }
 {
     match open(alloc, FeedFile::StopTimes, reader, list)? {
@@ -171,7 +172,7 @@ fn list_transfers_file<R: Read + Drop>(
 ) -> Result<(), AllocError>
     requires stops { IfSome ids.now (λ ids. length ids.stops.keys ≤ 1_000_000) }
     requires stations { IfSome ids.now (λ ids. length ids.stations.keys ≤ 999_999_999) }
-    ensures { (bytes : Option (List ℕ)) → IsContent R.remaining reader bytes → OnOk result (Adds list.old list.new
+    ensures { (bytes : Option (List ℕ)) → IsContent R.remaining reader bytes → OnOk result (AddsOrUnread list.old list.new
         (optional_faults files.Transfers (transfers_faults (option_map lists_in ids.now)) bytes)) }
 {
     match open_if_there(alloc, FeedFile::Transfers, reader, list)? {
@@ -189,7 +190,7 @@ fn list_frequencies_file<R: Read + Drop>(
     list: &mut FaultList,
 ) -> Result<(), AllocError>
     requires { IfSome trips.now (λ ids. length ids.keys ≤ 999_999_999) }
-    ensures { (bytes : Option (List ℕ)) → IsContent R.remaining reader bytes → OnOk result (Adds list.old list.new
+    ensures { (bytes : Option (List ℕ)) → IsContent R.remaining reader bytes → OnOk result (AddsOrUnread list.old list.new
         (optional_faults files.Frequencies (frequencies_faults (option_map (λ ids. texts_in ids.keys) trips.now)) bytes)) }
 {
     match open_if_there(alloc, FeedFile::Frequencies, reader, list)? {
@@ -212,7 +213,7 @@ fn list_linked<R: Read + Drop>(
     requires trips { IfSome trips.now (λ ids. length ids.keys ≤ 999_999_999) }
     ensures { (feed : Feed) → IsContent R.remaining files.old.stop_times feed.stop_times
         → IsContent R.remaining files.old.transfers feed.transfers → IsContent R.remaining files.old.frequencies feed.frequencies
-        → OnOk result (Adds list.old list.new
+        → OnOk result (AddsOrUnread list.old list.new
         (linked_faults (option_map lists_in ids.now) (option_map (λ ids. texts_in ids.keys) trips.now) feed)) }
 {
     list_calls_file(alloc, hash_keys, files.stop_times.take(), ids, trips, list)?;
@@ -234,7 +235,7 @@ fn list_from_trips<R: Read + Drop>(
     ensures { (feed : Feed) → IsContent R.remaining files.old.calendar feed.calendar
         → IsContent R.remaining files.old.calendar_dates feed.calendar_dates → IsContent R.remaining files.old.stop_times feed.stop_times
         → IsContent R.remaining files.old.transfers feed.transfers → IsContent R.remaining files.old.frequencies feed.frequencies
-        → OnOk result (Adds list.old list.new
+        → OnOk result (AddsOrUnread list.old list.new
         (sheet_faults trips_faults sheet.now ++ rest_faults (option_map lists_in ids.now) (option_and_then trips_known sheet.now) feed)) }
 {
     let known = trip_ids(alloc, hash_keys, sheet, list)?;
@@ -261,7 +262,7 @@ fn list_others<R: Read + Drop>(
     ensures { (feed : Feed) → IsContent R.remaining files.old.trips feed.trips → IsContent R.remaining files.old.calendar feed.calendar
         → IsContent R.remaining files.old.calendar_dates feed.calendar_dates → IsContent R.remaining files.old.stop_times feed.stop_times
         → IsContent R.remaining files.old.transfers feed.transfers → IsContent R.remaining files.old.frequencies feed.frequencies
-        → OnOk result (Adds list.old list.new (others_faults (option_map lists_in ids.now) feed)) }
+        → OnOk result (AddsOrUnread list.old list.new (others_faults (option_map lists_in ids.now) feed)) }
 {
     let sheet = open(alloc, FeedFile::Trips, files.trips.take(), list)?;
     list_from_trips(alloc, hash_keys, &sheet, files, ids, list)
@@ -278,7 +279,7 @@ fn list_from_stops<R: Read + Drop>(
     ensures { (feed : Feed) → IsContent R.remaining files.old.trips feed.trips → IsContent R.remaining files.old.calendar feed.calendar
         → IsContent R.remaining files.old.calendar_dates feed.calendar_dates → IsContent R.remaining files.old.stop_times feed.stop_times
         → IsContent R.remaining files.old.transfers feed.transfers → IsContent R.remaining files.old.frequencies feed.frequencies
-        → OnOk result (Adds list.old list.new
+        → OnOk result (AddsOrUnread list.old list.new
         (sheet_faults stops_faults sheet.now ++ others_faults (option_and_then ids_known sheet.now) feed)) }
 {
     let ids = stop_ids(alloc, hash_keys, sheet, list)?;
@@ -292,7 +293,7 @@ fn list_files<R: Read + Drop>(
     files: &mut Files<R>,
     list: &mut FaultList,
 ) -> Result<(), AllocError>
-    ensures { (feed : Feed) → AreReaders R.remaining files.old feed → OnOk result (Adds list.old list.new (faults_of feed)) }
+    ensures { (feed : Feed) → AreReaders R.remaining files.old feed → OnOk result (AddsOrUnread list.old list.new (faults_of feed)) }
 {
     let sheet = open(alloc, FeedFile::Stops, files.stops.take(), list)?;
     list_from_stops(alloc, hash_keys, &sheet, files, list)

@@ -1,5 +1,5 @@
 -- Lists of faults, and faults that are added to them.
-use Rattle.std.proofs.Common.{◌≡◌, ◌∙◌, sym, ap, subst, refl, arith, ℕ, zero, suc, ◌+◌, ◌<◌, ◌≤◌, true, false, inl, inr, List, [], ◌∷◌, ◌++◌, length, take, Option, None, Some, append_assoc, min}
+use Rattle.std.proofs.Common.{◌≡◌, ◌∙◌, sym, ap, subst, refl, arith, ℕ, zero, suc, ◌+◌, ◌<◌, ◌≤◌, false, List, [], ◌∷◌, ◌++◌, length, take, Option, None, Some, append_assoc, min}
 use Rattle.std.specs.Prelude.{option_to_list, Result, Ok, Err, IfOk, OnOk}
 use Rattle.std.specs.List.{cons_option}
 use Rattle.std.proofs.lemmas.List.{append-nil}
@@ -8,7 +8,7 @@ use Rattle.gtfs_rows.specs.declared.fault.FaultKind.{FaultKind}
 use Rattle.gtfs_rows.specs.declared.fault.FaultKind.TheVariants as kinds
 use Rattle.gtfs_rows.specs.declared.fault.FeedFault.{FeedFault}
 use Rattle.gtfs_rows.specs.Faults.{Explains, Test, first_fault}
-use Rattle.file_faults.specs.Lists.{Adds, HasFaults, Lists, is_memory, is_unread}
+use Rattle.file_faults.specs.Lists.{Adds, HasFaults, is_memory, is_unread}
 use Rattle.file_faults.specs.Tables.{row_faults}
 use Rattle.file_faults.specs.declared.list.FaultList.{FaultList}
 
@@ -43,40 +43,16 @@ saturates n m = omega arith
 -- ---- what is added
 
 pub adds-none : (list : FaultList) → Adds list list []
-adds-none list = elim list.unread as (λ u. list.unread ≡ u → Adds list list []) [
-  | true ↦ λ e. record { how = inl e }
-  | false ↦ λ e. record { how = inr (record { was_read = e; is_read = e; joins = λ faults has. subst (λ fs. HasFaults list fs) (sym (append-nil faults)) has }) }
-] refl
-
--- one fault, kept or counted
-pub adds-kept : (a b : FaultList) (f : FeedFault) → b.unread ≡ a.unread → ((faults : List FeedFault) → HasFaults a faults → HasFaults b (faults ++ f ∷ []))
-    → Adds a b (f ∷ [])
-adds-kept a b f same joins = elim a.unread as (λ u. a.unread ≡ u → Adds a b (f ∷ [])) [
-  | true ↦ λ e. record { how = inl (same ∙ e) }
-  | false ↦ λ e. record { how = inr (record { was_read = e; is_read = same ∙ e; joins = joins }) }
-] refl
+adds-none list = record { unread = refl; joins = λ faults has. subst (λ fs. HasFaults list fs) (sym (append-nil faults)) has }
 
 pub adds-then : {a b c : FaultList} {xs ys : List FeedFault} → Adds a b xs → Adds b c ys → Adds a c (xs ++ ys)
-adds-then {a} {b} {c} {xs} {ys} first second = elim second.how [
-  | inl unread ↦ record { how = inl unread }
-  | inr later ↦ elim first.how [
-    | inl unread ↦ absurd (let clash : true ≡ false = sym unread ∙ later.was_read in cc clash)
-    | inr here ↦ record {
-      how = inr (record {
-        was_read = here.was_read;
-        is_read = later.is_read;
-        joins = λ faults has. subst (λ fs. HasFaults c fs) (append_assoc faults xs ys) (later.joins (faults ++ xs) (here.joins faults has));
-      });
-    }
-  ]
-]
+adds-then {a} {b} {c} {xs} {ys} first second = record {
+  unread = second.unread ∙ first.unread;
+  joins = λ faults has. subst (λ fs. HasFaults c fs) (append_assoc faults xs ys) (second.joins (faults ++ xs) (first.joins faults has));
+}
 
 pub adds-is : {a b : FaultList} {xs ys : List FeedFault} → xs ≡ ys → Adds a b xs → Adds a b ys
 adds-is {a} {b} same adds = subst (λ fs. Adds a b fs) same adds
-
--- where a reader failed, anything was added
-pub adds-unread : (a b : FaultList) (xs : List FeedFault) → b.unread ≡ true → Adds a b xs
-adds-unread a b xs unread = record { how = inl unread }
 
 -- the faults of rows, and of one more
 pub one : (o : Option FeedFault) → cons_option o [] ≡ option_to_list o
@@ -92,10 +68,6 @@ row_faults-push tests rows row =
 pub adds-row : {a b c : FaultList} (tests : ℕ → List Test) (rows : List ℕ) (row : ℕ) (found : Option FeedFault) → found ≡ first_fault (tests row)
     → Adds a b (row_faults tests rows) → Adds b c (option_to_list found) → Adds a c (row_faults tests (rows ++ row ∷ []))
 adds-row tests rows row found is before here = adds-is (sym (row_faults-push tests rows row)) (adds-then before (adds-is (ap option_to_list is) here))
-
--- a list that had no fault has those that were added
-pub lists-added : (a b : FaultList) (faults : List FeedFault) → HasFaults a [] → Adds a b faults → Lists b faults
-lists-added a b faults none adds = elim adds.how [ inl unread ↦ inl unread | inr all ↦ inr (all.joins [] none) ]
 
 -- ---- what was found
 

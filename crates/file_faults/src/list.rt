@@ -1,6 +1,6 @@
 //! The faults of a feed, as they are found.
 
-ghost use Rattle.std.specs.Prelude.{◌≡◌, ◌⊎◌, [], ◌∷◌, Option, Some, IfOk, OnOk, false, true, is_some, option_map, option_to_list};
+ghost use Rattle.std.specs.Prelude.{◌≡◌, ◌⊎◌, [], ◌∷◌, Option, Some, IfOk, OnOk, false, true, option_map, option_to_list};
 ghost use Rattle.gtfs_rows.specs.declared.fault.FaultKind.TheVariants as kinds;
 ghost use Rattle.gtfs_rows.specs.declared.fault.FeedFault.{FeedFault as FaultData};
 ghost use Rattle.gtfs_rows.specs.Faults.{Explains, fault_at, first_fault};
@@ -81,8 +81,7 @@ impl FaultList {
 
     // Adds a fault: it is kept if there is room, and else counted.
     fn keep(&mut self, fault: FeedFault) -> Result<(), AllocError>
-        ensures adds { OnOk result (Adds self.old self.new (fault ∷ [])) }
-        ensures unread { self.new.unread ≡ self.old.unread }
+        ensures { OnOk result (Adds self.old self.new (fault ∷ [])) }
     {
         if self.faults.len() < FAULT_LIMIT {
             self.faults.push(fault)?;
@@ -128,7 +127,7 @@ impl FaultList {
 
     // Adds the fault of a reader that failed.
     fn add_unread(&mut self, fault: FeedFault) -> Result<(), AllocError>
-        ensures { self.new.unread ≡ true }
+        ensures { OnOk result (self.new.unread ≡ true) }
     {
         self.unread = true;
         self.keep(fault)
@@ -136,10 +135,8 @@ impl FaultList {
 
     /// Adds the fault of a file that wasn't opened. It fails if that is want of memory.
     pub fn add_unopened(&mut self, fault: FeedFault) -> Result<(), AllocError>
-        ensures adds { (first : Option FaultData) → Explains first fault.kind fault
-            → OnOk result (Adds self.old self.new (option_to_list first)) }
-        ensures fails { (first : Option FaultData) → Explains first fault.kind fault
-            → OnOk result ((self.new.unread ≡ true) ⊎ (is_some first ≡ true)) }
+        ensures { (first : Option FaultData) → Explains first fault.kind fault
+            → OnOk result ((self.new.unread ≡ true) ⊎ ((first ≡ Some fault) × Adds self.old self.new (fault ∷ []))) }
     {
         if is_memory(fault.kind) {
             return Err(AllocError);

@@ -1,5 +1,5 @@
 use Rattle.feed_faults.specs.Files.{faults_of}
-use Rattle.file_faults.proofs.ListFacts.{lists-added}
+use Rattle.feed_faults.proofs.FileFacts.{lists-added}
 use Rattle.feed_faults.proofs.feed.list_faults.Goals as goal
 
 pub returns : goal.returns

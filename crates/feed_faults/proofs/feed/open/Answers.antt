@@ -1,3 +1,4 @@
+use Rattle.std.proofs.Common.{inl, inr}
 use Rattle.gtfs_rows.specs.Faults.{first_fault}
 use Rattle.gtfs_rows.specs.Rows.{opening_tests}
 use Rattle.file_faults.proofs.ListFacts.{adds-none}
@@ -8,6 +9,7 @@ returns-in-Ok g c = λ bytes content. let a = c.in-Ok.ensures bytes content in (
 
 pub returns-in_ok-add_unopened-in-Err : goal.returns-in_ok-add_unopened-in-Err
 returns-in_ok-add_unopened-in-Err g c = λ bytes content.
-    let first = first_fault (opening_tests c.args.file bytes) in
-    let why = c.in-Err.ensures bytes content in
-    (c.in_ok-add_unopened-in-Err.ensures.adds first why, c.in_ok-add_unopened-in-Err.ensures.fails first why)
+    elim (c.in_ok-add_unopened-in-Err.ensures (first_fault (opening_tests c.args.file bytes)) (c.in-Err.ensures bytes content)) [
+      | inl unread ↦ inl unread
+      | inr found ↦ inr (c.in-Err.fault, found.0, found.1)
+    ]
