@@ -8,7 +8,8 @@ ghost use Rattle.gtfs_tables.specs.Feed.{AreReaders, Feed};
 ghost use Rattle.feed_faults.specs.Files.{faults_of, file_faults, optional_faults, services_faults};
 ghost use Rattle.feed_faults.specs.Lists.{Lists};
 ghost use Rattle.file_faults.specs.Lists.{Adds};
-ghost use Rattle.feed_faults.specs.Opened.{AddsOrUnread, IsOpened, IsOpenedIfThere, linked_faults, others_faults, rest_faults, sheet_faults};
+ghost use Rattle.feed_faults.specs.Opened.{AddsOrUnread, IsOpened, IsOpenedIfThere};
+ghost use Rattle.feed_faults.specs.Opened.{linked_faults, others_faults, rest_faults, sheet_faults};
 ghost use Rattle.file_faults.specs.Tables.{calendar_dates_faults, calendar_faults, frequencies_faults, ids_known, stop_times_faults};
 ghost use Rattle.file_faults.specs.Tables.{stops_faults, transfers_faults, trips_faults, trips_known};
 
