@@ -24,17 +24,11 @@ pub lacking-added : {a b : FaultList} (file : FeedFile) (columns : List (List �
     → Adds a b (table_faults file columns is_small rows last table)
 lacking-added file columns is_small rows last table lacks added = rw lacks added
 
--- another has those of its rows, and what comes after them
-pub table-added : {a b c : FaultList} (file : FeedFile) (columns : List (List ℕ)) (is_small : Bool) (rows last : List FeedFault) (table : Table)
-    → list_all (λ name. is_some (column_of table name)) columns ≡ true → Adds a b rows
-    → Adds b c (or_else (first_fault (size_test file is_small table ∷ [])) last) → Adds a c (table_faults file columns is_small rows last table)
-table-added file columns is_small rows last table there before after = rw there (adds-then before after)
-
 pub or-nothing : (o : Option FeedFault) → or_else o [] ≡ option_to_list o
 or-nothing None = refl
 or-nothing (Some f) = refl
 
--- as most do, of which only the size comes after the rows
+-- another has those of its rows, and then that of its size
 pub sized-added : {a b : FaultList} (file : FeedFile) (columns : List (List ℕ)) (is_small : Bool) (rows : List FeedFault) (table : Table)
     → list_all (λ name. is_some (column_of table name)) columns ≡ true
     → Adds a b (rows ++ option_to_list (first_fault (size_test file is_small table ∷ []))) → Adds a b (table_faults file columns is_small rows [] table)

@@ -76,6 +76,8 @@ fn list_services(
 }
 
 /// Lists the faults of calendar.txt.
+///
+/// It fails only if memory ran out. Services are looked up under `hash_keys`, which nobody who writes a feed can know.
 pub fn list_calendar(
     alloc: Global,
     hash_keys: RandomState,
@@ -154,6 +156,8 @@ fn list_days(
 }
 
 /// Lists the faults of calendar_dates.txt.
+///
+/// It fails only if memory ran out. Services and their days are looked up under `hash_keys`, which nobody who writes a feed can know.
 pub fn list_calendar_dates(
     alloc: Global,
     hash_keys: RandomState,

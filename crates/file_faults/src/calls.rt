@@ -176,6 +176,8 @@ fn list_size(sheet: &Sheet, list: &mut FaultList) -> Result<(), AllocError>
 
 /// Lists the faults of stop_times.txt. Rows are tested only if the ids of stops and of trips are known, and the times of trips only if each
 /// row passes its tests.
+///
+/// It fails only if memory ran out. Keys of rows are looked up under `hash_keys`, which nobody who writes a feed can know.
 pub fn list_calls(
     alloc: Global,
     hash_keys: RandomState,

@@ -58,7 +58,7 @@ fn list_linked(
     }
 }
 
-/// Lists the faults of transfers.txt. Rows are tested only if the ids of stops.txt are known.
+/// Lists the faults of transfers.txt. Rows are tested only if the ids of stops.txt are known. It fails only if memory ran out.
 pub fn list_transfers(
     sheet: &Sheet,
     ids: &Option<StopIds<'_>>,
@@ -146,6 +146,8 @@ fn list_known(
 }
 
 /// Lists the faults of frequencies.txt. Rows are tested only if the ids of trips are known.
+///
+/// It fails only if memory ran out. Keys of rows are looked up under `hash_keys`, which nobody who writes a feed can know.
 pub fn list_frequencies(
     alloc: Global,
     hash_keys: RandomState,

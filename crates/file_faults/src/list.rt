@@ -91,7 +91,7 @@ impl FaultList {
         Ok(())
     }
 
-    /// Adds the fault that was found, if one was.
+    /// Adds the fault that was found, if one was. It fails only if memory ran out.
     pub fn add_found(&mut self, found: Option<FeedFault>) -> Result<(), AllocError>
         ensures { OnOk result (Adds self.old self.new (option_to_list found)) }
     {
@@ -133,7 +133,7 @@ impl FaultList {
         self.keep(fault)
     }
 
-    /// Adds the fault of a file that wasn't opened. It fails if that is want of memory.
+    /// Adds the fault of a file that wasn't opened. It fails if that is want of memory, or if memory ran out.
     pub fn add_unopened(&mut self, fault: FeedFault) -> Result<(), AllocError>
         ensures { (first : Option FaultData) → Explains first fault.kind fault
             → OnOk result ((self.new.unread ≡ true) ⊎ ((first ≡ Some fault) × Adds self.old self.new (fault ∷ []))) }

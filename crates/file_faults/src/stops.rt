@@ -64,6 +64,8 @@ fn list_ids<'a>(
 }
 
 /// Lists the faults of stops.txt. It gives the ids of the file, if it can be read as a table.
+///
+/// It fails only if memory ran out. Ids are looked up under `hash_keys`, which nobody who writes a feed can know.
 pub fn list_stops<'a>(
     alloc: Global,
     hash_keys: RandomState,
