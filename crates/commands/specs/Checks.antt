@@ -11,7 +11,7 @@ use Rattle.fault_report.specs.Listed.{IsReportOf}
 use Rattle.fault_report.specs.declared.report.FaultReport.{FaultReport}
 use Rattle.feed_faults.specs.Files.{faults_of}
 use Rattle.feed_faults.specs.Lists.{Lists}
-use Rattle.feed_faults.specs.declared.list.FaultList.{FaultList}
+use Rattle.file_faults.specs.declared.list.FaultList.{FaultList}
 use Rattle.feed_report.specs.Counts.{AreCounts, IsCheckFault}
 use Rattle.feed_report.specs.Reports.{Names}
 use Rattle.feed_report.specs.declared.report.FeedReport.{FeedReport}

@@ -3,7 +3,7 @@ use Rattle.std.specs.Prelude.{◌≡◌, map, string_bytes}
 use Rattle.std.specs.Option.{IfSome}
 use Rattle.std.specs.List.{All}
 use Rattle.faults.specs.declared.fault.Fault.TheVariants as faults
-use Rattle.feed_faults.specs.declared.list.FaultList.{FaultList}
+use Rattle.file_faults.specs.declared.list.FaultList.{FaultList}
 use Rattle.tellers.specs.Tellings.{Telling}
 use Rattle.tellers.specs.declared.given.Given.{Given}
 use Rattle.fault_report.specs.declared.report.FaultReport.{FaultReport}

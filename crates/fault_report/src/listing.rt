@@ -5,7 +5,7 @@ ghost use Rattle.fault_report.specs.Listed.{IsReportOf};
 
 use crate::report::{FaultReport, ListedFault};
 use faults::Fault;
-use feed_faults::FaultList;
+use file_faults::FaultList;
 use std::alloc::{AllocError, Global};
 use tellers::{Given, Teller};
 

@@ -8,7 +8,7 @@ use Rattle.command_line.specs.declared.format.Style.TheVariants as styles
 use Rattle.command_line.specs.declared.stop_search.StopSearch.{StopSearch}
 use Rattle.feed_basis.specs.Basis.{BasisData}
 use Rattle.feed_report.specs.declared.report.FeedReport.{FeedReport}
-use Rattle.feed_faults.specs.declared.list.FaultList.{FaultList}
+use Rattle.file_faults.specs.declared.list.FaultList.{FaultList}
 use Rattle.gtfs_rows.specs.declared.fault.FeedFault.{FeedFault}
 use Rattle.faults.specs.declared.fault.Fault.{Fault}
 use Rattle.faults.specs.declared.fault.Fault.TheVariants as faults
