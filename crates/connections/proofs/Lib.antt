@@ -3,3 +3,4 @@ pub mod FoundFacts
 pub mod EventFacts
 pub mod AddedFacts
 pub mod TreeFacts
+pub mod FirstFacts

@@ -1,7 +1,7 @@
 -- Connections: the best journeys with a ride, each with the last moment at which one can leave for it. They are those of a set of
 -- journeys between two places, of which the numbers are known by their departures.
 -- RAPTOR (Delling, Pajor, Werneck, ALENEX 2012), section 4: a range query asks for the best journeys of all departures within a range.
-use Rattle.std.specs.Prelude.{◌≡◌, ℕ, ◌<◌, ◌≤◌, ◌⊎◌, List}
+use Rattle.std.specs.Prelude.{◌≡◌, ℕ, ◌<◌, ◌≤◌, ◌⊎◌, List, length}
 use Rattle.std.specs.List.{All, AllPairs, Contains}
 use Rattle.timetable.specs.declared.parts.Numbers.{Numbers}
 use Rattle.timetable.specs.Journeys.{Unbeaten}
@@ -35,3 +35,16 @@ pub record AreConnections (Of : ℕ → Numbers → Type 0) (window : Window) (l
   pub each : All (IsConnection Of window) list
   pub all : (d : ℕ) (n : Numbers) → window.first ≤ d → d ≤ window.last → Connects Of d n
       → (c : Connection) × Contains list c × (c.departure ≡ d) × (numbers c.journey ≡ n)
+
+-- those of them that depart before `next`
+pub record AreConnectionsBefore (Of : ℕ → Numbers → Type 0) (window : Window) (next : ℕ) (list : List Connection) : Type 0 where
+  pub rising : AllPairs IsBefore list
+  pub each : All (IsConnection Of window) list
+  pub before : All (λ c. c.departure < next) list
+  pub all : (d : ℕ) (n : Numbers) → window.first ≤ d → d ≤ window.last → d < next → Connects Of d n
+      → (c : Connection) × Contains list c × (c.departure ≡ d) × (numbers c.journey ≡ n)
+
+-- they are all connections of the window, or else enough
+pub record AreFirst (Of : ℕ → Numbers → Type 0) (window : Window) (enough : ℕ) (list : List Connection) (next : ℕ) : Type 0 where
+  pub are : AreConnectionsBefore Of window next list
+  pub some : next ≤ window.last → enough ≤ length list

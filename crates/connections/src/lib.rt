@@ -4,9 +4,11 @@
 
 mod asking;
 mod connection;
+mod first;
 mod moments;
 mod scanning;
 
 pub use asking::ask_connections;
 pub use connection::{Connection, Window};
+pub use first::{First, scan_first};
 pub use scanning::scan_connections;
