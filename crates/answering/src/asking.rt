@@ -21,8 +21,8 @@ use std::alloc::{AllocError, Global};
 use timetable::{LATEST_MOMENT, StopId};
 use told_journeys::{points_of, told};
 
-// The moment to leave at, where it is one and it is covered.
-fn covered_moment(basis: &Basis, moment: Option<u32>) -> Option<u32>
+/// The moment, if it is one and it is covered.
+pub fn covered_moment(basis: &Basis, moment: Option<u32>) -> Option<u32>
     ensures moment { IfSome result (λ depart. (moment ≡ Some depart) × (depart ≤ basis.now.timetable.horizon)) }
     ensures early { IfSome result (λ depart. depart ≤ LATEST_MOMENT) }
     ensures sound { IfSome result (λ _. IsSound basis.now) }
@@ -36,16 +36,17 @@ fn covered_moment(basis: &Basis, moment: Option<u32>) -> Option<u32>
     }
 }
 
-// The stops of a question between two stops, and its moment.
-#[derive(Clone, Copy)]
-struct Asked {
-    from: StopId,
-    to: StopId,
-    depart: u32,
+/// The stops of a question between two stops, and its moment.
+#[derive(Clone, Copy, Debug)]
+pub struct Asked {
+    pub from: StopId,
+    pub to: StopId,
+    /// In seconds from the start of the first covered day.
+    pub depart: u32,
 }
 
-// The stops of the question's ids and its moment: a station is no stop.
-fn between<'a>(
+/// The stops of the question's ids and its moment: a station is no stop.
+pub fn between<'a>(
     basis: &Basis,
     question: &Question<'a>,
     moment: Option<u32>,

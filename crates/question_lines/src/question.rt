@@ -10,6 +10,14 @@ use std::str;
 /// The longest line that is a question, in bytes, without its end.
 const LONGEST: usize = 65_536;
 
+/// A last time to leave at.
+#[derive(Clone, Copy, Debug, PartialEq, Eq)]
+pub struct Until {
+    pub day: Date,
+    /// The time of that service day, in seconds from its start.
+    pub seconds: u32,
+}
+
 /// From which place to which, and when.
 #[derive(Clone, Copy, Debug, PartialEq, Eq)]
 pub struct Question<'a> {
@@ -20,6 +28,8 @@ pub struct Question<'a> {
     pub day: Date,
     /// The time of that service day, in seconds from its start.
     pub seconds: u32,
+    /// The last time to leave at, if the connections up to then are asked for.
+    pub until: Option<Until>,
 }
 
 // The fields of a line.
@@ -76,5 +86,6 @@ pub(crate) fn question_of(line: &[u8]) -> Option<Question<'_>>
         to: fields.to,
         day,
         seconds,
+        until: None,
     })
 }

@@ -5,4 +5,4 @@ mod numbered;
 mod points;
 mod stages;
 
-pub use points::{points_of, told};
+pub use points::{points_of, tell, told};

@@ -26,8 +26,8 @@ pub fn points_of(alloc: Global, basis: &Basis, front: &[Numbers]) -> Result<Vec<
     Ok(points)
 }
 
-// A journey that begins at the moment as a point, with its rides and walks where they are wanted.
-fn tell(
+/// A journey that begins at the moment as a point, with its rides and walks if they are wanted. It fails only if memory runs out.
+pub fn tell(
     alloc: Global,
     basis: &Basis,
     depart: u32,

@@ -1,4 +1,4 @@
-use Rattle.std.proofs.Common.{◌≡◌, List, ℕ, sym, subst, arith}
+use Rattle.std.proofs.Common.{◌≡◌, List, ℕ, refl, sym, subst, arith}
 use Rattle.question_lines.specs.Questions.{AreFields}
 use Rattle.question_lines.proofs.question.question_of.Goals as goal
 
@@ -14,4 +14,5 @@ returns c =
       fields = subst (λ (l : List ℕ). AreFields l fields.from.now fields.to.now fields.day.now fields.time.now) same c.in_ok-fields.ensures;
       day = sym c.in_ok-day.ensures;
       seconds = sym c.in_ok-seconds.ensures;
+      once = refl;
     }
