@@ -14,8 +14,8 @@ use crate::texts::{
     AUDIT_USAGE, AUDITED, AUDITORS, BUILD, BUILD_MORE, CHECK, CHECK_ALL, CHECK_MORE, DIRECT,
     DIRECT_MORE, FAULT_TABLE, FAULTS, FEED, FORMAT, FROM, HEADER, LEGS, LIST, LIST_MORE, MIGRATE,
     MIGRATE_MORE, MIGRATE_PROGRESS, MORE, NAMES, NEW_STORE, OLD_STORE, ON, PART, PLAIN_FORMAT,
-    PROGRESS, SCAN, SCAN_MORE, SERVE, SERVE_MORE, STOPS, STOPS_MORE, STORE, TEXT, TO, VERSION,
-    WEEK, WORKERS,
+    PROGRESS, SCAN, SCAN_MORE, SERVE, SERVE_MORE, STOPS, STOPS_MORE, STORE, TEXT, TO, UNTIL,
+    VERSION, WEEK, WORKERS,
 };
 use clap::builder::ValueParser;
 use clap::{Arg, ArgMatches, Command, Error};
@@ -106,6 +106,7 @@ fn scan<'a>(alloc: Global) -> Result<Command<'a>, Error>
     ensures { IsMade scan_app result }
 {
     let command = journey(alloc, "scan", SCAN, SCAN_MORE);
+    let command = with(command, optional(alloc, "until", "HH:MM:SS", UNTIL));
     let command = with(command, flag(alloc, "legs", LEGS));
     with(command, flag(alloc, "names", NAMES))
 }

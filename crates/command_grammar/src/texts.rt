@@ -35,7 +35,7 @@ code. The faults are:
   S2 BadZone           --zone is a POSIX rule, as CET-1CEST,M3.5.0,M10.5.0/3
   S3 ZoneJump          by --zone a day lasts less than 1 or more than 172,800 seconds
   A1 BadDate           --date and --on are days of the calendar, as 20240102
-  A2 BadTime           --at is a time up to 167:59:59, as 08:00:00
+  A2 BadTime           --at and --until are times up to 167:59:59, as 08:00:00
   Z1 NotAStore         FILE is no store of this program: name another, or delete it
   Z2 OtherTimetable    FILE was built from another feed, --date, --days, --zone or --default-walk
   Z3 OtherRides        FILE was built with another --rides
@@ -90,7 +90,10 @@ pub(crate) const SCAN: &str =
     "The best arrivals from a stop to a stop by walks and at most K rides";
 
 pub(crate) const SCAN_MORE: &str = "\
-It prints a line for each number of rides that arrives earlier than all with fewer.
+It prints a line for each number of rides that arrives earlier than all with fewer. With --until it
+prints the connections instead: for each departure from --at until then what arrives earlier than all
+that leave later and have no more rides, as `depart DATE TIME arrive DATE TIME rides N`. The way on
+foot is `walk seconds N`. If the last line is `more from DATE TIME`, the connections end before that.
 
 Example: tp scan --feed demo/feed-m --date 20240102 --from A --to D --at 08:00:00";
 
@@ -145,6 +148,9 @@ pub(crate) const FROM: &str = "The id of the stop to leave from, for ask also of
 pub(crate) const TO: &str = "The id of the stop to go to, for ask also of a station";
 
 pub(crate) const AT: &str = "The time of the day to leave at; hours up to 167";
+
+pub(crate) const UNTIL: &str =
+    "Print the connections that leave from --at until this time of the day";
 
 pub(crate) const ON: &str = "The covered day to leave on, if it isn't the first";
 

@@ -14,7 +14,7 @@ some_day = record { year = pos 1970; month = 1; day = 1; year_in = search rules;
 
 -- the question of these texts on some day
 abbrev pub asked_on : Places → Date → Question
-asked_on places day = record { from = places.from; to = places.to; day = day; seconds = 0 }
+asked_on places day = record { from = places.from; to = places.to; day = day; seconds = 0; until = None }
 
 pub has_places : (rows : List Row) (places : Places) (day : Date) → ArePlaces rows places → HasPlaces rows (asked_on places day)
 has_places rows places day are = record { from = are.from; to = are.to; at = (places.at.now, are.at) }

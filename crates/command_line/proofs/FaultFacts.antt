@@ -22,6 +22,7 @@ module _ {X Y : Type 0} (IsPart : X → Type 0) (asked : X → Option Question) 
   of_part faults.NoJob none = λ y is. let part = back y is in none part.0 part.1
   of_part faults.BadDate bad = (whole bad.0, of bad.0 bad.1, asks_too bad.0 bad.2, bad.3)
   of_part faults.BadTime bad = (whole bad.0, of bad.0 bad.1, asks_too bad.0 bad.2, bad.3)
+  of_part faults.BadUntil bad = (whole bad.0, of bad.0 bad.1, asks_too bad.0 bad.2, bad.3)
 
 -- the words of these texts give what `whole` makes of their question, whatever its day and time
 pub of_question : {Y : Type 0} (Is : Y → Type 0) (asks : Y → Option Question) (whole : Question → Y) (rows : List Row) (first : Option Date)
@@ -32,4 +33,6 @@ of_question Is asks whole rows first places are of same faults.NoJob lacks = abs
 of_question Is asks whole rows first places are of same faults.BadDate lacks =
     let question = asked_on places some_day in (whole question, of question (has_places rows places some_day are), (question, same question), lacks)
 of_question Is asks whole rows first places are of same faults.BadTime lacks =
+    let question = asked_on places some_day in (whole question, of question (has_places rows places some_day are), (question, same question), lacks)
+of_question Is asks whole rows first places are of same faults.BadUntil lacks =
     let question = asked_on places some_day in (whole question, of question (has_places rows places some_day are), (question, same question), lacks)

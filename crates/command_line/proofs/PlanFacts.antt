@@ -61,5 +61,11 @@ module _ (name : Text) (rows : List Row) (settings : Settings) (style : Style) (
     plan = planned bad.0;
     outline = record { settings = has; command = bad.1; style = told };
     told = refl;
-    fault = (bad.3.0, sym value ∙ ap (option_map ymd) bad.3.1, bad.2, (bad.3.2, is.2 bad.3.2.1.0 bad.3.2.1.1));
+    fault = (bad.3.0, sym value ∙ ap (option_map ymd) bad.3.1, bad.2, inl (bad.3.2, is.2 bad.3.2.1.0 bad.3.2.1.1));
+  })
+  misread faults.BadUntil bad why is = subst (IsPlanFault name rows) (sym is.1) (record {
+    plan = planned bad.0;
+    outline = record { settings = has; command = bad.1; style = told };
+    told = refl;
+    fault = (bad.3.0, sym value ∙ ap (option_map ymd) bad.3.1, bad.2, inr (bad.3.2, is.2 bad.3.2.1.0 bad.3.2.1.1));
   })

@@ -1,13 +1,13 @@
 -- Why words give no job, and which fault of theirs is reported: one of `clap`, or else that they name no job, or else the first covered
--- day or the date of a check, or else the day to leave on, or else the time.
-use Rattle.std.specs.Prelude.{◌≡◌, ◌⊎◌, [], List, Option, None, Some, codes}
+-- day or the date of a check, or else the day to leave on, or else the time to leave at, or else the last such time.
+use Rattle.std.specs.Prelude.{◌≡◌, ◌⊎◌, ℕ, [], List, Option, None, Some, codes}
 use Rattle.jiff.specs.Types.{Date}
 use Rattle.clap.specs.Words.{Kinds, Row, Text}
 use Rattle.gtfs_text.specs.Values.{date_of}
 use Rattle.options.specs.Statuses.{IsStatus}
 use Rattle.options.specs.Values.{HasText}
 use Rattle.question_lines.specs.declared.question.Question.{Question}
-use Rattle.command_line.specs.Days.{HasNoTime, IsDate}
+use Rattle.command_line.specs.Days.{HasNoTime, HasTime, IsDate}
 use Rattle.command_line.specs.FeedWords.{HasCheckWords}
 use Rattle.command_line.specs.Jobs.{IsDayOf, IsOutline, NamesNoJob, question_of}
 use Rattle.command_line.specs.declared.feed_check.FeedCheck.{FeedCheck}
@@ -34,6 +34,11 @@ LacksDay rows = (text : Text) × HasText rows (codes "on") text × (date_of text
 abbrev pub LacksTime : List Row → Date → Type 0
 LacksTime rows first = ((day : Date) × IsDayOf rows first day) × HasNoTime rows (codes "at")
 
+-- there is such a day and a time, and the last time to leave at is none
+abbrev pub LacksUntil : List Row → Date → Type 0
+LacksUntil rows first =
+    (((day : Date) × IsDayOf rows first day) × ((seconds : ℕ) × HasTime rows (codes "at") seconds)) × HasNoTime rows (codes "until")
+
 -- the date of a check is named, and is none
 abbrev pub NamesNoDate : List Row → Type 0
 NamesNoDate rows = (text : Text) × HasText rows (codes "date") text × (date_of text ≡ None)
@@ -45,11 +50,12 @@ IsBadDate word rows plan =
     ⊎ (((first : Date) × IsDate plan.settings.date.now first) × IsAsked (question_of plan.command)
     × ((lacks : LacksDay rows) × IsWord word (codes "on") lacks.0))
 
--- the days are such, and the word has the time, which is none
+-- the days are such, and the word has the time, which is none; or else the last time, which is
 abbrev pub IsBadTime : Word → List Row → Plan → Type 0
 IsBadTime word rows plan =
     (first : Date) × IsDate plan.settings.date.now first × IsAsked (question_of plan.command)
-    × ((lacks : LacksTime rows first) × IsWord word (codes "at") lacks.1.0)
+    × (((lacks : LacksTime rows first) × IsWord word (codes "at") lacks.1.0)
+    ⊎ ((lacks : LacksUntil rows first) × IsWord word (codes "until") lacks.1.0))
 
 -- a command's name and rows give a plan whose answer has that style, but for days and times, of which this is the fault
 pub record IsMisread (Fault : List Row → Plan → Type 0) (style : Style) (name : Text) (rows : List Row) : Type 0 where

@@ -6,7 +6,7 @@ use Rattle.options.specs.Values.{HasText}
 use Rattle.question_lines.specs.declared.question.Question.{Question}
 use Rattle.command_line.specs.Jobs.{AreTimes, HasPlaces, IsDayOf, IsJobBy, IsOutline}
 use Rattle.command_line.specs.FeedWords.{HasCheckWords}
-use Rattle.command_line.specs.Misreads.{IsAsked, IsBadDate, IsBadTime, IsCheckMisread, IsMisread, IsWord, LacksDay, LacksTime}
+use Rattle.command_line.specs.Misreads.{IsAsked, IsBadDate, IsBadTime, IsCheckMisread, IsMisread, IsWord, LacksDay, LacksTime, LacksUntil}
 use Rattle.command_line.specs.declared.format.Style.{Style}
 use Rattle.command_line.specs.declared.job.Job.{Job}
 use Rattle.command_line.specs.declared.job.Plan.{Plan}
@@ -36,21 +36,26 @@ LacksDayIn rows first = (first ≡ None) ⊎ (((one : Date) × (first ≡ Some o
 abbrev pub LacksTimeIn : List Row → Option Date → Type 0
 LacksTimeIn rows first = (one : Date) × (first ≡ Some one) × LacksTime rows one
 
--- the day and the time of a question, if the first covered day is one
+abbrev pub LacksUntilIn : List Row → Option Date → Type 0
+LacksUntilIn rows first = (one : Date) × (first ≡ Some one) × LacksUntil rows one
+
+-- the day and the times of a question, if the first covered day is one
 abbrev pub AreTimesIn : List Row → Option Date → Option Question → Type 0
 AreTimesIn rows first asked = (one : Date) → first ≡ Some one → AreTimes rows one asked
 
--- the day of a question is none, or its time
+-- the day of a question is none, or one of its times
 abbrev pub LacksTimes : List Row → Option Date → WordFault → Type 0
 LacksTimes rows first faults.NoJob = ⊥
 LacksTimes rows first faults.BadDate = LacksDayIn rows first
 LacksTimes rows first faults.BadTime = LacksTimeIn rows first
+LacksTimes rows first faults.BadUntil = LacksUntilIn rows first
 
--- the words give none of these; or they give one that asks a question, but for its day or its time
+-- the words give none of these; or they give one that asks a question, but for its day or one of its times
 abbrev pub IsFaultOf : {X : Type 0} → (X → Type 0) → (X → Option Question) → List Row → Option Date → WordFault → Type 0
 IsFaultOf {X} Is asked rows first faults.NoJob = (x : X) → ¬ Is x
 IsFaultOf {X} Is asked rows first faults.BadDate = (x : X) × Is x × IsAsked (asked x) × LacksDayIn rows first
 IsFaultOf {X} Is asked rows first faults.BadTime = (x : X) × Is x × IsAsked (asked x) × LacksTimeIn rows first
+IsFaultOf {X} Is asked rows first faults.BadUntil = (x : X) × Is x × IsAsked (asked x) × LacksUntilIn rows first
 
 -- the word has the first covered day, of this text, if that day is none; else it has the day to leave on
 abbrev pub IsDateWord : List Row → Text → Option Date → Word → Type 0
@@ -63,6 +68,8 @@ IsUnreadOf rows date first style faults.NoJob why = why ≡ unread.Shown 2
 IsUnreadOf rows date first style faults.BadDate why = (word : Word) × (why ≡ unread.BadDate style word) × IsDateWord rows date first word
 IsUnreadOf rows date first style faults.BadTime why =
     (word : Word) × (why ≡ unread.BadTime style word) × ((text : Text) → HasText rows (codes "at") text → IsWord word (codes "at") text)
+IsUnreadOf rows date first style faults.BadUntil why =
+    (word : Word) × (why ≡ unread.BadTime style word) × ((text : Text) → HasText rows (codes "until") text → IsWord word (codes "until") text)
 
 -- there is no plan, or no job, or one with such a fault
 abbrev pub IsPlanFault : Text → List Row → Unread → Type 0

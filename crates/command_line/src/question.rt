@@ -1,8 +1,9 @@
 //! The words of a question.
 
-ghost use Rattle.std.specs.Prelude.{IfOk, IfErr, IfSome, IfNone, Some};
+ghost use Rattle.std.specs.Prelude.{◌≡◌, IfOk, IfErr, IfSome, IfNone, Some, codes};
 ghost use Rattle.clap.specs.Words.{rows_of, found_of};
-ghost use Rattle.command_line.specs.Jobs.{HasPlaces};
+ghost use Rattle.command_line.specs.Days.{HasNoTime};
+ghost use Rattle.command_line.specs.Jobs.{HasPlaces, IsUntilOf};
 ghost use Rattle.command_line.specs.Readings.{ArePlaces, AreTimesIn, IsDayIn, LacksDayIn, LacksPlaces, LacksTimes};
 
 use crate::unread::WordFault;
@@ -10,7 +11,7 @@ use clap::ArgMatches;
 use gtfs_text::{date, time};
 use jiff::civil::Date;
 use options::text_of;
-use question_lines::Question;
+use question_lines::{Question, Until};
 
 /// The ids and the time of a question, as they are written.
 #[derive(Clone, Copy)]
@@ -43,8 +44,22 @@ fn day_of(found: &ArgMatches<'_>, first: Option<Date>) -> Option<Date>
     }
 }
 
-/// The question of these texts, with its day and time read from the words; `first` is the first covered day. Its day may be none, or else
-/// its time.
+// The last time to leave at, on the day to leave on, if one is named. It may be none.
+fn until_of(found: &ArgMatches<'_>, day: Date) -> Result<Option<Until>, WordFault>
+    ensures until { IfOk result (IsUntilOf (rows_of (found_of found.now)) day) }
+    ensures fault { IfErr result (λ fault. (fault ≡ WordFault.BadUntil) × HasNoTime (rows_of (found_of found.now)) (codes "until")) }
+{
+    let Some(text) = text_of(found, "until") else {
+        return Ok(None);
+    };
+    match time(text) {
+        Some(seconds) => Ok(Some(Until { day, seconds })),
+        None => Err(WordFault::BadUntil),
+    }
+}
+
+/// The question of these texts, with its day and times read from the words; `first` is the first covered day. Its day may be none, or else
+/// its time, or else its last time.
 pub(crate) fn question_of<'a>(
     places: Places<'a>,
     found: &ArgMatches<'_>,
@@ -61,10 +76,14 @@ pub(crate) fn question_of<'a>(
     let Some(seconds) = time(places.at) else {
         return Err(WordFault::BadTime);
     };
-    Ok(Question {
-        from: places.from,
-        to: places.to,
-        day,
-        seconds,
-    })
+    match until_of(found, day) {
+        Ok(until) => Ok(Question {
+            from: places.from,
+            to: places.to,
+            day,
+            seconds,
+            until,
+        }),
+        Err(fault) => Err(fault),
+    }
 }

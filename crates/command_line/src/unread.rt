@@ -36,6 +36,8 @@ pub(crate) enum WordFault {
     NoJob,
     BadDate,
     BadTime,
+    // The last time to leave at is none.
+    BadUntil,
 }
 
 // An option with its text: an empty one if there is none.
@@ -75,5 +77,6 @@ pub(crate) fn unread_of<'a>(
         WordFault::NoJob => Unread::Shown(2),
         WordFault::BadDate => Unread::BadDate(style, date_word(found, date, first)),
         WordFault::BadTime => Unread::BadTime(style, word_of(found, "at")),
+        WordFault::BadUntil => Unread::BadTime(style, word_of(found, "until")),
     }
 }
