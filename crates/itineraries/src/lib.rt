@@ -5,5 +5,7 @@
 mod repeats;
 mod telling;
 mod through;
+mod window;
 
 pub use telling::{Asked, itinerary_by, itinerary_of, places_of};
+pub use window::connections_of;

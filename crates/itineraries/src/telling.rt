@@ -19,6 +19,8 @@ pub struct Asked<'a> {
     pub to: &'a str,
     /// The time to leave at.
     pub departs: DayTime,
+    /// The last time to leave at, if connections are asked for.
+    pub until: Option<DayTime>,
     /// Whether the stops that a ride calls at in between are told, as on a map.
     pub through: bool,
 }
@@ -61,11 +63,11 @@ fn arrival_of(stage: &Stage) -> DayTime {
     }
 }
 
-// The stops and trips whose names are wanted.
+/// The stops and trips whose names are wanted.
 #[derive(Drop)]
-struct Wanted<'a> {
-    stops: Vec<&'a str>,
-    trips: Vec<&'a str>,
+pub(crate) struct Wanted<'a> {
+    pub(crate) stops: Vec<&'a str>,
+    pub(crate) trips: Vec<&'a str>,
 }
 
 impl<'a> Wanted<'a> {
@@ -91,8 +93,8 @@ impl<'a> Wanted<'a> {
             .extend_from_slice(&stops_between(alloc, basis, stage)?)
     }
 
-    // Puts in those of a journey.
-    fn put_point(
+    /// Puts in those of a journey.
+    pub(crate) fn put_point(
         &mut self,
         alloc: Global,
         basis: &'a Basis,
@@ -143,19 +145,19 @@ fn names_for<'a>(
     Names::of(alloc, sheets, &wanted.stops, &wanted.trips)
 }
 
-// What an answer is told by.
+/// What an answer is told by.
 #[derive(Clone, Copy)]
-struct Teller<'a> {
-    basis: &'a Basis,
-    clock: Clock,
-    names: &'a Names,
-    // Whether the stops that a ride calls at in between are told.
-    through: bool,
+pub(crate) struct Teller<'a> {
+    pub(crate) basis: &'a Basis,
+    pub(crate) clock: Clock,
+    pub(crate) names: &'a Names,
+    /// Whether the stops that a ride calls at in between are told.
+    pub(crate) through: bool,
 }
 
 impl Teller<'_> {
-    // A time by the clock.
-    fn time(&self, at: DayTime) -> Time {
+    /// A time by the clock.
+    pub(crate) fn time(&self, at: DayTime) -> Time {
         self.clock.time(at)
     }
 
@@ -230,8 +232,8 @@ impl Teller<'_> {
         Ok(legs)
     }
 
-    // A journey of one who is there at this time.
-    fn journey(
+    /// A journey of one who is there at this time.
+    pub(crate) fn journey(
         &self,
         alloc: Global,
         begins: DayTime,
@@ -327,6 +329,7 @@ pub fn itinerary_by<'a>(
     Ok(Itinerary {
         command: asked.command,
         departure: teller.time(asked.departs),
+        window: None,
         journeys: teller.journeys(alloc, asked.departs, answer)?,
         from: names.place(alloc, asked.from)?,
         to: names.place(alloc, asked.to)?,

@@ -85,7 +85,18 @@ pub struct Journey {
     pub legs: Option<Vec<Leg>>,
 }
 
-/// A question with its answer: the best journeys, by rising rides.
+/// What is told of a window of departures beside its connections.
+#[derive(Clone, Copy)]
+pub struct Window {
+    /// The last time to leave at.
+    pub until: Time,
+    /// The seconds of the way on foot, if there is one.
+    pub walk_seconds: Option<u32>,
+    /// The time from which on connections aren't told; none if all are.
+    pub next: Option<Time>,
+}
+
+/// A question with its answer: the best journeys, by rising rides; or the connections of a window, by departure.
 #[derive(Drop)]
 pub struct Itinerary<'a> {
     pub command: &'a str,
@@ -93,5 +104,7 @@ pub struct Itinerary<'a> {
     pub to: Place,
     /// The time to leave at.
     pub departure: Time,
+    /// The window, if connections are told.
+    pub window: Option<Window>,
     pub journeys: Vec<Journey>,
 }

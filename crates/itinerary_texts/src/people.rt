@@ -1,6 +1,6 @@
 //! Journeys for people.
 
-use crate::itinerary::{Itinerary, Journey, Kind, Leg, Place, Trip};
+use crate::itinerary::{Itinerary, Journey, Kind, Leg, Place, Trip, Window};
 use shown_ids::Shown;
 use std::alloc::{AllocError, Global};
 use std::{fmt, format};
@@ -104,6 +104,31 @@ impl fmt::Display for Journey {
     }
 }
 
+// Writes the way on foot, if one may walk. Gives whether it did.
+fn write_walk<W: fmt::Write>(
+    f: &mut fmt::Formatter<W>,
+    window: &Option<Window>,
+) -> Result<bool, fmt::Error> {
+    let Some(window) = window else {
+        return Ok(false);
+    };
+    let Some(seconds) = window.walk_seconds else {
+        return Ok(false);
+    };
+    writeln!(f, "on foot {} min", minutes(seconds))?;
+    Ok(true)
+}
+
+// Writes from when on connections aren't told.
+fn write_next<W: fmt::Write>(f: &mut fmt::Formatter<W>, window: &Option<Window>) -> fmt::Result {
+    if let Some(window) = window
+        && let Some(next) = &window.next
+    {
+        writeln!(f, "\nmore from {next}")?;
+    }
+    Ok(())
+}
+
 impl fmt::Display for Itinerary<'_> {
     fn fmt<W: fmt::Write>(&self, f: &mut fmt::Formatter<W>) -> fmt::Result {
         writeln!(
@@ -112,13 +137,14 @@ impl fmt::Display for Itinerary<'_> {
             PlaceText(&self.from),
             PlaceText(&self.to)
         )?;
-        if self.journeys.is_empty() {
+        let walks = write_walk(f, &self.window)?;
+        if self.journeys.is_empty() && !walks {
             writeln!(f, "no journey")?;
         }
         for journey in &self.journeys {
             write!(f, "\n{journey}")?;
         }
-        Ok(())
+        write_next(f, &self.window)
     }
 }
 

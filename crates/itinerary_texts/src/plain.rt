@@ -1,6 +1,8 @@
 //! Answers as JSON.
 
-use crate::itinerary::{Frequency, Itinerary, Journey, Kind, Leg, Place, Route, Stay, Trip};
+use crate::itinerary::{
+    Frequency, Itinerary, Journey, Kind, Leg, Place, Route, Stay, Trip, Window,
+};
 use crate::time::Time;
 use json_writer::JsonWriter;
 use std::alloc::{AllocError, Global};
@@ -122,11 +124,22 @@ fn write_legs(out: &mut JsonWriter, legs: &Option<Vec<Leg>>) {
     out.end_list();
 }
 
-// Writes when a journey begins, if that is told.
-fn write_begin(out: &mut JsonWriter, departure: &Option<Time>) {
-    match departure {
-        Some(departure) => write_time(out, departure),
+// Writes a time, if it is told.
+fn write_some_time(out: &mut JsonWriter, time: &Option<Time>) {
+    match time {
+        Some(time) => write_time(out, time),
         None => out.null(),
+    }
+}
+
+// Writes what is told of a window; nothing if there is none.
+fn write_window(out: &mut JsonWriter, window: &Option<Window>) {
+    if let Some(window) = window {
+        out.name("until");
+        write_time(out, &window.until);
+        out.member("walk_seconds", &window.walk_seconds);
+        out.name("more_from");
+        write_some_time(out, &window.next);
     }
 }
 
@@ -135,7 +148,7 @@ fn write_journey(out: &mut JsonWriter, journey: &Journey) {
     out.begin_object();
     out.member("rides", &journey.rides);
     out.name("departure");
-    write_begin(out, &journey.departure);
+    write_some_time(out, &journey.departure);
     out.name("arrival");
     write_time(out, &journey.arrival);
     out.member("seconds", &journey.seconds);
@@ -154,6 +167,7 @@ fn write_itinerary(out: &mut JsonWriter, itinerary: &Itinerary<'_>) {
     write_place(out, &itinerary.to);
     out.name("departure");
     write_time(out, &itinerary.departure);
+    write_window(out, &itinerary.window);
     out.name("journeys");
     out.begin_list();
     for journey in &itinerary.journeys {
