@@ -2,10 +2,11 @@
 use Rattle.std.proofs.Common.{◌≡◌, ◌∙◌, Result, Ok, Err, IfOk, IfErr, MatchResult, refl, sym, subst}
 use Rattle.answer_lines.specs.declared.answer.Answer.{Answer}
 use Rattle.answer_lines.specs.declared.report.Report.{Report}
+use Rattle.connection_lines.specs.declared.connections.Connections.{Connections}
 use Rattle.faults.specs.declared.fault.Fault.{Fault}
 use Rattle.question_lines.specs.declared.question.Question.{Question}
 use Rattle.commands.specs.Found.{found_by}
-use Rattle.commands.specs.Rules.{FindsAnswer, FindsReport}
+use Rattle.commands.specs.Rules.{FindsAnswer, FindsConnections, FindsReport}
 use Rattle.commands.specs.declared.found.Found.{Found}
 use Rattle.commands.specs.declared.found.Found.TheVariants as founds
 
@@ -24,6 +25,14 @@ answer_found question (Ok a) found Right Wrong is right =
     subst (λ (f : Result Found Fault). MatchResult f (FindsAnswer Right) Wrong) (sym is) (question, a, refl, right)
 answer_found question (Err fault) found Right Wrong is wrong =
     subst (λ (f : Result Found Fault). MatchResult f (FindsAnswer Right) Wrong) (sym is) wrong
+
+pub connections_found : (question : Question) (answer : Result Connections Fault) (found : Result Found Fault) (Right : Connections → Type 0)
+    (Wrong : Fault → Type 0) → found ≡ found_by (λ a. founds.Connections question a) answer → MatchResult answer Right Wrong
+    → MatchResult found (FindsConnections Right) Wrong
+connections_found question (Ok a) found Right Wrong is right =
+    subst (λ (f : Result Found Fault). MatchResult f (FindsConnections Right) Wrong) (sym is) (question, a, refl, right)
+connections_found question (Err fault) found Right Wrong is wrong =
+    subst (λ (f : Result Found Fault). MatchResult f (FindsConnections Right) Wrong) (sym is) wrong
 
 pub report_found : (report : Result Report Fault) (found : Result Found Fault) (Right : Report → Type 0) (Wrong : Fault → Type 0)
     → found ≡ found_by (λ r. founds.Report r) report → MatchResult report Right Wrong → MatchResult found (FindsReport Right) Wrong

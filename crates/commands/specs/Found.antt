@@ -24,16 +24,19 @@ found_by show (Err fault) = Err fault
 -- as lines
 abbrev pub lines_of : Found → Told
 lines_of (founds.Answer question answer) = tolds.Answer answer
+lines_of (founds.Connections question connections) = tolds.Connections connections
 lines_of (founds.Report report) = tolds.Report report
 
 -- the text tells what is found in a format
 abbrev pub IsTextOf : Telling → Format → BasisData → Found → List ℕ → Type 0
 IsTextOf t format basis (founds.Answer question answer) text = t.tells format basis answer text
+IsTextOf t format basis (founds.Connections question connections) text = t.connects format basis connections text
 IsTextOf t format basis (founds.Report report) text = t.reports format report text
 
 -- the status to end with: that of a report
 abbrev pub found_status : Found → ℕ
 found_status (founds.Answer question answer) = 0
+found_status (founds.Connections question connections) = 0
 found_status (founds.Report report) = report_status report
 
 -- as a text in a format, or memory ran out as it was made

@@ -1,9 +1,10 @@
 -- What each command may find, or which fault it has.
-use Rattle.std.specs.Prelude.{◌≡◌, ◌↔◌, ◌⊎◌, ℕ, Bool, List, Option, Result, Err, IfErr, MatchResult}
+use Rattle.std.specs.Prelude.{◌≡◌, ◌↔◌, ◌⊎◌, ℕ, Bool, List, Option, None, Some, Result, Err, IfErr, MatchResult}
 use Rattle.disk_model.specs.Disk.{State, Grew}
 use Rattle.disk_model.specs.Image.{IsOutcome}
 use Rattle.disk_model.specs.Moments.{LeavesOnly}
 use Rattle.question_lines.specs.declared.question.Question.{Question}
+use Rattle.question_lines.specs.declared.question.Until.{Until}
 use Rattle.faults.specs.Faults.{in_migration}
 use Rattle.faults.specs.declared.fault.Fault.{Fault}
 use Rattle.faults.specs.declared.migrating.Side.TheVariants.{Old}
@@ -11,8 +12,10 @@ use Rattle.feed_basis.specs.Basis.{BasisData}
 use Rattle.feed_basis.specs.Ids.{stop_alone}
 use Rattle.answer_lines.specs.declared.answer.Answer.{Answer}
 use Rattle.answer_lines.specs.declared.report.Report.{Report}
-use Rattle.answering.specs.Answers.{IsAnswered}
+use Rattle.answering.specs.Answers.{ArePoints, IsAnswered}
 use Rattle.answering.specs.Refusals.{IsUnanswered, NoneMissing}
+use Rattle.connection_lines.specs.declared.connections.Connections.{Connections}
+use Rattle.told_connections.specs.Windows.{IsAnsweredWithin, IsUnansweredWithin}
 use Rattle.store_answers.specs.Asked.{IsStoredAnswer, IsStoredRefusal}
 use Rattle.store_answers.specs.Audited.{IsAllAudited, IsAudited, IsUnaudited}
 use Rattle.store_building.specs.Builds.{IsBuilt, IsUnbuilt, ReportsBuilt}
@@ -36,6 +39,11 @@ abbrev pub FindsAnswer : (Answer → Type 0) → Found → Type 0
 FindsAnswer Right found =
     (question : Question) × (answer : Answer) × (found ≡ founds.Answer question answer) × Right answer
 
+-- connections are found, which are right
+abbrev pub FindsConnections : (Connections → Type 0) → Found → Type 0
+FindsConnections Right found =
+    (question : Question) × (connections : Connections) × (found ≡ founds.Connections question connections) × Right connections
+
 -- a report is found, which is right
 abbrev pub FindsReport : (Report → Type 0) → Found → Type 0
 FindsReport Right found = (report : Report) × (found ≡ founds.Report report) × Right report
@@ -46,6 +54,18 @@ IsStopAnswer basis question Right found =
     (moment : Option ℕ) × IsMoment basis.cover question.day question.seconds moment
     × MatchResult found (FindsAnswer (IsAnswered (stop_alone basis.names) Right basis.timetable moment question))
     (IsUnanswered (stop_alone basis.names) NoneMissing basis.timetable moment question)
+
+-- a question between stops for the connections until a last time to leave at, over the timetable alone
+abbrev pub IsWindowAnswer : BasisData → ℕ → Bool → Question → Until → Result Found Fault → Type 0
+IsWindowAnswer basis k wanted question last found =
+    (moment : Option ℕ) × (until : Option ℕ) × IsMoment basis.cover question.day question.seconds moment
+    × IsMoment basis.cover last.day last.seconds until
+    × MatchResult found (FindsConnections (IsAnsweredWithin basis k wanted moment until question)) (IsUnansweredWithin basis moment until question)
+
+-- by rounds: the best arrivals, or the connections if a last time to leave at is named
+abbrev pub IsScanned : BasisData → ℕ → Bool → Question → Option Until → Result Found Fault → Type 0
+IsScanned basis k wanted question None found = IsStopAnswer basis question (ArePoints basis k wanted) found
+IsScanned basis k wanted question (Some last) found = IsWindowAnswer basis k wanted question last found
 
 -- what an audit of a stored tree, or of all of them, may find
 abbrev pub IsAuditDone : BasisData → ℕ → Audited → State → State → Result Found Fault → Type 0

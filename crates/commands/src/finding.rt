@@ -1,9 +1,10 @@
 //! What a command finds: at the timetable, or over the file of a store.
 
+ghost use Rattle.commands.specs.Rules.{IsScanned};
 ghost use Rattle.commands.specs.Runs.{IsSearchFound};
 ghost use Rattle.commands.specs.World.{view_of};
 
-use crate::found::{Found, found_answer};
+use crate::found::{Found, found_answer, found_connections};
 use crate::opening::StoreFile;
 use crate::storing::over_store;
 use crate::system::System;
@@ -11,11 +12,37 @@ use answering::{direct, scan};
 use command_line::{Search, Style};
 use faults::Fault;
 use feed_basis::Basis;
+use question_lines::Question;
 use std::alloc::Global;
 use std::io::Write;
 use streams::Stream;
 use tellers::tells_legs;
 use timetable::Rides;
+use told_connections::scan_within;
+
+// What the rounds find: the best arrivals, or the connections if a last time to leave at is named.
+fn scanned<'a>(
+    alloc: Global,
+    basis: &Basis,
+    rides: Rides,
+    question: &Question<'a>,
+    legs: bool,
+) -> Result<Found<'a>, Fault<'a>>
+    ensures { IsScanned basis.now rides legs question.now question.now.until result }
+{
+    let moment = basis.moment(question.day, question.seconds);
+    match question.until {
+        None => {
+            let answer = scan(alloc, basis, question, moment, rides, legs);
+            found_answer(question, answer)
+        }
+        Some(last) => {
+            let until = basis.moment(last.day, last.seconds);
+            let found = scan_within(alloc, basis, question, moment, until, rides, legs);
+            found_connections(question, found)
+        }
+    }
+}
 
 /// Finds what a command searches for, to be told in the style: at the timetable, or over the file of a store. The disk of the store comes
 /// back if it was opened. Standard error says if a new store is begun.
@@ -39,10 +66,8 @@ pub fn find<'a, S: System, E: Write + Drop>(
             (found_answer(question, answer), None)
         }
         Search::Scan { question, legs } => {
-            let moment = basis.moment(question.day, question.seconds);
             let legs = tells_legs(style, *legs);
-            let answer = scan(alloc, basis, question, moment, rides, legs);
-            (found_answer(question, answer), None)
+            (scanned(alloc, basis, rides, question, legs), None)
         }
         Search::Stored { store, task } => {
             let file = StoreFile {

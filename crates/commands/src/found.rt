@@ -6,6 +6,7 @@ ghost use Rattle.printing.specs.Finished.{streams_of};
 
 use answer_lines::{Answer, Report};
 use command_line::{Format, Plan, Style};
+use connection_lines::Connections;
 use faults::Fault;
 use feed_basis::Basis;
 use printing::{Streams, Told, Voice, finish};
@@ -19,6 +20,8 @@ use tellers::{Asked, Teller, copy_of};
 pub enum Found<'a> {
     /// An answer to a question.
     Answer(Question<'a>, Answer),
+    /// The connections that a question asks for.
+    Connections(Question<'a>, Connections),
     /// What a store has, or what came of a build.
     Report(Report<'a>),
 }
@@ -32,6 +35,19 @@ pub fn found_answer<'a>(
 {
     match answer {
         Ok(answer) => Ok(Found::Answer(copy_of(question), answer)),
+        Err(fault) => Err(fault),
+    }
+}
+
+/// The connections that a question asks for as what is found, or its fault.
+pub fn found_connections<'a>(
+    question: &Question<'a>,
+    connections: Result<Connections, Fault<'a>>,
+) -> Result<Found<'a>, Fault<'a>>
+    ensures { result ≡ found_by (λ connections. Found.Connections question.now connections) connections.entry }
+{
+    match connections {
+        Ok(connections) => Ok(Found::Connections(copy_of(question), connections)),
         Err(fault) => Err(fault),
     }
 }
@@ -52,6 +68,7 @@ fn as_lines<'a>(found: Found<'a>) -> Told<'a>
 {
     match found {
         Found::Answer(_, answer) => Told::Answer(answer),
+        Found::Connections(_, connections) => Told::Connections(connections),
         Found::Report(report) => Told::Report(report),
     }
 }
@@ -61,8 +78,17 @@ fn found_status(found: &Found<'_>) -> u8
     ensures { result ≡ found_status found.now }
 {
     match found {
-        Found::Answer(..) => 0,
+        Found::Answer(..) | Found::Connections(..) => 0,
         Found::Report(report) => report.status(),
+    }
+}
+
+// A question as the plan asks it.
+fn asked_of<'p, 'a>(plan: &Plan<'p>, question: &Question<'a>) -> Asked<'p, 'a> {
+    Asked {
+        settings: plan.settings,
+        command: plan.command.name(),
+        question: copy_of(question),
     }
 }
 
@@ -79,12 +105,12 @@ fn in_format<T: Teller>(
 {
     let text = match found {
         Found::Answer(question, answer) => {
-            let asked = Asked {
-                settings: plan.settings,
-                command: plan.command.name(),
-                question: copy_of(question),
-            };
+            let asked = asked_of(plan, question);
             teller.answer(alloc, format, &asked, basis, answer)
+        }
+        Found::Connections(question, connections) => {
+            let asked = asked_of(plan, question);
+            teller.connections(alloc, format, &asked, basis, connections)
         }
         Found::Report(report) => {
             let command = plan.command.name();

@@ -10,6 +10,7 @@ use crate::replies::{Lookup, MEMORY_REFUSED, reply_text};
 use crate::texts::{asked_by, line, stops_text, told_text};
 use answer_lines::{Answer, Report};
 use command_line::{Format, Plan, StopSearch};
+use connection_lines::Connections;
 use faults::Fault;
 use feed_basis::Basis;
 use feed_names::open_names;
@@ -17,7 +18,7 @@ use feed_report::FeedReport;
 use feed_texts::{BuildCount, ListedStop, StopList};
 use file_faults::FaultList;
 use gtfs_tables::{FaultKind, FeedFault, FeedFile};
-use itineraries::{Asked as AskedFor, itinerary_of};
+use itineraries::{Asked as AskedFor, connections_of, itinerary_of};
 use itinerary_texts::Itinerary;
 use options::Settings;
 use question_lines::Question;
@@ -69,6 +70,20 @@ impl<'r> FolderTeller<'r> {
         itinerary_of(alloc, basis, clock, &sheets, asked, answer)
     }
 
+    // What is told of the connections of a window.
+    fn window<'a>(
+        &self,
+        alloc: Global,
+        settings: &Settings<'_>,
+        asked: &AskedFor<'a>,
+        basis: &Basis,
+        connections: &Connections,
+    ) -> Result<Itinerary<'a>, AllocError> {
+        let sheets = self.sheets(alloc, settings.feed)?;
+        let clock = Clock::of(settings.zone);
+        connections_of(alloc, basis, clock, &sheets, asked, connections)
+    }
+
     // The stops of these ids, with the names that the folder has.
     fn listed_by_ids(
         &self,
@@ -110,6 +125,20 @@ impl Teller for FolderTeller<'_> {
         let settings = &asked.settings;
         let asked = asked_by(asked.command, &asked.question, format);
         let itinerary = self.itinerary(alloc, settings, &asked, basis, answer)?;
+        told_text(alloc, format, itinerary)
+    }
+
+    fn connections(
+        &self,
+        alloc: Global,
+        format: Format,
+        asked: &Asked<'_, '_>,
+        basis: &Basis,
+        connections: &Connections,
+    ) -> Result<String, AllocError> {
+        let settings = &asked.settings;
+        let asked = asked_by(asked.command, &asked.question, format);
+        let itinerary = self.window(alloc, settings, &asked, basis, connections)?;
         told_text(alloc, format, itinerary)
     }
 

@@ -5,8 +5,17 @@ use command_line::Format;
 use feed_texts::{StopList, stop_list_geojson, stop_list_json};
 use itineraries::Asked;
 use itinerary_texts::{Itinerary, geojson, itinerary_json, people_text};
-use question_lines::Question;
+use question_lines::{Question, Until};
 use std::alloc::{AllocError, Global};
+
+// The last time to leave at, if one is named.
+fn until_of(until: Option<Until>) -> Option<DayTime> {
+    let until = until?;
+    Some(DayTime {
+        date: until.day,
+        seconds: until.seconds,
+    })
+}
 
 /// What was asked by a command, for an answer in a format.
 pub(crate) fn asked_by<'a>(command: &'a str, question: &Question<'a>, format: Format) -> Asked<'a> {
@@ -18,6 +27,7 @@ pub(crate) fn asked_by<'a>(command: &'a str, question: &Question<'a>, format: Fo
             date: question.day,
             seconds: question.seconds,
         },
+        until: until_of(question.until),
         through: format == Format::GeoJson,
     }
 }

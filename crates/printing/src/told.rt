@@ -5,6 +5,7 @@ ghost use Rattle.printing.specs.Told.{told_status, told_text};
 
 use answer_lines::{Answer, Report};
 use command_grammar::FAULT_TABLE;
+use connection_lines::Connections;
 use fault_report::FaultReport;
 use feed_report::FeedReport;
 use std::fmt;
@@ -18,6 +19,8 @@ pub enum Told<'a> {
     FeedFaults(FaultReport),
     /// An answer to a question.
     Answer(Answer),
+    /// The connections of a window.
+    Connections(Connections),
     /// What a store has, or what came of a build.
     Report(Report<'a>),
     /// The faults and the statuses of the program.
@@ -35,7 +38,7 @@ impl Told<'_> {
             Told::Report(report) => report.status(),
             Told::Text { status, .. } => *status,
             Told::FeedFaults(_) => 1,
-            Told::Feed(_) | Told::Answer(_) | Told::Faults => 0,
+            Told::Feed(_) | Told::Answer(_) | Told::Connections(_) | Told::Faults => 0,
         }
     }
 }
@@ -48,6 +51,7 @@ impl fmt::Display for Told<'_> {
             Told::Feed(report) => write!(f, "{report}"),
             Told::FeedFaults(report) => write!(f, "{report}"),
             Told::Answer(answer) => writeln!(f, "{answer}"),
+            Told::Connections(connections) => write!(f, "{connections}"),
             Told::Report(report) => write!(f, "{report}"),
             Told::Faults => writeln!(f, "{FAULT_TABLE}"),
             Told::Text { text, .. } => write!(f, "{text}"),

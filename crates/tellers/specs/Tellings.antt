@@ -6,6 +6,7 @@ use Rattle.command_line.specs.declared.format.Format.{Format}
 use Rattle.command_line.specs.declared.format.Style.{Style}
 use Rattle.command_line.specs.declared.format.Style.TheVariants as styles
 use Rattle.command_line.specs.declared.stop_search.StopSearch.{StopSearch}
+use Rattle.connection_lines.specs.declared.connections.Connections.{Connections}
 use Rattle.feed_basis.specs.Basis.{BasisData}
 use Rattle.feed_report.specs.declared.report.FeedReport.{FeedReport}
 use Rattle.file_faults.specs.declared.list.FaultList.{FaultList}
@@ -15,10 +16,11 @@ use Rattle.faults.specs.declared.fault.Fault.TheVariants as faults
 use Rattle.serving.specs.Tellings.{Telling as ReplyTelling, line_telling}
 use Rattle.tellers.specs.declared.given.Given.{Given}
 
--- Which texts may tell an answer, a report, what a feed has, all its faults, a reply or a fault in a format; which may list the stops that
--- are searched for, and which lines may be added to those of a fault.
+-- Which texts may tell an answer, connections, a report, what a feed has, all its faults, a reply or a fault in a format; which may list
+-- the stops that are searched for, and which lines may be added to those of a fault.
 pub record Telling : Type 1 where
   pub tells : Format → BasisData → Answer → List ℕ → Type 0
+  pub connects : Format → BasisData → Connections → List ℕ → Type 0
   pub reports : Format → Report → List ℕ → Type 0
   pub feeds : Format → FeedReport → List ℕ → Type 0
   pub lists : Format → FaultList → List ℕ → Type 0
@@ -31,6 +33,7 @@ pub record Telling : Type 1 where
 abbrev pub any_text : Telling
 any_text = record {
   tells = λ _ _ _ _. Unit {0};
+  connects = λ _ _ _ _. Unit {0};
   reports = λ _ _ _. Unit {0};
   feeds = λ _ _ _. Unit {0};
   lists = λ _ _ _. Unit {0};

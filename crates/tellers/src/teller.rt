@@ -10,6 +10,7 @@ use crate::asked::Asked;
 use crate::given::Given;
 use answer_lines::{Answer, Report};
 use command_line::{Format, Plan, StopSearch, Style};
+use connection_lines::Connections;
 use faults::Fault;
 use feed_basis::Basis;
 use feed_report::FeedReport;
@@ -19,7 +20,7 @@ use question_lines::Question;
 use serving::Reply;
 use std::alloc::{AllocError, Global};
 
-/// Makes the texts of answers, reports, replies and faults in formats beside lines, of lists of stops, and what is added to the lines of a
+/// Makes the texts of answers, connections, reports, replies and faults in formats beside lines, of lists of stops, and what is added to the lines of a
 /// fault. A text ends with a line's end.
 /// Its ghost says which texts may be made of what; callers rely on no more.
 pub trait Teller: Copy {
@@ -42,6 +43,17 @@ pub trait Teller: Copy {
         answer: &Answer,
     ) -> Result<String, AllocError>
         ensures { IfOk result (λ text. telling.tells format basis.now answer.now (string_bytes text)) };
+
+    /// The text of the connections of a window in a format. It fails only if memory runs out.
+    fn connections(
+        &self,
+        alloc: Global,
+        format: Format,
+        asked: &Asked<'_, '_>,
+        basis: &Basis,
+        connections: &Connections,
+    ) -> Result<String, AllocError>
+        ensures { IfOk result (λ text. telling.connects format basis.now connections.now (string_bytes text)) };
 
     /// The text of a command's report in a format, over the feed in a folder. It fails only if memory runs out.
     fn report(

@@ -1,5 +1,5 @@
 use Rattle.std.proofs.Common.{refl}
-use Rattle.answering.specs.Answers.{ArePoints, IsAnswered, IsDirect}
+use Rattle.answering.specs.Answers.{IsAnswered, IsDirect}
 use Rattle.answering.specs.Refusals.{IsUnanswered, NoneMissing}
 use Rattle.feed_basis.specs.Ids.{stop_alone}
 use Rattle.commands.proofs.FoundFacts.{answer_found, matched}
@@ -17,13 +17,4 @@ returns-in-Direct g c =
     rw c.in-Direct.is ((moment, c.moment-moment.ensures, found), refl, refl)
 
 pub returns-in-Scan : goal.returns-in-Scan
-returns-in-Scan g c =
-    let basis = c.args.basis.now in
-    let moment = c.moment-moment-in-Scan.result in
-    let legs = c.tells_legs-legs.result in
-    let question = c.in-Scan.question in
-    let right = IsAnswered (stop_alone basis.names) (ArePoints basis c.args.rides legs) basis.timetable moment question in
-    let wrong = IsUnanswered (stop_alone basis.names) NoneMissing basis.timetable moment question in
-    let found = answer_found question c.scan-answer.result c.found_answer-in-Scan.result right wrong c.found_answer-in-Scan.ensures
-    (matched c.scan-answer.result right wrong c.scan-answer.ensures.answer c.scan-answer.ensures.refusal) in
-    rw (c.in-Scan.is, ← c.tells_legs-legs.ensures) ((moment, c.moment-moment-in-Scan.ensures, found), refl, refl)
+returns-in-Scan g c = rw (c.in-Scan.is, ← c.tells_legs-legs.ensures) (c.scanned.ensures, refl, refl)

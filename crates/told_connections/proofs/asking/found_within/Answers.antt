@@ -13,6 +13,6 @@ tell_connections-requires-clause-known c =
     let t = c.args.asked.to in
     let found = c.in_ok-first.first.connections.items in
     let journeys = subst (λ (table : Table). All (λ (x : Connection). IsJourney table s t x.departure x.journey) found)
-        c.in_ok-network.ensures c.in_ok-first.ensures.journeys in
+    c.in_ok-network.ensures c.in_ok-first.ensures.journeys in
     subst (λ (l : List Connection). All (λ (x : Connection). IsKnownJourney basis x.departure x.journey) l) (sym c.deref.ensures.value)
     (known_all basis c.requires.sound s t c.requires.from c.requires.to found journeys)
