@@ -29,14 +29,14 @@ _tp() {
         --format) choices="lines json geojson" ;;
         --days) choices="1 2 3 4 5 6 7 8 9 10 11 12 13 14" ;;
         --rides) choices="1 2 3 4 5 6 7 8" ;;
-        --date | --on | --from | --at | --zone | --default-walk | --workers | --part) return ;;
+        --date | --on | --from | --at | --until | --zone | --default-walk | --workers | --part) return ;;
         *)
             case $command in
                 "") choices="check stops direct scan build list ask serve audit migrate faults help --help --version" ;;
                 check) choices="--feed --date --all --format --help" ;;
                 stops) choices="--feed --all --header --format --help" ;;
                 direct) choices="--feed --date --from --to --at --format --days --zone --rides --default-walk --help" ;;
-                scan) choices="--feed --date --from --to --at --legs --names --format --days --zone --rides --default-walk --help" ;;
+                scan) choices="--feed --date --from --to --at --until --legs --names --format --days --zone --rides --default-walk --help" ;;
                 build)
                     choices="--feed --date --store --workers --progress --part --format"
                     choices+=" --days --zone --rides --default-walk --help"
