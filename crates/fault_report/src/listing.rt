@@ -25,7 +25,7 @@ pub fn fault_report<T: Teller>(
     for (at, fault) in list.faults.iter().enumerate() {
         faults.push(ListedFault {
             fault: *fault,
-            beneath: teller.place_hint(alloc, &places, at, given, &Fault::Feed(*fault)),
+            beneath: teller.place_hint(alloc, &places, at, given, &Fault::Feed(*fault))?,
         })?;
     }
     Ok(FaultReport {

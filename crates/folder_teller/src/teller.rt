@@ -204,8 +204,8 @@ impl Teller for FolderTeller<'_> {
         at: usize,
         _given: &Given<'_>,
         _fault: &Fault<'_>,
-    ) -> Option<String> {
-        hint_at(alloc, places, at).ok()
+    ) -> Result<Option<String>, AllocError> {
+        Ok(Some(hint_at(alloc, places, at)?))
     }
 
     fn stops(&self, alloc: Global, search: &StopSearch<'_>) -> Result<String, Fault<'static>> {

@@ -96,7 +96,7 @@ pub trait Teller: Copy {
     ) -> Result<Self::Places, AllocError>;
 
     /// Lines that are added to those of a fault, as `hint` gives them, by the places of faults of which this is the one at `at`, from 0.
-    /// None if there is nothing to add.
+    /// None if there is nothing to add. It fails only if memory runs out.
     fn place_hint(
         &self,
         alloc: Global,
@@ -104,8 +104,8 @@ pub trait Teller: Copy {
         at: usize,
         given: &Given<'_>,
         fault: &Fault<'_>,
-    ) -> Option<String>
-        ensures { IfSome result (λ text. telling.hints given.now fault.now (string_bytes text)) };
+    ) -> Result<Option<String>, AllocError>
+        ensures { IfOk result (λ found. IfSome found (λ text. telling.hints given.now fault.now (string_bytes text))) };
 
     /// The text of the stops and stations that are searched for. A fault is of the feed, or want of memory.
     fn stops(&self, alloc: Global, search: &StopSearch<'_>) -> Result<String, Fault<'static>>
