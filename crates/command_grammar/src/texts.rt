@@ -79,7 +79,7 @@ pub(crate) const PLAIN_FORMAT: &str = "lines, or json for machines";
 pub(crate) const FEED: &str = "The folder of the feed's files";
 
 pub(crate) const DIRECT: &str =
-    "The least arrival of one ride from a stop to a stop, without walks";
+    "The soonest arrival by one ride from a stop to a stop, without walks";
 
 pub(crate) const DIRECT_MORE: &str = "\
 --rides and --default-walk change nothing here.
@@ -176,13 +176,13 @@ pub(crate) const AUDITED: &str = "The id of the stop whose tree is compared";
 pub(crate) const AUDIT_ALL: &str = "Compare the trees of all stored stops";
 
 pub(crate) const AUDITORS: &str =
-    "With --all: how many trees are compared at once, 1 to 64 (2 if not given)";
+    "With --all: how many trees are compared in parallel, 1 to 64 (2 if not given)";
 
 pub(crate) const AUDIT_PROGRESS: &str =
-    "With --all: report how far it is, also if standard error is no terminal";
+    "With --all: report how far it is, even if standard error is no terminal";
 
 pub(crate) const MIGRATE_PROGRESS: &str =
-    "Report how far the migration is, also if standard error is no terminal";
+    "Report how far the migration is, even if standard error is no terminal";
 
 pub(crate) const MIGRATE: &str =
     "Takes the trees of a store of the version before over into a new file";
@@ -220,10 +220,10 @@ pub(crate) const ALL: &str = "Print all of them";
 pub(crate) const HEADER: &str = "Print a line with the names of the fields first";
 
 pub(crate) const WORKERS: &str =
-    "How many trees are built at once, each in a thread of its own, 1 to 64";
+    "How many trees are built in parallel, each in a thread of its own, 1 to 64";
 
 pub(crate) const PART: &str =
     "I/N: build only each Nth stop of stops.txt, from number I on, which is 0 to N - 1";
 
 pub(crate) const PROGRESS: &str =
-    "Report how far the build is, also if standard error is no terminal";
+    "Report how far the build is, even if standard error is no terminal";
