@@ -1,0 +1,19 @@
+-- What holds of all lists that are put together.
+use Rattle.std.specs.Prelude.{◌≡◌, ◌<◌, ℕ, List, []}
+use Rattle.std.specs.List.{Contains}
+use Rattle.pattern_tree.specs.Content.{Content}
+use Rattle.merging.specs.Merging.{merged, tree_of}
+
+-- no two trees of one stop differ
+abbrev pub Agree : List Content → Type 0
+Agree all = (one other : Content) → Contains all one → Contains all other → one.source ≡ other.source → one ≡ other
+
+-- each tree of the one list is among the other
+abbrev pub AreAmong : List Content → List Content → Type 0
+AreAmong some all = (tree : Content) → Contains some tree → Contains all tree
+
+-- lists of the same trees, of which no two of one stop differ, are put together to the same list
+abbrev pub AnyOrder : Type 0
+AnyOrder =
+    (before all other : List Content) (stops : ℕ) → Agree all → AreAmong all other → AreAmong other all
+    → merged before all stops ≡ merged before other stops

@@ -1,0 +1,13 @@
+//! Puts the trees of several stores together in one store, in the order of the stops.
+#![tactic(auto)]
+
+mod fault;
+pub mod laws;
+mod merging;
+mod progress;
+mod shelf;
+
+pub use fault::{MergeFault, ShelfFault};
+pub use merging::merge;
+pub use progress::MergeProgress;
+pub use shelf::Shelf;
