@@ -1,10 +1,10 @@
 -- How a store goes on while trees are put together.
-use Rattle.std.proofs.Common.{◌≡◌, ℕ, ◌+◌, ◌≤◌, ◌<◌, List, [], ◌∷◌, ◌++◌, Bool, true, false, cond, All, Option, None, Some, append-nil, refl, sym, ◌∙◌, ap, subst, arith}
+use Rattle.std.proofs.Common.{◌≡◌, ℕ, List, [], ◌∷◌, ◌++◌, Bool, true, false, cond, All, None, Some, refl, sym, ◌∙◌, ap, subst, arith}
 use mathlib.Core.List.{IsPrefix}
 use Rattle.disk_model.specs.Disk.{State}
 use Rattle.disk_model.specs.Moments.{LeavesOnly}
 use Rattle.pattern_tree.specs.Content.{Content}
-use Rattle.section_store.specs.Between.{GoesBetween, NothingGoesBetween, PutGoesBetween, GoesBetweenInTurn}
+use Rattle.section_store.specs.Between.{NothingGoesBetween, PutGoesBetween, GoesBetweenInTurn}
 use Rattle.section_store.specs.Fault.{CauseOf}
 use Rattle.section_store.specs.GoingLaws.{NothingGoesOn, TrustInTurn}
 use Rattle.section_store.specs.Lasting.{IsExact, LosesNothing, StaysTrusted}
@@ -12,8 +12,7 @@ use Rattle.section_store.specs.Sections.{Form, IsBeforeOrAfter, IsNew, sources}
 use Rattle.section_store.specs.Sources.{is_among}
 use Rattle.section_store.specs.declared.fault.PutFault.{PutFault}
 use Rattle.section_store.specs.declared.fault.PutFault.TheVariants.{AlreadyStored, Failed, OtherTimetable, TooLarge}
-use Rattle.merging.specs.Merging.{Goes, lacked, merged, tree_of, with_next}
-use Rattle.merging.proofs.MergeFacts.{front_next, front_of, one_more}
+use Rattle.merging.specs.Merging.{Goes, lacked, tree_of, with_next}
 
 -- the laws that a merge goes on by
 pub record Laws : Type 0 where

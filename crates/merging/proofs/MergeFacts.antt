@@ -1,6 +1,6 @@
 -- The merged list, one number more.
 use Rattle.std.proofs.Common.{◌≡◌, ◌==◌, ◌||◌, ℕ, zero, suc, ◌+◌, ◌-◌, ◌<◌, ◌≤◌, Bool, true, false, cond, List, [], ◌∷◌, ◌++◌, Option, None, Some, All, append-nil, refl, sym, ◌∙◌, ap, subst, arith}
-use Rattle.std.specs.List.{cons_option, filter_map, list_any, range_with_len}
+use Rattle.std.specs.List.{cons_option, filter_map, range_with_len}
 use Rattle.std.proofs.lemmas.List.{append_assoc, map-append}
 use Rattle.std.proofs.lemmas.List.Elements.{All-head, All-tail, filter_map-append}
 use Rattle.std.proofs.lemmas.List.Folds.{list_any-append}
@@ -11,7 +11,7 @@ use Rattle.section_store.specs.Sections.{sources}
 use Rattle.section_store.specs.Sources.{is_among}
 use Rattle.merging.specs.Merging.{lacked, merged, tree_of, with_next}
 use Rattle.merging.specs.Laws.{Agree, AreAmong}
-use Rattle.merging.proofs.Finding.{found_source, found_all, same_found}
+use Rattle.merging.proofs.Finding.{found_source, same_found}
 
 last : (a n j : ℕ) → a + n ≡ j → range_with_len a (suc n) ≡ range_with_len a n ++ j ∷ []
 last a zero j e = let same : a ≡ j = omega arith in ap (λ k. k ∷ []) same

@@ -1,8 +1,8 @@
 -- What holds of all lists that are put together.
-use Rattle.std.specs.Prelude.{◌≡◌, ◌<◌, ℕ, List, []}
+use Rattle.std.specs.Prelude.{◌≡◌, ℕ, List}
 use Rattle.std.specs.List.{Contains}
 use Rattle.pattern_tree.specs.Content.{Content}
-use Rattle.merging.specs.Merging.{merged, tree_of}
+use Rattle.merging.specs.Merging.{merged}
 
 -- no two trees of one stop differ
 abbrev pub Agree : List Content → Type 0

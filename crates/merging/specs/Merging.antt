@@ -1,5 +1,5 @@
 -- What comes of putting trees together.
-use Rattle.std.specs.Prelude.{◌≡◌, ◌==◌, ◌++◌, ℕ, Bool, List, [], ◌∷◌, Option, None, Some, find, if◌then◌else◌}
+use Rattle.std.specs.Prelude.{◌==◌, ◌++◌, ℕ, List, [], ◌∷◌, Option, None, Some, find, if◌then◌else◌}
 use Rattle.std.specs.List.{All, filter_map, range_with_len}
 use Rattle.disk_model.specs.Disk.{State}
 use Rattle.timetable.specs.Table.{stops_of}

@@ -1,13 +1,13 @@
-use Rattle.std.proofs.Common.{rules, ◌≡◌, ◌+◌, ◌<◌, ◌≤◌, ℕ, List, refl, sym, ◌∙◌, ap, subst, arith}
+use Rattle.std.proofs.Common.{rules, ◌≡◌, ◌+◌, ◌≤◌, ℕ, List, sym, ◌∙◌, subst, arith}
 use mathlib.Core.List.{IsPrefix}
 use Rattle.disk_model.specs.Disk.{State}
-use Rattle.timetable.specs.Table.{Table, stops_of}
+use Rattle.timetable.specs.Table.{stops_of}
 use Rattle.pattern_tree.specs.Content.{Content}
 use Rattle.section_store.specs.Sections.{Form}
 use Rattle.section_store.specs.Store.{Holds}
 use Rattle.merging.specs.Merging.{Goes, lacked, merged, with_next}
 use Rattle.merging.proofs.MergeFacts.{front_next, front_of, one_more, starts}
-use Rattle.merging.proofs.GoingFacts.{Laws, in_turn, stays, to_more}
+use Rattle.merging.proofs.GoingFacts.{Laws, in_turn, to_more}
 use Rattle.merging.proofs.merging.merge.Goals as goal
 
 -- of equal forms and stops

@@ -1,0 +1,49 @@
+-- What a shelf of parts has.
+use Rattle.std.specs.Prelude.{◌≡◌, ◌≢◌, ◌⊎◌, ℕ, List, ◌++◌, Option, map}
+use Rattle.std.specs.List.{All, AllZip, flat_map}
+use Rattle.disk_model.specs.Disk.{State}
+use Rattle.pattern_tree.specs.Content.{Content}
+use Rattle.section_store.specs.Lasting.{IsExact, IsTrusted}
+use Rattle.section_store.specs.Sections.{Form, Stands}
+use Rattle.recovery.specs.Recovery.{CauseOf, IsLeftAlone, IsOutside, StandsForNoList}
+use Rattle.merging.specs.Laws.{Agree}
+use Rattle.merging.specs.declared.fault.ShelfFault.TheVariants.{Changed}
+use Rattle.part_shelf.specs.Comparing.{Differ}
+use Rattle.part_shelf.specs.Spots.{AreSpots}
+use Rattle.part_shelf.specs.declared.entry.Spot.{Spot}
+use Rattle.part_shelf.specs.declared.fault.PartFault.{PartFault}
+use Rattle.part_shelf.specs.declared.fault.PartFault.TheVariants as parts
+
+-- Honest disks, in these states, which stand for lists of trees, one after the other all of these; no two of one stop differ. Each tree is
+-- found where its spot says.
+pub record HasTrees {D : Type 0} (Honest : D → Type 0) (state : D → State) (form : Form) (disks : List D) (spots : List (Option Spot))
+    (states : List State) (all : List Content) : Type 0 where
+  pub honest : All Honest disks
+  pub states_are : states ≡ map state disks
+  pub lists : List (List Content)
+  pub stand : AllZip (λ s trees. Stands form s.read trees) states lists
+  pub all_are : all ≡ flat_map (λ trees. trees) lists
+  pub agree : Agree all
+  pub are_spots : AreSpots form states spots all
+
+-- The disk stood for trees, which the shelf has now after all that it had. Nothing was done to the disk but at most a sync. Of a trusted disk
+-- each of the trees is exact.
+pub record IsAdded (form : Form) (old : State) (all : List Content) (Has : State → List Content → Type 0) : Type 0 where
+  pub trees : List Content
+  pub now : State
+  pub stands : Stands form old.read trees
+  pub alone : IsLeftAlone old now
+  pub exact : IsTrusted form old → All (IsExact form) trees
+  pub has : Has now (all ++ trees)
+
+-- the part stands for trees of which one isn't the one that all have of the stop
+pub record IsOtherTree (form : Form) (read : List ℕ) (all : List Content) (stop : ℕ) : Type 0 where
+  pub trees : List Content
+  pub stands : Stands form read trees
+  pub differ : Differ all trees stop
+
+-- why a part isn't added: its bytes, the device or memory; or a tree of it; or else a read, or memory
+abbrev pub WhyNot : Form → List ℕ → List Content → PartFault → Type 0
+WhyNot form read all (parts.Store fault) = CauseOf form read fault × (IsOutside fault ⊎ StandsForNoList form read)
+WhyNot form read all (parts.OtherTree stop part) = IsOtherTree form read all stop
+WhyNot form read all (parts.Shelf fault) = fault ≢ Changed

@@ -1,0 +1,66 @@
+//! Adds a part.
+
+ghost use Rattle.std.specs.Prelude.{◌≡◌, ◌↔◌, ◌+◌, ◌++◌, [], ◌∷◌, List, IfOk, IfErr, MatchResult};
+ghost use Rattle.std.specs.Arc.{arc_value};
+ghost use Rattle.std.specs.List.{sum_by};
+ghost use Rattle.disk_model.specs.Disk.{Grew, State};
+ghost use Rattle.pattern_tree.specs.Content.{Content};
+ghost use Rattle.section_store.specs.Sections.{form_of};
+ghost use Rattle.recovery.specs.Recovery.{IsLeftAlone};
+ghost use Rattle.part_shelf.specs.Comparing.{TellsDevice};
+ghost use Rattle.part_shelf.specs.Shelves.{HasTrees, IsAdded, WhyNot};
+
+use crate::comparing::compare;
+use crate::fault::PartFault;
+use crate::listing::list_trees;
+use crate::noting::note;
+use crate::shelf::PartShelf;
+use disk_model::Disk;
+use recovery::RecoverFault;
+
+impl<D: Disk> PartShelf<D> {
+    /// Adds the part whose store the file of the disk holds. The file is recovered, and not written: a fresh one has no trees. It is read
+    /// whole, and the text of each tree that another part has too is read once more, with the one there. The disk comes back with each
+    /// fault, and the shelf is then as before.
+    pub fn add(&mut self, disk: D) -> Result<(), (PartFault, D)>
+        ensures added { (states : List State) (all : List Content)
+            → HasTrees D.honest D.state (form_of (arc_value self.old.table) self.old.rides) self.old.disks.items self.old.spots.items states all
+            → D.honest disk
+            → MatchResult result
+            (λ _. IsAdded (form_of (arc_value self.old.table) self.old.rides) (D.state disk) all (λ now trees.
+            HasTrees D.honest D.state (form_of (arc_value self.old.table) self.old.rides) self.new.disks.items self.new.spots.items (states ++ now ∷ []) trees))
+            (λ e. WhyNot (form_of (arc_value self.old.table) self.old.rides) (D.state disk).read all e.0
+            × IsLeftAlone (D.state disk) (D.state e.1)
+            × HasTrees D.honest D.state (form_of (arc_value self.old.table) self.old.rides) self.new.disks.items self.new.spots.items states all) }
+        ensures device { MatchResult result
+            (λ _. sum_by D.failures self.new.disks.items ≡ sum_by D.failures self.old.disks.items + D.failures disk)
+            (λ e. TellsDevice e.0 → Grew (sum_by D.failures self.old.disks.items + D.failures disk)
+            (sum_by D.failures self.new.disks.items + D.failures e.1)) }
+        ensures honest { IfErr result (λ e. D.honest disk ↔ D.honest e.1) }
+        ensures form { form_of (arc_value self.new.table) self.new.rides ≡ form_of (arc_value self.old.table) self.old.rides }
+    {
+        match list_trees(self.alloc, disk, &self.table, self.rides) {
+            Err((fault, disk)) => Err((PartFault::Store(fault), disk)),
+            Ok((disk, entries)) => {
+                let mut disk = disk;
+                match compare(
+                    self.alloc,
+                    &mut self.disks,
+                    &self.spots,
+                    &mut disk,
+                    &entries,
+                ) {
+                    Err(fault) => Err((fault, disk)),
+                    Ok(()) => {
+                        if self.disks.reserve(1).is_err() {
+                            return Err((PartFault::Store(RecoverFault::Memory), disk));
+                        }
+                        note(&mut self.spots, self.disks.len(), &entries);
+                        self.disks.push_reserved(disk);
+                        Ok(())
+                    }
+                }
+            }
+        }
+    }
+}

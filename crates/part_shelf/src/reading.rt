@@ -1,0 +1,109 @@
+//! Reads texts of trees.
+
+ghost use Rattle.std.specs.Prelude.{◌≡◌, ◌≢◌, ◌↔◌, ◌<◌, ◌+◌, ◌^◌, ℕ, List, take, drop, get_or, length, map, IsTrue, IfOk, IfErr, MatchResult};
+ghost use Rattle.std.specs.List.{All, sum_by};
+ghost use Rattle.disk_model.specs.Disk.{Grew, State, empty_disk};
+ghost use Rattle.pattern_tree.specs.Content.{Content};
+ghost use Rattle.section_store.specs.Sections.{Form, IsSection, MayStand, form_of};
+ghost use Rattle.part_shelf.specs.Spots.{IsTextAt};
+
+use crate::entry::Spot;
+use disk_model::{Disk, ReadFault, read_up_to};
+use merging::ShelfFault;
+use pattern_tree::PatternTree;
+use std::alloc::Global;
+use timetable::{Rides, StopId, Timetable, Width};
+use tree_codec::laws::{texts_apart, texts_within};
+use tree_codec::{CodecFault, decode};
+
+/// The text that stands in a file from a place on, in place of what `text` has.
+pub(crate) fn read_text<D: Disk>(
+    disk: &mut D,
+    place: u64,
+    size: u64,
+    text: &mut Vec<u8>,
+) -> Result<(), ShelfFault>
+    ensures honest { D.honest disk.old ↔ D.honest disk.new }
+    ensures same { D.honest disk.old → D.state disk.new ≡ D.state disk.old }
+    ensures text { D.honest disk.old → place + size < 2 ^ 64 → MatchResult result
+        (λ _. text.new.items ≡ take size (drop place (D.state disk.old).read)) (λ fault. fault ≢ ShelfFault.Changed) }
+    ensures counted { MatchResult result (λ _. D.failures disk.new ≡ D.failures disk.old)
+        (λ fault. fault ≡ ShelfFault.Device → Grew (D.failures disk.old) (D.failures disk.new)) }
+{
+    if place.checked_add(size).is_none() {
+        return Err(ShelfFault::Changed);
+    }
+    match read_up_to(disk, place, size, text) {
+        Ok(()) => Ok(()),
+        Err(ReadFault::Failed) => Err(ShelfFault::Device),
+        Err(ReadFault::Memory) => Err(ShelfFault::Memory),
+    }
+}
+
+/// The text that stands at a spot, in place of what `text` has.
+pub(crate) fn read_spot<D: Disk>(
+    disks: &mut Vec<D>,
+    spot: Spot,
+    text: &mut Vec<u8>,
+) -> Result<(), ShelfFault>
+    ensures honest { All D.honest disks.old.items → All D.honest disks.new.items }
+    ensures same { All D.honest disks.old.items → map D.state disks.new.items ≡ map D.state disks.old.items }
+    ensures text { (form : Form) (states : List State) (tree : Content) → All D.honest disks.old.items → states ≡ map D.state disks.old.items
+        → spot.part < length states → IsTextAt form (get_or states spot.part empty_disk).read spot.place spot.size tree
+        → MatchResult result (λ _. IsSection form text.new.items tree) (λ fault. fault ≢ ShelfFault.Changed) }
+    ensures counted { MatchResult result (λ _. sum_by D.failures disks.new.items ≡ sum_by D.failures disks.old.items)
+        (λ fault. fault ≡ ShelfFault.Device → Grew (sum_by D.failures disks.old.items) (sum_by D.failures disks.new.items)) }
+{
+    let Spot { part, place, size } = spot;
+    if part >= disks.len() {
+        return Err(ShelfFault::Changed);
+    }
+    read_text(&mut disks[part], place, size, text)
+}
+
+/// Whether these are the same bytes.
+pub(crate) fn same_bytes(left: &[u8], right: &[u8]) -> bool
+    ensures { IsTrue result ↔ left.now ≡ right.now }
+{
+    left == right
+}
+
+/// The tree of the stop whose text that is, all of it. No other text was there before.
+pub(crate) fn tree_in(
+    alloc: Global,
+    text: &[u8],
+    table: &Timetable,
+    rides: Rides,
+    stop: StopId,
+) -> Result<PatternTree, ShelfFault>
+    ensures tree { (tree : Content) → IsSection (form_of table.now rides) text.now tree → tree.source ≡ stop
+        → MatchResult result (λ read. read ≡ tree) (λ fault. fault ≢ ShelfFault.Changed) }
+    ensures may { IfOk result (MayStand (form_of table.now rides)) }
+    ensures of { IfOk result (λ tree. tree.source ≡ stop) }
+    ensures device { IfErr result (λ fault. fault ≢ ShelfFault.Device) }
+{
+    texts_apart();
+    texts_within();
+    match decode(alloc, text, table.stops()) {
+        Ok(read) => {
+            let (tree, used) = read;
+            if used < text.len() {
+                return Err(ShelfFault::Changed);
+            }
+            if tree.depth() > usize::from(rides.number()) {
+                return Err(ShelfFault::Changed);
+            }
+            if tree.source() != stop {
+                return Err(ShelfFault::Changed);
+            }
+            Ok(tree)
+        }
+        Err(fault) => {
+            if fault == CodecFault::Memory {
+                Err(ShelfFault::Memory)
+            } else {
+                Err(ShelfFault::Changed)
+            }
+        }
+    }
+}
