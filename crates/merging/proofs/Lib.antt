@@ -1,3 +1,4 @@
 pub mod Finding
 pub mod MergeFacts
 pub mod GoingFacts
+pub mod Runs

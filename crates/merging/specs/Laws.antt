@@ -1,6 +1,7 @@
 -- What holds of all lists that are put together.
 use Rattle.std.specs.Prelude.{◌≡◌, ℕ, List}
 use Rattle.std.specs.List.{Contains}
+use mathlib.Core.List.{IsPrefix}
 use Rattle.pattern_tree.specs.Content.{Content}
 use Rattle.merging.specs.Merging.{merged}
 
@@ -17,3 +18,9 @@ abbrev pub AnyOrder : Type 0
 AnyOrder =
     (before all other : List Content) (stops : ℕ) → Agree all → AreAmong all other → AreAmong other all
     → merged before all stops ≡ merged before other stops
+
+-- what a stop leaves, a front of the merged list that begins with the list before, is put together to the same list
+abbrev pub RunsAgain : Type 0
+RunsAgain =
+    (before all front : List Content) (stops : ℕ) → IsPrefix before front → IsPrefix front (merged before all stops)
+    → merged front all stops ≡ merged before all stops
