@@ -65,8 +65,8 @@ fn put_next<E: Disk, S: Shelf>(
 }
 
 /// Puts the trees of the shelf whose stops the store lacks, by rising numbers of the stops. Only one of them is in memory at a time. Each
-/// stop that the store has keeps its tree. Stopped at any moment, it goes on when it is called again over the opened store. `progress` hears
-/// how many stops the store has, but not that no more come.
+/// stop that the store has keeps its tree. Stopped at any moment, it goes on when it is called again over the opened store. `progress`
+/// hears how many stops the store has, but not that no more come.
 ///
 /// Of honest disks: at each moment each outcome of a crash stands for a front of the merged list that begins with the old one. A trusted
 /// disk stays trusted if all given trees are exact.

@@ -1,10 +1,11 @@
 -- What a shelf of parts has.
 use Rattle.std.specs.Prelude.{◌≡◌, ◌≢◌, ◌⊎◌, ℕ, List, ◌++◌, Option, map}
+use Rattle.std.specs.Arc.{arc_value}
 use Rattle.std.specs.List.{All, AllZip, flat_map}
 use Rattle.disk_model.specs.Disk.{State}
 use Rattle.pattern_tree.specs.Content.{Content}
 use Rattle.section_store.specs.Lasting.{IsExact, IsTrusted}
-use Rattle.section_store.specs.Sections.{Form, Stands}
+use Rattle.section_store.specs.Sections.{Form, Stands, form_of}
 use Rattle.recovery.specs.Recovery.{CauseOf, IsLeftAlone, IsOutside, StandsForNoList}
 use Rattle.merging.specs.Laws.{Agree}
 use Rattle.merging.specs.declared.fault.ShelfFault.TheVariants.{Changed}
@@ -13,6 +14,7 @@ use Rattle.part_shelf.specs.Spots.{AreSpots}
 use Rattle.part_shelf.specs.declared.entry.Spot.{Spot}
 use Rattle.part_shelf.specs.declared.fault.PartFault.{PartFault}
 use Rattle.part_shelf.specs.declared.fault.PartFault.TheVariants as parts
+use Rattle.part_shelf.specs.declared.shelf.PartShelf.{PartShelf}
 
 -- Honest disks, in these states, which stand for lists of trees, one after the other all of these; no two of one stop differ. Each tree is
 -- found where its spot says.
@@ -26,8 +28,16 @@ pub record HasTrees {D : Type 0} (Honest : D → Type 0) (state : D → State) (
   pub agree : Agree all
   pub are_spots : AreSpots form states spots all
 
--- The disk stood for trees, which the shelf has now after all that it had. Nothing was done to the disk but at most a sync. Of a trusted disk
--- each of the trees is exact.
+-- what the trees of a shelf are for
+abbrev pub form_for : {D : Type 0} → PartShelf D → Form
+form_for shelf = form_of (arc_value shelf.table) shelf.rides
+
+-- the shelf has these trees, on disks in these states
+abbrev pub Has : {D : Type 0} → (D → Type 0) → (D → State) → PartShelf D → List State → List Content → Type 0
+Has Honest state shelf states all = HasTrees Honest state (form_for shelf) shelf.disks.items shelf.spots.items states all
+
+-- The disk stood for trees, which the shelf has now after all that it had. Nothing was done to the disk but at most a sync. Of a trusted
+-- disk each of the trees is exact.
 pub record IsAdded (form : Form) (old : State) (all : List Content) (Has : State → List Content → Type 0) : Type 0 where
   pub trees : List Content
   pub now : State

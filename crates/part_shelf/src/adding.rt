@@ -1,14 +1,12 @@
 //! Adds a part.
 
 ghost use Rattle.std.specs.Prelude.{◌≡◌, ◌↔◌, ◌+◌, ◌++◌, [], ◌∷◌, List, IfOk, IfErr, MatchResult};
-ghost use Rattle.std.specs.Arc.{arc_value};
 ghost use Rattle.std.specs.List.{sum_by};
 ghost use Rattle.disk_model.specs.Disk.{Grew, State};
 ghost use Rattle.pattern_tree.specs.Content.{Content};
-ghost use Rattle.section_store.specs.Sections.{form_of};
 ghost use Rattle.recovery.specs.Recovery.{IsLeftAlone};
 ghost use Rattle.part_shelf.specs.Comparing.{TellsDevice};
-ghost use Rattle.part_shelf.specs.Shelves.{HasTrees, IsAdded, WhyNot};
+ghost use Rattle.part_shelf.specs.Shelves.{Has, IsAdded, WhyNot, form_for};
 
 use crate::comparing::compare;
 use crate::fault::PartFault;
@@ -24,20 +22,18 @@ impl<D: Disk> PartShelf<D> {
     /// fault, and the shelf is then as before.
     pub fn add(&mut self, disk: D) -> Result<(), (PartFault, D)>
         ensures added { (states : List State) (all : List Content)
-            → HasTrees D.honest D.state (form_of (arc_value self.old.table) self.old.rides) self.old.disks.items self.old.spots.items states all
-            → D.honest disk
-            → MatchResult result
-            (λ _. IsAdded (form_of (arc_value self.old.table) self.old.rides) (D.state disk) all (λ now trees.
-            HasTrees D.honest D.state (form_of (arc_value self.old.table) self.old.rides) self.new.disks.items self.new.spots.items (states ++ now ∷ []) trees))
-            (λ e. WhyNot (form_of (arc_value self.old.table) self.old.rides) (D.state disk).read all e.0
+            → Has D.honest D.state self.old states all → D.honest disk → MatchResult result
+            (λ _. IsAdded (form_for self.old) (D.state disk) all
+            (λ now trees. Has D.honest D.state self.new (states ++ now ∷ []) trees))
+            (λ e. WhyNot (form_for self.old) (D.state disk).read all e.0
             × IsLeftAlone (D.state disk) (D.state e.1)
-            × HasTrees D.honest D.state (form_of (arc_value self.old.table) self.old.rides) self.new.disks.items self.new.spots.items states all) }
+            × Has D.honest D.state self.new states all) }
         ensures device { MatchResult result
             (λ _. sum_by D.failures self.new.disks.items ≡ sum_by D.failures self.old.disks.items + D.failures disk)
             (λ e. TellsDevice e.0 → Grew (sum_by D.failures self.old.disks.items + D.failures disk)
             (sum_by D.failures self.new.disks.items + D.failures e.1)) }
         ensures honest { IfErr result (λ e. D.honest disk ↔ D.honest e.1) }
-        ensures form { form_of (arc_value self.new.table) self.new.rides ≡ form_of (arc_value self.old.table) self.old.rides }
+        ensures form { form_for self.new ≡ form_for self.old }
     {
         match list_trees(self.alloc, disk, &self.table, self.rides) {
             Err((fault, disk)) => Err((PartFault::Store(fault), disk)),

@@ -1,6 +1,6 @@
 //! Reads texts of trees.
 
-ghost use Rattle.std.specs.Prelude.{◌≡◌, ◌≢◌, ◌↔◌, ◌<◌, ◌+◌, ◌^◌, ℕ, List, take, drop, get_or, length, map, IsTrue, IfOk, IfErr, MatchResult};
+ghost use Rattle.std.specs.Prelude.{◌≡◌, ◌≢◌, ◌↔◌, ◌<◌, ◌+◌, ◌^◌, List, take, drop, get_or, length, map, IsTrue, IfOk, IfErr, MatchResult};
 ghost use Rattle.std.specs.List.{All, sum_by};
 ghost use Rattle.disk_model.specs.Disk.{Grew, State, empty_disk};
 ghost use Rattle.pattern_tree.specs.Content.{Content};
@@ -48,8 +48,8 @@ pub(crate) fn read_spot<D: Disk>(
 ) -> Result<(), ShelfFault>
     ensures honest { All D.honest disks.old.items → All D.honest disks.new.items }
     ensures same { All D.honest disks.old.items → map D.state disks.new.items ≡ map D.state disks.old.items }
-    ensures text { (form : Form) (states : List State) (tree : Content) → All D.honest disks.old.items → states ≡ map D.state disks.old.items
-        → spot.part < length states → IsTextAt form (get_or states spot.part empty_disk).read spot.place spot.size tree
+    ensures text { (form : Form) (states : List State) (tree : Content) → All D.honest disks.old.items
+        → states ≡ map D.state disks.old.items → spot.part < length states → IsTextAt form (get_or states spot.part empty_disk).read spot.place spot.size tree
         → MatchResult result (λ _. IsSection form text.new.items tree) (λ fault. fault ≢ ShelfFault.Changed) }
     ensures counted { MatchResult result (λ _. sum_by D.failures disks.new.items ≡ sum_by D.failures disks.old.items)
         (λ fault. fault ≡ ShelfFault.Device → Grew (sum_by D.failures disks.old.items) (sum_by D.failures disks.new.items)) }

@@ -3,7 +3,7 @@
 ghost use Rattle.std.specs.Prelude.{◌≡◌, [], IfOk};
 ghost use Rattle.std.specs.Arc.{arc_value};
 ghost use Rattle.section_store.specs.Sections.{form_of};
-ghost use Rattle.part_shelf.specs.Shelves.{HasTrees};
+ghost use Rattle.part_shelf.specs.Shelves.{Has, form_for};
 
 use crate::entry::Spot;
 use crate::reading::{read_spot, tree_in};
@@ -29,8 +29,8 @@ pub struct PartShelf<D: Disk> {
 impl<D: Disk> PartShelf<D> {
     /// A shelf without parts, for trees of that timetable and of journeys of at most `rides` rides. It fails only if memory runs out.
     pub fn new(alloc: Global, table: &Arc<Timetable>, rides: Rides) -> Result<Self, AllocError>
-        ensures form { IfOk result (λ shelf. form_of (arc_value shelf.table) shelf.rides ≡ form_of (arc_value table.now) rides) }
-        ensures none { IfOk result (λ shelf. HasTrees D.honest D.state (form_of (arc_value table.now) rides) shelf.disks.items shelf.spots.items [] []) }
+        ensures form { IfOk result (λ shelf. form_for shelf ≡ form_of (arc_value table.now) rides) }
+        ensures none { IfOk result (λ shelf. Has D.honest D.state shelf [] []) }
         ensures disks { IfOk result (λ shelf. shelf.disks.items ≡ []) }
     {
         let spots = vec![in alloc; None; table.stops()]?;
@@ -54,14 +54,12 @@ impl<D: Disk> PartShelf<D> {
 }
 
 impl<D: Disk> Shelf for PartShelf<D> {
-    ghost use Rattle.std.specs.Arc.{arc_value};
     ghost use Rattle.std.specs.List.{sum_by};
-    ghost use Rattle.section_store.specs.Sections.{form_of};
-    ghost use Rattle.part_shelf.specs.Shelves.{HasTrees};
+    ghost use Rattle.part_shelf.specs.Shelves.{Has, form_for};
 
-    ghost form = { λ shelf. form_of (arc_value shelf.table) shelf.rides };
+    ghost form = { form_for };
 
-    ghost has = { λ shelf disks all. HasTrees D.honest D.state (form_of (arc_value shelf.table) shelf.rides) shelf.disks.items shelf.spots.items disks all };
+    ghost has = { Has D.honest D.state };
 
     ghost failures = { λ shelf. sum_by D.failures shelf.disks.items };
 

@@ -1,12 +1,10 @@
 //! The trees of several stores are put together.
 
 ghost use Rattle.std.specs.Prelude.{◌≡◌, ◌↔◌, List, IfErr, MatchResult};
-ghost use Rattle.std.specs.Arc.{arc_value};
 ghost use Rattle.std.specs.List.{sum_by};
 ghost use Rattle.disk_model.specs.Disk.{Grew, State};
 ghost use Rattle.pattern_tree.specs.Content.{Content};
-ghost use Rattle.section_store.specs.Sections.{form_of};
-ghost use Rattle.part_shelf.specs.Shelves.{HasTrees};
+ghost use Rattle.part_shelf.specs.Shelves.{Has, form_for};
 ghost use Rattle.store_terms.specs.Stores.{form_over};
 ghost use Rattle.store_merging.specs.Merges.{IsMerged, IsUnmerged, TellsOut, TellsPart};
 
@@ -23,8 +21,8 @@ use section_store::laws::loses_nothing_in_turn;
 use std::alloc::Global;
 use timetable::Rides;
 
-/// Puts the trees of the parts on the shelf into the file of the disk, by rising numbers of their stops. The file is recovered, and begun if
-/// it is fresh; each stop that it has keeps its tree. It reports how many stops the file has then, and the ids of those that it lacks.
+/// Puts the trees of the parts on the shelf into the file of the disk, by rising numbers of their stops. The file is recovered, and begun
+/// if it is fresh; each stop that it has keeps its tree. It reports how many stops the file has then, and the ids of those that it lacks.
 /// `progress` hears how many it has. The disk comes back. Of the parts nothing is written, and only one tree is in memory at a time.
 ///
 /// Of honest disks: stopped before, within or after any call, the file stands for a front of the merged list that begins with what it had;
@@ -37,14 +35,13 @@ pub fn merge_parts<'a, D: Disk, E: Disk, P: MergeProgress>(
     out: E,
     progress: &mut P,
 ) -> (Result<Built<'a>, UnmergedFault>, E)
-    requires { form_of (arc_value shelf.old.table) shelf.old.rides ≡ form_over basis.now rides }
+    requires { form_for shelf.old ≡ form_over basis.now rides }
     ensures merged { (disks : List State) (all : List Content) → E.honest out
-        → HasTrees D.honest D.state (form_over basis.now rides) shelf.old.disks.items shelf.old.spots.items disks all
+        → Has D.honest D.state shelf.old disks all
         → MatchResult result.0 (IsMerged basis.now rides all (E.state out) (E.state result.1))
         (IsUnmerged basis.now rides all (E.state out) (E.state result.1)) }
     ensures still { (disks : List State) (all : List Content)
-        → HasTrees D.honest D.state (form_over basis.now rides) shelf.old.disks.items shelf.old.spots.items disks all
-        → HasTrees D.honest D.state (form_over basis.now rides) shelf.new.disks.items shelf.new.spots.items disks all }
+        → Has D.honest D.state shelf.old disks all → Has D.honest D.state shelf.new disks all }
     ensures device { IfErr result.0 (λ fault. TellsOut fault → Grew (E.failures out) (E.failures result.1)) }
     ensures part_device { IfErr result.0 (λ fault. TellsPart fault
         → Grew (sum_by D.failures shelf.old.disks.items) (sum_by D.failures shelf.new.disks.items)) }

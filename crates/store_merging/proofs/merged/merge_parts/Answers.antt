@@ -10,7 +10,6 @@ use Rattle.migration.specs.Migration.{OneIsTooLarge}
 use Rattle.merging.specs.Merging.{Merges, merged}
 use Rattle.merging.specs.declared.fault.MergeFault.TheVariants as merges
 use Rattle.section_store.specs.declared.fault.PutFault.TheVariants.{TooLarge}
-use Rattle.part_shelf.specs.Shelves.{HasTrees}
 use Rattle.store_terms.specs.Stores.{form_over}
 use Rattle.store_merging.specs.Merges.{HoldsList, IsMerged, IsMerging, IsUnmerged}
 use Rattle.store_merging.proofs.MergingFacts.{counts, holds_list, merging, stops, unopened}
@@ -40,13 +39,11 @@ returns-clause-merged g c = λ disks all honest has.
     let before = given.trees in
     let there = c.in-Ok.ensures.honest.0 honest in
     let is : store.form ≡ form = c.in-Ok.ensures.ready.1 ∙ own in
-    let shelf = c.args.shelf.now in
-    let held = subst (λ (f : Form). HasTrees g.D.Disk.honest g.D.Disk.state f shelf.disks.items shelf.spots.items disks all) (sym c.requires) has in
     let stood : Stands form old.read before = subst (λ (f : Form). Stands f old.read before) own (given.stands honest) in
     let holds : Holds store.form before store.place store.stored mid =
     subst (λ (f : Form). Holds f before store.place store.stored mid) (sym c.in-Ok.ensures.ready.1) (given.holds honest) in
     let opening : IsOpening form old mid = subst (λ (f : Form). IsOpening f old mid) own (c.in-Ok.ensures.opening honest) in
-    let m : Merges form before all mid new = subst (λ (f : Form). Merges f before all mid new) is (c.merge-merged.ensures.merges disks before all there held holds) in
+    let m : Merges form before all mid new = subst (λ (f : Form). Merges f before all mid new) is (c.merge-merged.ensures.merges disks before all there has holds) in
     let did : IsMerging form before all old new = merging c.loses_nothing_in_turn.ensures c.goes_on.ensures.trust form before all old mid new stood opening m in
     subst (λ d. MatchResult c.match-merged.told (IsMerged basis k all old (state d)) (IsUnmerged basis k all old (state d))) (sym c.into_disk.ensures)
     (elim c.match-merged.branch [
@@ -54,16 +51,16 @@ returns-clause-merged g c = λ disks all honest has.
         before,
         did,
         stops form all w.in-Err-merged.fault
-            (λ large. subst (λ (f : Form). OneIsTooLarge f all) is (w.in-Err-merged.ensures.large disks all held large))
-            (w.in-Err-merged.ensures.changed disks all held) w.in-Err-merged.ensures.kinds,
+            (λ large. subst (λ (f : Form). OneIsTooLarge f all) is (w.in-Err-merged.ensures.large disks all has large))
+            (w.in-Err-merged.ensures.changed disks all has) w.in-Err-merged.ensures.kinds,
       )
       | in-Ok-merged+in-Ok-counted w ↦
           let whole : Holds form (merged before all (stops_of basis.timetable)) last.place last.stored new =
-          subst (λ (f : Form). Holds f (merged before all (stops_of f.table)) last.place last.stored new) is (w.in-Ok-merged.ensures.holds disks before all there held holds) in
+          subst (λ (f : Form). Holds f (merged before all (stops_of f.table)) last.place last.stored new) is (w.in-Ok-merged.ensures.holds disks before all there has holds) in
           rw w.told-is (counts basis k before all old new last.stored w.in-Ok-counted.built did
           (holds_list form (merged before all (stops_of basis.timetable)) last.place last.stored new whole) whole.stored_are w.in-Ok-counted.ensures)
       | in-Ok-merged+in-Err-counted w ↦
           let whole : Holds form (merged before all (stops_of basis.timetable)) last.place last.stored new =
-          subst (λ (f : Form). Holds f (merged before all (stops_of f.table)) last.place last.stored new) is (w.in-Ok-merged.ensures.holds disks before all there held holds) in
+          subst (λ (f : Form). Holds f (merged before all (stops_of f.table)) last.place last.stored new) is (w.in-Ok-merged.ensures.holds disks before all there has holds) in
           rw w.told-is (before, did, holds_list form (merged before all (stops_of basis.timetable)) last.place last.stored new whole)
     ])
