@@ -2,6 +2,7 @@
 
 ghost use Rattle.std.specs.Prelude.{◌≡◌, IfOk};
 ghost use Rattle.std.specs.Arc.{arc_value};
+ghost use Rattle.part_shelf.specs.Shelves.{form_for};
 ghost use Rattle.section_store.specs.Sections.{form_of};
 ghost use Rattle.timetable.specs.Table.{stops_of};
 
@@ -97,7 +98,7 @@ impl Town {
 
     /// The shelf of these parts, added in their order.
     pub fn shelf(&self, alloc: Global, parts: Vec<MemDisk>) -> Result<PartShelf<MemDisk>, Fail>
-        ensures { IfOk result (λ shelf. form_of (arc_value shelf.table) shelf.rides ≡ form_of (arc_value self.now.table) 2) }
+        ensures { IfOk result (λ shelf. form_for shelf ≡ form_of (arc_value self.now.table) 2) }
     {
         let mut shelf = PartShelf::new(alloc, &self.table, rides())?;
         for disk in parts {
@@ -109,7 +110,7 @@ impl Town {
 
 // Adds a part.
 fn add(shelf: &mut PartShelf<MemDisk>, disk: MemDisk) -> Result<(), Fail>
-    ensures { form_of (arc_value shelf.new.table) shelf.new.rides ≡ form_of (arc_value shelf.old.table) shelf.old.rides }
+    ensures { form_for shelf.new ≡ form_for shelf.old }
 {
     match shelf.add(disk) {
         Ok(()) => Ok(()),
