@@ -60,7 +60,8 @@ abbrev pub IsWindowAnswer : BasisData → ℕ → Bool → Question → Until �
 IsWindowAnswer basis k wanted question last found =
     (moment : Option ℕ) × (until : Option ℕ) × IsMoment basis.cover question.day question.seconds moment
     × IsMoment basis.cover last.day last.seconds until
-    × MatchResult found (FindsConnections (IsAnsweredWithin basis k wanted moment until question)) (IsUnansweredWithin basis moment until question)
+    × MatchResult found (FindsConnections (IsAnsweredWithin basis k wanted moment until question))
+    (IsUnansweredWithin basis moment until question)
 
 -- by rounds: the best arrivals, or the connections if a last time to leave at is named
 abbrev pub IsScanned : BasisData → ℕ → Bool → Question → Option Until → Result Found Fault → Type 0

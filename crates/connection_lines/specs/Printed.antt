@@ -11,7 +11,8 @@ use Rattle.connection_lines.specs.declared.connections.Connections.{Connections}
 -- when one leaves, when one arrives, and by how many rides
 abbrev pub numbers_text : DayTime → Point → List ℕ
 numbers_text departs journey =
-    codes "depart " ++ (day_time_text departs ++ (codes " arrive " ++ (day_time_text journey.at ++ (codes " rides " ++ decimal journey.rides))))
+    codes "depart " ++ (day_time_text departs
+    ++ (codes " arrive " ++ (day_time_text journey.at ++ (codes " rides " ++ decimal journey.rides))))
 
 -- a connection, and a line for each of its stages
 unfoldable pub connection_text : Connection → List ℕ
