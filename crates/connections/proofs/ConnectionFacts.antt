@@ -15,21 +15,21 @@ use Rattle.connections.specs.Connections.{IsLast, Connects}
 use Rattle.connections.specs.Found.{AreLeastAt}
 
 -- each journey of one ride or more is one of the set at an event too, at its departure or later
-pub record HasEvents (table : Table) (s : ℕ) (Of : ℕ → Numbers → Type 0) : Type 0 where
-  pub own : (d : ℕ) (n : Numbers) → 1 ≤ n.rides → Of d n → (e : ℕ) × IsEvent table s e × (d ≤ e) × Of e n
+pub record HasEvents (Is : ℕ → Type 0) (Of : ℕ → Numbers → Type 0) : Type 0 where
+  pub own : (d : ℕ) (n : Numbers) → 1 ≤ n.rides → Of d n → (e : ℕ) × Is e × (d ≤ e) × Of e n
 
 -- so the departure of a connection is an event
-pub event_of : (table : Table) (s : ℕ) (Of : ℕ → Numbers → Type 0) → HasEvents table s Of → (d : ℕ) (n : Numbers) → Connects Of d n → IsEvent table s d
-event_of table s Of has d n is =
+pub event_of : (Is : ℕ → Type 0) (Of : ℕ → Numbers → Type 0) → HasEvents Is Of → (d : ℕ) (n : Numbers) → Connects Of d n → Is d
+event_of Is Of has d n is =
     let own = has.own d n is.ridden is.best.0 in
     let le = own.2 in
     elim (cases_lt d own.0) [
       | inl lt ↦ absurd (is.last own.0 n lt is.ridden (le_refl n.rides) (le_refl n.arrival) own.3)
-      | inr ge ↦ subst (λ (x : ℕ). IsEvent table s x) (let z : own.0 ≡ d = omega (arith, le, ge) in z) own.1
+      | inr ge ↦ subst (λ (x : ℕ). Is x) (let z : own.0 ≡ d = omega (arith, le, ge) in z) own.1
     ]
 
 module _ (table : Table) (k s : ℕ) where
-  pub reached_events : (t : ℕ) → HasEvents table s (Reaches table 0 k s t)
+  pub reached_events : (t : ℕ) → HasEvents (IsEvent table s) (Reaches table 0 k s t)
   reached_events t = record {
     own = λ d n some of.
         let a = of.2 in

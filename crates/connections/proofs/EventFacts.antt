@@ -11,7 +11,7 @@ use Rattle.timetable.specs.Journeys.{call_at, departs, foot, from}
 use Rattle.timetable.proofs.Legs.{there, stop_known_at}
 use Rattle.timetable.proofs.Taken.{the_some}
 use Rattle.rounds.specs.Events.{IsEvent, AreEvents}
-use Rattle.connections.specs.Found.{LiesAt}
+use Rattle.connections.specs.Found.{AreMoments, LiesAt}
 
 -- moments that rise never fall
 pub rising_le : (xs : List ℕ) → IsStrictlyIncreasing xs → (i j : ℕ) → i ≤ j → j < length xs → get_or xs i 0 ≤ get_or xs j 0
@@ -33,18 +33,22 @@ event_early table s e valid event =
     let w = the_some (foot table s (from table leg)) (λ w. e + w ≡ departs table leg) event.2 in
     omega (arith, w.2, departure, known.early)
 
-module _ (table : Table) (s : ℕ) (moments : List ℕ) where
-  pub moment_is : (i : ℕ) → AreEvents table s moments → i < length moments → IsEvent table s (get_or moments i 0)
+-- the events of a stop
+pub moments_are : (table : Table) (s : ℕ) (moments : List ℕ) → AreEvents table s moments → AreMoments (IsEvent table s) moments
+moments_are table s moments are = record { rising = are.rising; each = are.each; all = are.all }
+
+module _ (Is : ℕ → Type 0) (moments : List ℕ) where
+  pub moment_is : (i : ℕ) → AreMoments Is moments → i < length moments → Is (get_or moments i 0)
   moment_is i are in' = are.each (get_or moments i 0) (Contains-get_or moments i 0 in')
 
   -- an event stands somewhere
-  pub place_of : (x : ℕ) → AreEvents table s moments → IsEvent table s x → (i : ℕ) × (i < length moments) × (get_or moments i 0 ≡ x)
+  pub place_of : (x : ℕ) → AreMoments Is moments → Is x → (i : ℕ) × (i < length moments) × (get_or moments i 0 ≡ x)
   place_of x are is = let at = at_from_Contains moments x (are.all x is) in (at.0, at.1, at.2 0)
 
   -- there is no event from d on, before the next one
-  pub between_moments : (n d : ℕ) → AreEvents table s moments → LiesAt moments n d
+  pub between_moments : (n d : ℕ) → AreMoments Is moments → LiesAt moments n d
       → ((i : ℕ) → n ≤ i → i < length moments → get_or moments n 0 ≤ get_or moments i 0)
-      → (x : ℕ) → d ≤ x → x < get_or moments n 0 → ¬ IsEvent table s x
+      → (x : ℕ) → d ≤ x → x < get_or moments n 0 → ¬ Is x
   between_moments n d are lies rises x le lt is =
       let at = place_of x are is in
       let e = at.2 in
@@ -54,7 +58,7 @@ module _ (table : Table) (s : ℕ) (moments : List ℕ) where
       ]
 
   -- and none at all, if there is no next one
-  pub after_moments : (n d : ℕ) → AreEvents table s moments → LiesAt moments n d → length moments ≤ n → (x : ℕ) → d ≤ x → ¬ IsEvent table s x
+  pub after_moments : (n d : ℕ) → AreMoments Is moments → LiesAt moments n d → length moments ≤ n → (x : ℕ) → d ≤ x → ¬ Is x
   after_moments n d are lies past x le is =
       let at = place_of x are is in
       let e = at.2 in
@@ -63,9 +67,9 @@ module _ (table : Table) (s : ℕ) (moments : List ℕ) where
       let z : ⊥ = omega (arith, b, e, le) in z
 
 -- the moment after an event lies at the next one
-pub lies_after : (table : Table) (s : ℕ) (moments : List ℕ) → AreEvents table s moments → (i n : ℕ) → i + 1 ≡ n → i < length moments
+pub lies_after : (Is : ℕ → Type 0) (moments : List ℕ) → AreMoments Is moments → (i n : ℕ) → i + 1 ≡ n → i < length moments
     → LiesAt moments n (get_or moments i 0 + 1)
-lies_after table s moments are i n next in' = (
+lies_after Is moments are i n next in' = (
   λ j lt. (let le = rising_le moments are.rising j i (omega (arith, lt, next)) in' in let z : get_or moments j 0 < get_or moments i 0 + 1 = omega (arith, le) in z),
   λ j le lt. (let less = rising_lt moments are.rising i j (omega (arith, le, next)) lt in let z : get_or moments i 0 + 1 ≤ get_or moments j 0 = omega (arith, less) in z),
 )

@@ -12,12 +12,11 @@ use Rattle.timetable.specs.Journeys.{Reaches, Unbeaten}
 use Rattle.timetable.specs.Front.{AreBest, AreFront, IsSooner}
 use Rattle.rounds.specs.Mark.{Mark, arrival_in, moment_in}
 use Rattle.rounds.specs.Answers.{AreRounds}
-use Rattle.rounds.specs.Events.{AreEvents}
 use Rattle.pattern_query.specs.Answer.{PointData, numbers}
 use Rattle.connections.specs.declared.connection.Connection.{Connection}
 use Rattle.connections.specs.declared.connection.Window.{Window}
 use Rattle.connections.specs.Connections.{Connects, IsConnection, IsBefore, AreConnections}
-use Rattle.connections.specs.Found.{AreFound, AreLeastAt, AddsSome, IsLowered, IsLoweredWithin, SplitsAt, between, leaving}
+use Rattle.connections.specs.Found.{AreFound, AreMoments, AreLeastAt, AddsSome, IsLowered, IsLoweredWithin, SplitsAt, between, leaving}
 use Rattle.connections.proofs.ConnectionFacts.{HasEvents, event_of, connects_if, lowered_if, least_of}
 use Rattle.connections.proofs.EventFacts.{place_of, rising_le, rising_lt}
 
@@ -134,14 +133,14 @@ pub record HasFound (Of : ℕ → Numbers → Type 0) (window : Window) (moments
   pub all : (d : ℕ) (m : Numbers) → ((i : ℕ) → i < n → get_or moments i 0 < d) → d ≤ window.last → Connects Of d m
       → (c : Connection) × Contains list c × (c.departure ≡ d) × (numbers c.journey ≡ m)
 
-module _ (table : Table) (s : ℕ) (Of : ℕ → Numbers → Type 0) (has : HasEvents table s Of) (window : Window) (moments : List ℕ) (are : AreEvents table s moments) where
+module _ (Is : ℕ → Type 0) (Of : ℕ → Numbers → Type 0) (has : HasEvents Is Of) (window : Window) (moments : List ℕ) (are : AreMoments Is moments) where
   pub has_none : (n : ℕ) → SplitsAt moments window.last n → HasFound Of window moments n []
   has_none n splits = record {
     falling = λ i j d lt in'. absurd (let z : ⊥ = omega (arith, in') in z);
     each = λ i d in'. absurd (let z : ⊥ = omega (arith, in') in z);
     above = λ i lt j d in'. absurd (let z : ⊥ = omega (arith, in') in z);
     all = λ d m past within is.
-        let at = place_of table s moments d are (event_of table s Of has d m is) in
+        let at = place_of Is moments d are (event_of Is Of has d m is) in
         let e = at.2 in
         absurd (elim (cases_lt at.0 n) [
           | inl before ↦ (let b = past at.0 before in let z : ⊥ = omega (arith, b, e) in z)
@@ -177,7 +176,7 @@ module _ (table : Table) (s : ℕ) (Of : ℕ → Numbers → Type 0) (has : HasE
         let less = rising_lt moments are.rising j i lt in' in
         (let z : get_or moments j 0 < (get_or list l d).departure = omega (arith, a, less) in z);
     all = λ d m past within is.
-        let at = place_of table s moments d are (event_of table s Of has d m is) in
+        let at = place_of Is moments d are (event_of Is Of has d m is) in
         let e = at.2 in
         elim (cases_lt at.0 i) [
           | inl before ↦ absurd (let b = past at.0 before in let z : ⊥ = omega (arith, b, e) in z)

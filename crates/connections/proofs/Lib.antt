@@ -4,3 +4,4 @@ pub mod EventFacts
 pub mod AddedFacts
 pub mod TreeFacts
 pub mod FirstFacts
+pub mod MomentFacts

@@ -9,20 +9,18 @@ use Rattle.timetable.specs.Table.{Table}
 use Rattle.timetable.specs.Journeys.{Journey, Reaches, Unbeaten, foot}
 use Rattle.timetable.specs.Front.{AreBest}
 use Rattle.timetable.proofs.Taken.{the_some, journey_earlier}
-use Rattle.rounds.specs.Events.{IsEvent, AreEvents}
 use Rattle.rounds.proofs.EventLaws.{own_event}
-use Rattle.pattern_tree.specs.Content.{Content}
-use Rattle.pattern_query.specs.Answer.{PointData, numbers, TreeReaches, IsExactFront}
+use Rattle.pattern_query.specs.Answer.{PointData, numbers}
+use Rattle.pattern_query.specs.Questions.{Held}
 use Rattle.pattern_query.proofs.Best.{no_worse}
 use Rattle.connections.specs.Connections.{Connects}
-use Rattle.connections.specs.Found.{AreAfter, IsScope, IsThere, LeavesLast, LiesAt, Scope, points_in}
+use Rattle.connections.specs.Found.{AreAfter, IsEventOf, IsThere, LeavesLast, Scope}
 use Rattle.connections.proofs.ConnectionFacts.{HasEvents}
-use Rattle.connections.proofs.EventFacts.{moment_is, place_of, rising_le}
 use Rattle.connections.proofs.FoundFacts.{numbers_in, point_of}
 
 -- one may wait before a journey with a ride, and on foot one is there sooner who begins sooner
-pub record IsFlow (table : Table) (s : ℕ) (Of : ℕ → Numbers → Type 0) : Type 0 where
-  pub events : HasEvents table s Of
+pub record IsFlow (Is : ℕ → Type 0) (Of : ℕ → Numbers → Type 0) : Type 0 where
+  pub events : HasEvents Is Of
   pub waits : (d e : ℕ) (n : Numbers) → d ≤ e → 1 ≤ n.rides → Of e n → Of d n
   pub walks : (d e : ℕ) (n : Numbers) → d < e → n.rides ≡ 0 → Of e n → (m : Numbers) × Of d m × (m.rides ≡ 0) × (m.arrival < n.arrival)
 
@@ -34,43 +32,61 @@ walks_sooner table s t d e z [] none lt j =
     (d + w.0, subst (λ o. IsSomeAnd o (λ v. d + w.0 ≡ d + v)) (sym w.1) refl, (let k : d + w.0 < z = omega (arith, same, lt) in k))
 walks_sooner table s t d e z (leg ∷ legs) none lt j = absurd (let b : ⊥ = omega (arith, none) in b)
 
-module _ (table : Table) (tree : Content) (t : ℕ) where
-  -- the journeys of a tree, and of a timetable
-  pub is_flow : (scope : Option ℕ) → IsFlow table tree.source (Scope table tree t scope)
+module _ (table : Table) (held : Held) (froms tos : List ℕ) where
+  -- the journeys of trees, and those of a timetable
+  pub is_flow : (scope : Option ℕ) → IsFlow (IsEventOf table froms) (Scope table held froms tos scope)
   is_flow None = record {
     events = record {
       own = λ d n some of.
-          let a = of.2 in
-          let own = own_event table tree.source d of.0 t n.arrival (omega (arith, a, some)) of.1.0 in
-          (own.0, own.1, own.2, (of.0, (own.3, of.1.1), of.2));
+          let tree = of.0 in
+          let t = of.1 in
+          let in' = of.3 in
+          let a = in'.2 in
+          let own = own_event table tree.source d in'.0 t n.arrival (omega (arith, a, some)) in'.1.0 in
+          (own.0, (tree.source, of.2.0, own.1), own.2, (tree, t, of.2, (in'.0, (own.3, in'.1.1), in'.2)));
     };
     waits = λ d e n le some of.
-        let a = of.2 in
-        (of.0, (journey_earlier table tree.source d e of.0 t n.arrival le (omega (arith, a, some)) of.1.0, of.1.1), of.2);
+        let tree = of.0 in
+        let t = of.1 in
+        let in' = of.3 in
+        let a = in'.2 in
+        (tree, t, of.2, (in'.0, (journey_earlier table tree.source d e in'.0 t n.arrival le (omega (arith, a, some)) in'.1.0, in'.1.1), in'.2));
     walks = λ d e n lt none of.
-        let a = of.2 in
-        let w = walks_sooner table tree.source t d e n.arrival of.0 (omega (arith, a, none)) lt of.1.0 in
-        (record { arrival = w.0; rides = 0 }, ([], (w.1, inl refl), refl), refl, w.2);
+        let tree = of.0 in
+        let t = of.1 in
+        let in' = of.3 in
+        let a = in'.2 in
+        let w = walks_sooner table tree.source t d e n.arrival in'.0 (omega (arith, a, none)) lt in'.1.0 in
+        (record { arrival = w.0; rides = 0 }, (tree, t, of.2, ([], (w.1, inl refl), refl)), refl, w.2);
   }
   is_flow (Some k) = record {
     events = record {
       own = λ d n some of.
-          let a = of.2 in
-          let own = own_event table tree.source d of.0 t n.arrival (omega (arith, a, some)) of.1 in
-          (own.0, own.1, own.2, (of.0, own.3, of.2, of.3, of.4));
+          let s = of.0 in
+          let t = of.1 in
+          let in' = of.4 in
+          let a = in'.2 in
+          let own = own_event table s d in'.0 t n.arrival (omega (arith, a, some)) in'.1 in
+          (own.0, (s, of.2, own.1), own.2, (s, t, of.2, of.3, (in'.0, own.3, in'.2, in'.3, in'.4)));
     };
     waits = λ d e n le some of.
-        let a = of.2 in
-        (of.0, journey_earlier table tree.source d e of.0 t n.arrival le (omega (arith, a, some)) of.1, of.2, of.3, of.4);
+        let s = of.0 in
+        let t = of.1 in
+        let in' = of.4 in
+        let a = in'.2 in
+        (s, t, of.2, of.3, (in'.0, journey_earlier table s d e in'.0 t n.arrival le (omega (arith, a, some)) in'.1, in'.2, in'.3, in'.4));
     walks = λ d e n lt none of.
-        let a = of.2 in
-        let w = walks_sooner table tree.source t d e n.arrival of.0 (omega (arith, a, none)) lt of.1 in
-        (record { arrival = w.0; rides = 0 }, ([], w.1, refl, (omega arith), (omega arith)), refl, w.2);
+        let s = of.0 in
+        let t = of.1 in
+        let in' = of.4 in
+        let a = in'.2 in
+        let w = walks_sooner table s t d e n.arrival in'.0 (omega (arith, a, none)) lt in'.1 in
+        (record { arrival = w.0; rides = 0 }, (s, t, of.2, of.3, ([], w.1, refl, (omega arith), (omega arith))), refl, w.2);
   }
 
-module _ (table : Table) (s : ℕ) (Of : ℕ → Numbers → Type 0) (flow : IsFlow table s Of) where
+module _ (Is : ℕ → Type 0) (Of : ℕ → Numbers → Type 0) (flow : IsFlow Is Of) where
   -- the best at the next event stand for all that begin later
-  pub after_next : (e next : ℕ) (points : List PointData) → e < next → ((x : ℕ) → e < x → x < next → ¬ IsEvent table s x)
+  pub after_next : (e next : ℕ) (points : List PointData) → e < next → ((x : ℕ) → e < x → x < next → ¬ Is x)
       → AreBest (Of next) (map numbers points) → AreAfter Of e points
   after_next e next points lt none best = record {
     each = λ q h some. (next, lt, (best.each (numbers q) (numbers_in points q h)).0);
@@ -88,7 +104,7 @@ module _ (table : Table) (s : ℕ) (Of : ℕ → Numbers → Type 0) (flow : IsF
   }
 
   -- with no event after it, nothing begins later
-  pub after_last : (e : ℕ) → ((x : ℕ) → e < x → ¬ IsEvent table s x) → AreAfter Of e []
+  pub after_last : (e : ℕ) → ((x : ℕ) → e < x → ¬ Is x) → AreAfter Of e []
   after_last e none = record {
     each = λ q h some. absurd (let k = at_from_Contains [] q h in let b : ⊥ = omega (arith, k.1) in b);
     all = λ later m gt some of. (let own = flow.events.own later m some of in let from = own.2 in absurd (none own.0 (omega (arith, gt, from)) own.1));
@@ -136,10 +152,3 @@ module _ (Of : ℕ → Numbers → Type 0) (e : ℕ) (points next : List PointDa
     is.ridden,
     λ there. (let l = after.each there.0 there.1 there.2.0 in is.last l.0 (numbers there.0) l.1 there.2.0 there.2.1 there.2.2 l.2),
   )
-
--- what an answer ensures, for each scope
-pub best_of_scope : (table : Table) (tree : Content) (t d : ℕ) (points : List PointData) → AreBest (TreeReaches table tree t d) (map numbers points)
-    → IsExactFront table tree t d (map numbers points) → (scope : Option ℕ) → IsScope table tree scope
-    → AreBest (Scope table tree t scope d) (map numbers points)
-best_of_scope table tree t d points best exact None is = best
-best_of_scope table tree t d points best exact (Some k) whole = exact k whole

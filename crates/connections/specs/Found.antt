@@ -1,18 +1,25 @@
 -- The connections that are found so far, from the last departures to the first. Only private clauses cite these words.
 use Rattle.std.specs.Prelude.{Option, None, Some, ◌≡◌, ℕ, ◌<◌, ◌≤◌, ◌⊎◌, ⊤, List, [], slice_index_or, length}
 use Rattle.std.specs.List.{All, AllPairs, Contains}
+use Rattle.std.specs.List.Sorted.{IsStrictlyIncreasing}
 use Rattle.timetable.specs.declared.parts.Numbers.{Numbers}
 use Rattle.timetable.specs.Table.{Table, stops_of}
-use Rattle.timetable.specs.Journeys.{IsLeast, Reaches}
+use Rattle.timetable.specs.Journeys.{IsLeast}
 use Rattle.timetable.specs.Front.{IsSooner}
 use Rattle.rounds.specs.Mark.{Mark, arrival_in, moment_in}
 use Rattle.rounds.specs.Answers.{ArrivesWithin}
-use Rattle.pattern_tree.specs.Content.{Content}
-use Rattle.pattern_tree.specs.Completeness.{IsWhole}
-use Rattle.pattern_query.specs.Answer.{PointData, numbers, TreeReaches}
+use Rattle.rounds.specs.Events.{IsEvent}
+use Rattle.pattern_query.specs.Answer.{PointData, numbers}
+use Rattle.pattern_query.specs.Questions.{AreComplete, AskedReaches, Held, ReachesBetween}
 use Rattle.connections.specs.declared.connection.Connection.{Connection}
 use Rattle.connections.specs.declared.connection.Window.{Window}
 use Rattle.connections.specs.Connections.{Connects, IsConnection, IsBefore}
+
+-- the moments are those that are so, strictly rising
+pub record AreMoments (Is : ℕ → Type 0) (moments : List ℕ) : Type 0 where
+  pub rising : IsStrictlyIncreasing moments
+  pub each : (e : ℕ) → Contains moments e → Is e
+  pub all : (e : ℕ) → Is e → Contains moments e
 
 -- from one moment to another
 abbrev pub between : ℕ → ℕ → Window
@@ -65,16 +72,20 @@ IsLowered rounds before t p = (1 ≤ p.rides) × IsSooner (arrival_in rounds p.r
 abbrev pub IsLoweredWithin : List (List (Option Mark)) → List (List (Option ℕ)) → ℕ → ℕ → Type 0
 IsLoweredWithin rounds before t k = (r : ℕ) × (1 ≤ r) × (r ≤ k) × IsSooner (arrival_in rounds r t) (moment_in before r t)
 
--- ---- by the patterns of a tree
+-- ---- by the patterns of trees
 
--- the journeys of a tree at t; those of at most k rides of the timetable, if the tree is whole for k rides
-abbrev pub Scope : Table → Content → ℕ → Option ℕ → ℕ → Numbers → Type 0
-Scope table tree t None = TreeReaches table tree t
-Scope table tree t (Some k) = Reaches table 0 k tree.source t
+-- an event of one of the stops
+abbrev pub IsEventOf : Table → List ℕ → ℕ → Type 0
+IsEventOf table stops e = (s : ℕ) × Contains stops s × IsEvent table s e
 
-abbrev pub IsScope : Table → Content → Option ℕ → Type 0
-IsScope table tree None = ⊤
-IsScope table tree (Some k) = IsWhole table k tree
+-- the journeys of the trees of the first stops to the others; those of at most k rides of the timetable, if these trees are complete
+abbrev pub Scope : Table → Held → List ℕ → List ℕ → Option ℕ → ℕ → Numbers → Type 0
+Scope table held froms tos None = AskedReaches table held froms tos
+Scope table held froms tos (Some k) = ReachesBetween table k froms tos
+
+abbrev pub IsScope : Table → Held → List ℕ → Option ℕ → Type 0
+IsScope table held froms None = ⊤
+IsScope table held froms (Some k) = AreComplete table held k froms
 
 -- q has a ride, no more rides than p, and arrives by then
 abbrev pub IsNoWorse : PointData → PointData → Type 0

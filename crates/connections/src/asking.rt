@@ -1,22 +1,22 @@
-//! The connections of a window, by the patterns of a tree.
+//! The connections of a window between places, by the patterns of trees.
 
 ghost use Rattle.std.specs.Prelude.{Option, ◌≡◌, ℕ, ◌+◌, ◌<◌, ◌≤◌, ◌↔◌, IfOk, IsTrue, OnOk, length, map};
 ghost use Rattle.std.specs.List.{All};
 ghost use Rattle.timetable.specs.Front.{AreBest};
-ghost use Rattle.timetable.specs.Journeys.{Reaches};
 ghost use Rattle.timetable.specs.Table.{stops_of};
-ghost use Rattle.rounds.specs.Events.{AreEvents};
-ghost use Rattle.pattern_tree.specs.Completeness.{IsWhole};
-ghost use Rattle.pattern_query.specs.Answer.{IsPoint, TreeReaches, numbers};
+ghost use Rattle.pattern_query.specs.Answer.{numbers};
+ghost use Rattle.pattern_query.specs.Gathered.{AddsAsked, IsTo};
+ghost use Rattle.pattern_query.specs.Questions.{AreComplete, AskedReaches, IsAskedPoint, IsStored, ReachesBetween};
 ghost use Rattle.connections.specs.Connections.{AreConnections};
-ghost use Rattle.connections.specs.Found.{AddsSome, AreAfter, AreFound, IsNoWorse, IsScope, IsThere, LeavesLast, LiesAt, Scope, between, points_in};
+ghost use Rattle.connections.specs.Found.{AddsSome, AreAfter, AreFound, AreMoments, IsEventOf, IsNoWorse, IsScope, IsThere, LeavesLast};
+ghost use Rattle.connections.specs.Found.{LiesAt, Scope, between, points_in};
 
 use crate::connection::{Connection, Window};
 use crate::moments::{count_before, count_up_to};
 use direct_connections::Network;
-use pattern_query::{Answer, Patterns, Point, ask};
+use pattern_query::{Answer, BestSoFar, Patterns, Point, Trees};
 use rounds::departures;
-use std::alloc::{AllocError, Allocator, Global};
+use std::alloc::{AllocError, Global};
 use timetable::{LATEST_MOMENT, StopId};
 
 // Whether a point has a ride, no more rides than the journey, and arrives by then.
@@ -68,81 +68,140 @@ fn points_of(answer: &Option<Answer>) -> &[Point]
     }
 }
 
-// The answer at the first event after the window, if there is one.
-fn answer_after<A: Allocator>(
+// Puts in the journeys of the patterns to each of the stops.
+fn search_to(
     network: &Network,
-    patterns: &Patterns<A>,
-    to: StopId,
+    patterns: &Patterns,
+    tos: &[StopId],
+    depart: u32,
+    best: &mut BestSoFar,
+)
+    requires early { depart ≤ LATEST_MOMENT }
+    ensures { AddsAsked network.now (IsTo patterns.now tos.now) depart best.old best.new }
+{
+    for to in tos {
+        best.search(network, patterns, *to, depart);
+    }
+}
+
+// The best journeys from the trees of stops to others at a moment.
+fn ask_at<T: Trees>(
+    network: &Network,
+    trees: &T,
+    froms: &[StopId],
+    tos: &[StopId],
+    depart: u32,
+) -> Answer
+    requires early { depart ≤ LATEST_MOMENT }
+    requires stored { All (IsStored (T.held trees.now)) froms.now }
+    ensures points { All (IsAskedPoint network.now (T.held trees.now) froms.now tos.now depart) result }
+    ensures best { (scope : Option ℕ) → IsScope network.now (T.held trees.now) froms.now scope
+        → AreBest (Scope network.now (T.held trees.now) froms.now tos.now scope depart) (map numbers result) }
+{
+    let mut best = BestSoFar::new();
+    for source in froms {
+        if let Some(patterns) = trees.patterns(*source) {
+            search_to(network, patterns, tos, depart, &mut best);
+        }
+    }
+    best.answer()
+}
+
+// The events of all these stops, strictly rising.
+fn departures_of(alloc: Global, network: &Network, stops: &[StopId]) -> Result<Vec<u32>, AllocError>
+    requires { All (λ s. s < stops_of network.now) stops.now }
+    ensures moments { IfOk result (λ moments. AreMoments (IsEventOf network.now stops.now) moments.items) }
+    ensures early { IfOk result (λ moments. All (λ e. e ≤ LATEST_MOMENT) moments.items) }
+{
+    let table = network.timetable();
+    let mut moments = Vec::new(alloc);
+    for stop in stops {
+        let mut more = departures(alloc, table, network.lines(), *stop)?;
+        moments.append(&mut more)?;
+    }
+    moments.sort_unstable();
+    moments.dedup();
+    Ok(moments)
+}
+
+// The answer at the first event after the window, if there is one.
+fn answer_after<T: Trees>(
+    network: &Network,
+    trees: &T,
+    froms: &[StopId],
+    tos: &[StopId],
     events: &[u32],
     end: usize,
 ) -> Option<Answer>
-    requires events { AreEvents network.now patterns.now.source events.now }
+    requires events { AreMoments (IsEventOf network.now froms.now) events.now }
     requires early { All (λ e. e ≤ LATEST_MOMENT) events.now }
-    ensures { (scope : Option ℕ) (e : ℕ) → IsScope network.now patterns.now scope → LiesAt events.now end (e + 1)
-        → AreAfter (Scope network.now patterns.now to scope) e (points_in result) }
+    requires stored { All (IsStored (T.held trees.now)) froms.now }
+    ensures { (scope : Option ℕ) (e : ℕ) → IsScope network.now (T.held trees.now) froms.now scope → LiesAt events.now end (e + 1)
+        → AreAfter (Scope network.now (T.held trees.now) froms.now tos.now scope) e (points_in result) }
 {
     if end < events.len() {
-        Some(ask(network, patterns, to, events[end]))
+        Some(ask_at(network, trees, froms, tos, events[end]))
     } else {
         None
     }
 }
 
 // Adds the connections that leave at an event, if `next` has those of the next later one, and gives the answer at the event.
-fn add_answer<A: Allocator>(
+fn add_answer<T: Trees>(
     network: &Network,
-    patterns: &Patterns<A>,
-    to: StopId,
+    trees: &T,
+    froms: &[StopId],
+    tos: &[StopId],
     event: u32,
     next: &Option<Answer>,
     found: &mut Vec<Connection>,
 ) -> Result<Answer, AllocError>
     requires early { event ≤ LATEST_MOMENT }
-    requires after { (scope : Option ℕ) → IsScope network.now patterns.now scope
-        → AreAfter (Scope network.now patterns.now to scope) event (points_in next.now) }
-    ensures best { IfOk result (λ answer. (scope : Option ℕ) → IsScope network.now patterns.now scope
-        → AreBest (Scope network.now patterns.now to scope event) (map numbers answer)) }
-    ensures points { OnOk result (All (λ c. IsPoint network.now patterns.now to c.departure c.journey) found.old.items
-        → All (λ c. IsPoint network.now patterns.now to c.departure c.journey) found.new.items) }
-    ensures found { OnOk result ((scope : Option ℕ) (last : ℕ) → IsScope network.now patterns.now scope → event ≤ last
-        → AreFound (Scope network.now patterns.now to scope) (between (event + 1) last) found.old.items
-        → AreFound (Scope network.now patterns.now to scope) (between event last) found.new.items) }
+    requires stored { All (IsStored (T.held trees.now)) froms.now }
+    requires after { (scope : Option ℕ) → IsScope network.now (T.held trees.now) froms.now scope
+        → AreAfter (Scope network.now (T.held trees.now) froms.now tos.now scope) event (points_in next.now) }
+    ensures best { IfOk result (λ answer. (scope : Option ℕ) → IsScope network.now (T.held trees.now) froms.now scope
+        → AreBest (Scope network.now (T.held trees.now) froms.now tos.now scope event) (map numbers answer)) }
+    ensures points { OnOk result (All (λ c. IsAskedPoint network.now (T.held trees.now) froms.now tos.now c.departure c.journey) found.old.items
+        → All (λ c. IsAskedPoint network.now (T.held trees.now) froms.now tos.now c.departure c.journey) found.new.items) }
+    ensures found { OnOk result ((scope : Option ℕ) (last : ℕ) → IsScope network.now (T.held trees.now) froms.now scope → event ≤ last
+        → AreFound (Scope network.now (T.held trees.now) froms.now tos.now scope) (between (event + 1) last) found.old.items
+        → AreFound (Scope network.now (T.held trees.now) froms.now tos.now scope) (between event last) found.new.items) }
 {
-    let answer = ask(network, patterns, to, event);
+    let answer = ask_at(network, trees, froms, tos, event);
     add_last(answer.points(), points_of(next), event, found)?;
     Ok(answer)
 }
 
-/// The connections from a tree's source to a stop that depart within a window, along the tree's patterns: by departure, then by arrival,
-/// one for each of their numbers, with its rides. If the tree is complete, they are those of the timetable. A departure after the window
-/// counts as it does for `scan_connections`.
+/// The connections from some stops to others that depart within a window, along the patterns of the first stops' trees: by departure, then
+/// by arrival, one for each of their numbers, with its rides. If the trees are complete, they are those of the timetable. A departure after
+/// the window counts as it does for `scan_connections`.
 ///
-/// It asks once at each of the source's events within the window, and at the one after it. It fails only if memory runs out.
-pub fn ask_connections<A: Allocator>(
+/// It asks once at each of the first stops' events within the window, and at the one after it. It fails only if memory runs out.
+pub fn ask_connections<T: Trees>(
     alloc: Global,
     network: &Network,
-    patterns: &Patterns<A>,
-    to: StopId,
+    trees: &T,
+    froms: &[StopId],
+    tos: &[StopId],
     window: Window,
 ) -> Result<Vec<Connection>, AllocError>
-    requires { patterns.now.source < stops_of network.now }
-    ensures points { IfOk result (λ list. All (λ c. IsPoint network.now patterns.now to c.departure c.journey) list.items) }
-    ensures best { IfOk result (λ list. AreConnections (TreeReaches network.now patterns.now to) window list.items) }
-    ensures exact { IfOk result (λ list. (k : ℕ) → IsWhole network.now k patterns.now
-        → AreConnections (Reaches network.now 0 k patterns.now.source to) window list.items) }
+    requires known { All (λ s. s < stops_of network.now) froms.now }
+    requires stored { All (IsStored (T.held trees.now)) froms.now }
+    ensures points { IfOk result
+        (λ list. All (λ c. IsAskedPoint network.now (T.held trees.now) froms.now tos.now c.departure c.journey) list.items) }
+    ensures best { IfOk result (λ list. AreConnections (AskedReaches network.now (T.held trees.now) froms.now tos.now) window list.items) }
+    ensures exact { IfOk result (λ list. (k : ℕ) → AreComplete network.now (T.held trees.now) k froms.now
+        → AreConnections (ReachesBetween network.now k froms.now tos.now) window list.items) }
 {
-    let events = departures(
-        alloc,
-        network.timetable(),
-        network.lines(),
-        patterns.source(),
-    )?;
+    let events = departures_of(alloc, network, froms)?;
     let end = count_up_to(&events, window.last);
     let first = count_before(&events, window.first);
-    let mut next = answer_after(network, patterns, to, &events, end);
+    let mut next = answer_after(network, trees, froms, tos, &events, end);
     let mut found = Vec::new(alloc);
     for index in (first..end).rev() {
-        next = Some(add_answer(network, patterns, to, events[index], &next, &mut found)?);
+        let event = events[index];
+        next = Some(add_answer(network, trees, froms, tos, event, &next, &mut found)?);
     }
     found.reverse();
     Ok(found)

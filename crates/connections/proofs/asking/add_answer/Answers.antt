@@ -1,9 +1,10 @@
 use Rattle.std.proofs.Common.{◌≡◌, ℕ, ◌+◌, ◌≤◌, List, Option, map, subst}
-use Rattle.pattern_query.specs.Answer.{PointData, numbers, IsPoint}
+use Rattle.pattern_query.specs.Answer.{PointData, numbers}
+use Rattle.pattern_query.specs.Questions.{Held, IsAskedPoint}
 use Rattle.connections.specs.declared.connection.Connection.{Connection}
 use Rattle.connections.specs.Found.{AddsSome, AreAfter, IsScope, LeavesLast, Scope, points_in}
 use Rattle.connections.proofs.FoundFacts.{found_more, more_hold}
-use Rattle.connections.proofs.TreeFacts.{best_of_scope, connects_last, last_connects}
+use Rattle.connections.proofs.TreeFacts.{connects_last, last_connects}
 use Rattle.connections.proofs.asking.add_answer.Goals as goal
 
 -- what was added, by the answers
@@ -13,27 +14,26 @@ added e answer next points others old new is are adds =
     subst (λ (ps : List PointData). AddsSome (LeavesLast next) e ps old new) is (subst (λ (ps : List PointData). AddsSome (LeavesLast ps) e points old new) are adds)
 
 pub returns-clause-best : goal.returns-clause-best
-returns-clause-best g c = λ scope is.
-    best_of_scope c.args.network.now c.args.patterns.now c.args.to c.args.event c.ask-answer.result c.ask-answer.ensures.best c.ask-answer.ensures.exact scope is
+returns-clause-best g c = c.ask_at-answer.ensures.best
 
 pub returns-clause-points : goal.returns-clause-points
 returns-clause-points g c = λ were.
+    let held : Held = g.T.Trees.held c.args.trees.now in
     let next = points_in c.args.next.now in
-    more_hold (IsPoint c.args.network.now c.args.patterns.now c.args.to) c.args.event (LeavesLast next) c.ask-answer.result c.args.found.now.items
-    c.add_last.new.found.items c.ask-answer.ensures.points
-    (added c.args.event c.ask-answer.result next c.points.result.now c.points_of.result.now c.args.found.now.items c.add_last.new.found.items
+    more_hold (IsAskedPoint c.args.network.now held c.args.froms.now c.args.tos.now) c.args.event (LeavesLast next) c.ask_at-answer.result c.args.found.now.items
+    c.add_last.new.found.items c.ask_at-answer.ensures.points
+    (added c.args.event c.ask_at-answer.result next c.points.result.now c.points_of.result.now c.args.found.now.items c.add_last.new.found.items
     c.points.ensures c.points_of.ensures c.in_ok-add_last.ensures) were
 
 pub returns-clause-found : goal.returns-clause-found
 returns-clause-found g c = λ scope last is within found.
     let T = c.args.network.now in
-    let tree = c.args.patterns.now in
-    let t = c.args.to in
+    let held : Held = g.T.Trees.held c.args.trees.now in
     let e = c.args.event in
-    let answer = c.ask-answer.result in
+    let answer = c.ask_at-answer.result in
     let next = points_in c.args.next.now in
-    let Of = Scope T tree t scope in
-    let best = best_of_scope T tree t e answer c.ask-answer.ensures.best c.ask-answer.ensures.exact scope is in
+    let Of = Scope T held c.args.froms.now c.args.tos.now scope in
+    let best = c.ask_at-answer.ensures.best scope is in
     let after = c.requires.after scope is in
     found_more Of (LeavesLast next) e last answer c.args.found.now.items c.add_last.new.found.items best
     (last_connects Of e answer next best after) (connects_last Of e answer next best after)
