@@ -27,8 +27,8 @@ pub struct First {
     pub next: u32,
 }
 
-// The part of the window that is searched at once, from `next` on.
-fn step_of(window: Window, next: u32) -> Window
+/// The part of the window that is searched at once, from `next` on.
+pub(crate) fn step_of(window: Window, next: u32) -> Window
     requires { next ≤ window.last }
     ensures first { result.first ≡ next }
     ensures some { next ≤ result.last }
