@@ -156,8 +156,9 @@ pub fn scan<'a>(
     Ok(answer)
 }
 
-// Journeys of the trees between the question's places. No covered moment is as late as the one that stands for none.
-fn journeys<'a, T: Trees>(
+/// Journeys of the trees between the question's places, and its moment.
+// No covered moment is as late as the one that stands for none.
+pub fn journeys<'a, T: Trees>(
     basis: &'a Basis,
     network: &Network,
     trees: &T,

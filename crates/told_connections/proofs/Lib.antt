@@ -1,1 +1,2 @@
 pub mod ToldFacts
+pub mod WalkFacts

@@ -1,13 +1,14 @@
 -- The connections of a window, as they are told.
 use Rattle.std.specs.Prelude.{◌≡◌, ◌⊎◌, ℕ, ◌<◌, ◌≤◌, Bool, List, [], ◌∷◌, Option, None, Some}
-use Rattle.std.specs.List.{All, AllZip}
-use Rattle.timetable.specs.Journeys.{Reaches, foot}
+use Rattle.std.specs.List.{All, AllZip, Contains}
+use Rattle.timetable.specs.Journeys.{IsLeast, Reaches, foot}
 use Rattle.timetable.specs.Table.{Table}
 use Rattle.pattern_query.specs.Answer.{IsJourney}
+use Rattle.pattern_query.specs.Questions.{AreComplete, AskedReaches, Held, IsAskedPoint, IsStored, ReachesBetween}
 use Rattle.answer_lines.specs.Moments.{TellsMoment}
 use Rattle.answer_lines.specs.declared.moment.DayTime.{DayTime}
 use Rattle.answering.specs.Answers.{IsAsked}
-use Rattle.answering.specs.Refusals.{IsUnanswered, NoneMissing}
+use Rattle.answering.specs.Refusals.{IsMissing, IsUnanswered, NoneMissing}
 use Rattle.connection_lines.specs.declared.connections.Connection.{Connection as Line}
 use Rattle.connection_lines.specs.declared.connections.Connections.{Connections}
 use Rattle.connections.specs.Connections.{AreFirst}
@@ -16,6 +17,7 @@ use Rattle.connections.specs.declared.connection.Window.{Window}
 use Rattle.faults.specs.declared.fault.Fault.{Fault}
 use Rattle.feed_basis.specs.Basis.{BasisData}
 use Rattle.feed_basis.specs.Ids.{stop_alone}
+use Rattle.feed_ids.specs.Names.{stops_at}
 use Rattle.question_lines.specs.declared.question.Question.{Question}
 use Rattle.service_days.specs.Cover.{CoverDays}
 use Rattle.told_connections.specs.declared.asking.TheConstants.{ENOUGH}
@@ -57,8 +59,50 @@ pub record IsAnsweredWithin (basis : BasisData) (k : ℕ) (wanted : Bool) (momen
   pub covered : last ≤ basis.timetable.horizon
   pub told : AreTold basis k wanted s t first last shown
 
+-- one walks so many seconds from one of the first stops to one of the others
+abbrev pub IsWalk : Table → List ℕ → List ℕ → ℕ → Type 0
+IsWalk table froms tos seconds = (s : ℕ) × Contains froms s × (t : ℕ) × Contains tos t × (foot table s t ≡ Some seconds)
+
+-- So it is between places, by the trees that are held: those of the first stops are among them, and each connection is a journey of these
+-- trees. The connections are those of all journeys of these trees; if the trees are complete, those of all journeys of at most k rides.
+pub record AreAskedTold (basis : BasisData) (held : Held) (wanted : Bool) (froms tos : List ℕ) (first last : ℕ) (shown : Connections) : Type 0 where
+  pub stored : All (IsStored held) froms
+  pub found : List Connection
+  pub next : ℕ
+  pub journeys : All (λ c. IsAskedPoint basis.timetable held froms tos c.departure c.journey) found
+  pub right : AreFirst (AskedReaches basis.timetable held froms tos) (between first last) ENOUGH found next
+  pub exact : (k : ℕ) → AreComplete basis.timetable held k froms
+      → AreFirst (ReachesBetween basis.timetable k froms tos) (between first last) ENOUGH found next
+  pub told : AllZip (TellsConnection basis wanted) found shown.list.items
+  pub rest : TellsNext basis.cover next last shown.next
+  pub walk : IsLeast (IsWalk basis.timetable froms tos) shown.walk
+
+-- the question's places, its moment and its last moment, which are covered, are right by these words
+pub record IsRightWithin (basis : BasisData) (Right : List ℕ → List ℕ → ℕ → ℕ → Connections → Type 0) (moment until : Option ℕ)
+    (question : Question) (shown : Connections) : Type 0 where
+  pub froms : List ℕ
+  pub tos : List ℕ
+  pub first : ℕ
+  pub last : ℕ
+  pub asked : IsAsked (stops_at basis.names) basis.timetable moment question froms tos first
+  pub until_is : until ≡ Some last
+  pub covered : last ≤ basis.timetable.horizon
+  pub right : Right froms tos first last shown
+
+-- the connections between the question's places, by the trees that are held
+abbrev pub IsAskedWithin : BasisData → Held → Bool → Option ℕ → Option ℕ → Question → Connections → Type 0
+IsAskedWithin basis held wanted moment until question shown = IsRightWithin basis (AreAskedTold basis held wanted) moment until question shown
+
 -- the question is refused at its moment, or else at its last one; or memory ran out
+abbrev pub IsRefusedWithin : (List ℕ → Option (List ℕ)) → (List ℕ → Type 0) → Table → Option ℕ → Option ℕ → Question → Fault → Type 0
+IsRefusedWithin stops Missing table moment until question fault =
+    IsUnanswered stops Missing table moment question fault ⊎ IsUnanswered stops Missing table until question fault
+
+-- between stops, no tree is missed; between places, one of the first place's stops may be
 abbrev pub IsUnansweredWithin : BasisData → Option ℕ → Option ℕ → Question → Fault → Type 0
 IsUnansweredWithin basis moment until question fault =
-    IsUnanswered (stop_alone basis.names) NoneMissing basis.timetable moment question fault
-    ⊎ IsUnanswered (stop_alone basis.names) NoneMissing basis.timetable until question fault
+    IsRefusedWithin (stop_alone basis.names) NoneMissing basis.timetable moment until question fault
+
+abbrev pub IsUnaskedWithin : BasisData → Held → Option ℕ → Option ℕ → Question → Fault → Type 0
+IsUnaskedWithin basis held moment until question fault =
+    IsRefusedWithin (stops_at basis.names) (IsMissing basis held question) basis.timetable moment until question fault

@@ -2,6 +2,9 @@
 #![tactic(auto)]
 
 mod asking;
+mod places;
 mod telling;
+mod walks;
 
 pub use asking::{ENOUGH, scan_within};
+pub use places::{Times, ask_within};
