@@ -119,7 +119,7 @@ module _ (table : Table) (trees : List Content) (board : List (Option Content)) 
         ];
       }
 
-  reaches_stored : (n : Numbers) → AskedReaches table (tree_at board) froms tos d n → StoredReaches table trees froms tos d n
+  pub reaches_stored : (n : Numbers) → AskedReaches table (tree_at board) froms tos d n → StoredReaches table trees froms tos d n
   reaches_stored n (tree, t, asked, reaches) =
       let one = are tree.source tree asked.1 in (
         one.one,
@@ -130,7 +130,7 @@ module _ (table : Table) (trees : List Content) (board : List (Option Content)) 
         reaches_same table tree one.one t d n one.source (IsPermutation-sym one.one.pairs tree.pairs one.pairs) reaches,
       )
 
-  stored_reaches : (form : Form) (bytes : List ℕ) → Stands form bytes trees → (n : Numbers) → StoredReaches table trees froms tos d n
+  pub stored_reaches : (form : Form) (bytes : List ℕ) → Stands form bytes trees → (n : Numbers) → StoredReaches table trees froms tos d n
       → AskedReaches table (tree_at board) froms tos d n
   stored_reaches form bytes stands n (tree, t, among, starts, ends, reaches) =
       let s = tree.source in

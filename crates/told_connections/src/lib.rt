@@ -7,4 +7,4 @@ mod telling;
 mod walks;
 
 pub use asking::{ENOUGH, scan_within};
-pub use places::{Times, ask_within};
+pub use places::{Times, ask_within, stops_of_any};

@@ -27,8 +27,8 @@ pub struct Times {
     pub until: Option<u32>,
 }
 
-// The stops of a place, none if there is no place.
-fn stops_of_any<'a>(place: &'a Option<Place<'a>>) -> &'a [StopId]
+/// The stops of a place, none if there is no place.
+pub fn stops_of_any<'a>(place: &'a Option<Place<'a>>) -> &'a [StopId]
     ensures { (stops : List ℕ) → option_map stops_in place.now ≡ Some stops → result.now ≡ stops }
 {
     match place {
