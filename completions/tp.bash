@@ -43,7 +43,7 @@ _tp() {
                     ;;
                 list) choices="--feed --date --store --format --days --zone --rides --default-walk --help" ;;
                 ask)
-                    choices="--feed --date --store --from --to --at --on --legs --names --format"
+                    choices="--feed --date --store --from --to --at --on --until --legs --names --format"
                     choices+=" --days --zone --rides --default-walk --help"
                     ;;
                 serve) choices="--feed --date --store --workers --format --days --zone --rides --default-walk --help" ;;

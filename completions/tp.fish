@@ -26,7 +26,7 @@ complete -c tp -n '__fish_seen_subcommand_from direct scan ask audit' -l from -x
 complete -c tp -n '__fish_seen_subcommand_from direct scan ask' -l to -x -d 'The stop to go to'
 complete -c tp -n '__fish_seen_subcommand_from migrate' -l to -rF -d 'The new file'
 complete -c tp -n '__fish_seen_subcommand_from direct scan ask' -l at -x -d 'The time to leave at, HH:MM:SS'
-complete -c tp -n '__fish_seen_subcommand_from scan' -l until -x -d 'Print the connections that leave until then, HH:MM:SS'
+complete -c tp -n '__fish_seen_subcommand_from scan ask' -l until -x -d 'Print the connections that leave until then, HH:MM:SS'
 complete -c tp -n '__fish_seen_subcommand_from ask' -l on -x -d 'The covered day to leave on, YYYYMMDD'
 complete -c tp -n '__fish_seen_subcommand_from direct scan build list ask serve audit migrate' -l days -xa '(seq 14)' -d 'The number of covered days'
 complete -c tp -n '__fish_seen_subcommand_from direct scan build list ask serve audit migrate' -l zone -x -d 'The time zone as a POSIX rule'

@@ -163,6 +163,7 @@ fn ask<'a>(alloc: Global) -> Result<Command<'a>, Error>
     let command = journey(alloc, "ask", ASK, ASK_MORE);
     let command = with(command, required(alloc, "store", "FILE", STORE));
     let command = with(command, optional(alloc, "on", "YYYYMMDD", ON));
+    let command = with(command, optional(alloc, "until", "HH:MM:SS", UNTIL));
     let command = with(command, flag(alloc, "legs", LEGS));
     let command = with(command, flag(alloc, "names", NAMES));
     used(command, ASK_USAGE)

@@ -133,9 +133,9 @@ pub(crate) const ASK: &str =
     "The best journeys between stops or stations by walks and at most K rides";
 
 pub(crate) const ASK_MORE: &str = "\
-It prints a line for each number of rides that arrives earlier than all with fewer. The answer comes
-from the store, which has the patterns of the best journeys of each stop: build it first, with the
-same options.
+It prints a line for each number of rides that arrives earlier than all with fewer. With --until it
+prints the connections instead, as scan does. The answer comes from the store, which has the patterns
+of the best journeys of each stop: build it first, with the same options.
 
 Example: tp ask --feed demo/feed-m --date 20240102 --store demo.store --from A --to E --at 08:00:00";
 

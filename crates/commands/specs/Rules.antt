@@ -17,6 +17,7 @@ use Rattle.answering.specs.Refusals.{IsUnanswered, NoneMissing}
 use Rattle.connection_lines.specs.declared.connections.Connections.{Connections}
 use Rattle.told_connections.specs.Windows.{IsAnsweredWithin, IsUnansweredWithin}
 use Rattle.store_answers.specs.Asked.{IsStoredAnswer, IsStoredRefusal}
+use Rattle.stored_connections.specs.Stored.{IsStoredRefusalWithin, IsStoredWindow}
 use Rattle.store_answers.specs.Audited.{IsAllAudited, IsAudited, IsUnaudited}
 use Rattle.store_building.specs.Builds.{IsBuilt, IsUnbuilt, ReportsBuilt}
 use Rattle.store_answers.specs.Listings.{IsListed}
@@ -102,13 +103,21 @@ pub record IsTakenFrom {D : Type 0} (v : SystemView D) (basis : BasisData) (k : 
 abbrev pub IsMigrated : {D : Type 0} → SystemView D → BasisData → ℕ → List ℕ → State → State → Result Found Fault → Type 0
 IsMigrated v basis k path old new found = IsOldKeptOut v basis k path old new found ⊎ IsTakenFrom v basis k path old new found
 
+-- from trees of a store: the best journeys, or the connections if a last time to leave at is named
+abbrev pub IsAskDone : BasisData → ℕ → Question → Bool → Option Until → State → State → Result Found Fault → Type 0
+IsAskDone basis k question wanted None old new found =
+    (moment : Option ℕ) × IsMoment basis.cover question.day question.seconds moment
+    × MatchResult found (FindsAnswer (IsStoredAnswer basis k moment question wanted old new)) (IsStoredRefusal basis k moment question old new)
+IsAskDone basis k question wanted (Some last) old new found =
+    (moment : Option ℕ) × (until : Option ℕ) × IsMoment basis.cover question.day question.seconds moment
+    × IsMoment basis.cover last.day last.seconds until
+    × MatchResult found (FindsConnections (IsStoredWindow basis k moment until question wanted old new))
+    (IsStoredRefusalWithin basis k moment until question old new)
+
 -- What a task may find over the file of a store, by the states of its disk before and after, or which fault. The style says whether rides
 -- and walks are found without being asked for.
 abbrev pub IsTaskDone : {D : Type 0} → SystemView D → Style → BasisData → ℕ → Task → State → State → Result Found Fault → Type 0
-IsTaskDone v style basis k (tasks.Ask question legs) old new found =
-    (moment : Option ℕ) × IsMoment basis.cover question.day question.seconds moment
-    × MatchResult found (FindsAnswer (IsStoredAnswer basis k moment question (tells_legs style legs) old new))
-    (IsStoredRefusal basis k moment question old new)
+IsTaskDone v style basis k (tasks.Ask question legs) old new found = IsAskDone basis k question (tells_legs style legs) question.until old new found
 IsTaskDone v style basis k tasks.List old new found = MatchResult found (FindsReport (IsListed basis k old new)) (IsUntold basis k old new)
 IsTaskDone v style basis k (tasks.Audit whose) old new found = IsAuditDone basis k whose old new found
 IsTaskDone v style basis k (tasks.Build workers progress part) old new found =

@@ -1,23 +1,59 @@
 //! What is done over the file of a store. It is opened in one place.
 
 ghost use Rattle.std.specs.Prelude.{◌≡◌, ◌↔◌, IfErr};
-ghost use Rattle.commands.specs.Rules.{IsAuditDone, IsMigrated, IsTaskDone};
+ghost use Rattle.commands.specs.Rules.{IsAskDone, IsAuditDone, IsMigrated, IsTaskDone};
 ghost use Rattle.commands.specs.Stored.{IsOverStore, told_for};
 ghost use Rattle.commands.specs.World.{view_of};
 ghost use Rattle.store_terms.specs.Stores.{OnlyFailing};
 
-use crate::found::{Found, found_answer, found_report};
+use crate::found::{Found, found_answer, found_connections, found_report};
 use crate::opening::{Access, Ready, StoreFile, open_ready, say_new};
 use crate::system::System;
 use command_line::{Audited, Style, Task};
+use disk_model::Disk;
 use faults::{Fault, Side, in_migration};
+use question_lines::Question;
 use std::alloc::Global;
 use std::io::Write;
 use store_answers::{ask_stored, audit, audit_all, list};
 use store_building::{Building, build};
 use store_migration::take_over;
+use stored_connections::ask_stored_within;
 use streams::Stream;
 use tellers::tells_legs;
+use told_connections::Times;
+
+// Answers a question from the trees that the disk of the file has, or with the connections if a last time to leave at is named; the disk
+// comes back.
+fn ask_on<'a, D: Disk>(
+    alloc: Global,
+    file: &StoreFile<'a>,
+    disk: D,
+    question: &Question<'a>,
+    legs: bool,
+) -> (Result<Found<'a>, Fault<'a>>, D)
+    ensures found { D.honest disk → IsAskDone file.now.basis.now file.now.rides question.now legs question.now.until
+        (D.state disk) (D.state result.1) result.0 }
+    ensures device { IfErr result.0 (OnlyFailing (D.failures disk) (D.failures result.1)) }
+    ensures honest { D.honest disk ↔ D.honest result.1 }
+{
+    let StoreFile { basis, rides, .. } = *file;
+    let moment = basis.moment(question.day, question.seconds);
+    match question.until {
+        None => {
+            let (answer, disk) = ask_stored(alloc, basis, rides, disk, question, moment, legs);
+            (found_answer(question, answer), disk)
+        }
+        Some(last) => {
+            let until = basis.moment(last.day, last.seconds);
+            let times = Times { moment, until };
+            let (connections, disk) = ask_stored_within(
+                alloc, basis, rides, disk, question, times, legs,
+            );
+            (found_connections(question, connections), disk)
+        }
+    }
+}
 
 // Audits the tree of a stop, or all trees, that the disk of the file has; the disk comes back.
 fn audit_on<'a, S: System>(
@@ -113,10 +149,8 @@ fn on_disk<'a, S: System>(
     let StoreFile { basis, rides, .. } = *file;
     match task {
         Task::Ask { question, legs } => {
-            let moment = basis.moment(question.day, question.seconds);
             let legs = tells_legs(style, *legs);
-            let (answer, disk) = ask_stored(alloc, basis, rides, disk, question, moment, legs);
-            (found_answer(question, answer), disk)
+            ask_on(alloc, file, disk, question, legs)
         }
         Task::List => {
             let (report, disk) = list(alloc, basis, rides, disk);

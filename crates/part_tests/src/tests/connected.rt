@@ -3,7 +3,7 @@
 use connections::{Connection, Window, ask_connections, scan_connections};
 use direct_connections::Network;
 use pattern_building::build;
-use pattern_query::Patterns;
+use pattern_query::{Patterns, Trees};
 use rounds::{Rides, Scratch};
 use sample_feed::demo;
 use std::sync::Arc;
@@ -26,6 +26,24 @@ const CASES: [(u32, u32, u32, &[(u32, u32, u8)]); 7] = [
     (0, u32::MAX, 4, &[(28_800, 30_840, 1)]),
     (0, u32::MAX, 0, &[]),
 ];
+
+// The patterns of one source.
+#[derive(Clone, Copy)]
+struct One<'a>(&'a Patterns);
+
+impl Trees for One<'_> {
+    ghost use Rattle.std.specs.Prelude.{◌==◌, None, Some, cond};
+
+    ghost held = { λ one s. cond (one.0.now.source == s) (Some one.0.now) None };
+
+    fn patterns(&self, source: StopId) -> Option<&Patterns> {
+        if self.0.source() == source {
+            Some(self.0)
+        } else {
+            None
+        }
+    }
+}
 
 // Whether a connection has these numbers, and as many rides as they say.
 fn has_numbers(connection: &Connection, numbers: (u32, u32, u8)) -> bool {
@@ -71,7 +89,9 @@ fn connections_by_a_tree(rt: HostRuntime) -> Result<(), Fail> {
     let patterns = Patterns::of(rt.alloc(), &tree)?;
     for (first, last, to, wanted) in CASES {
         let window = Window { first, last };
-        let found = ask_connections(rt.alloc(), &network, &patterns, StopId::new(to), window)?;
+        let (froms, tos) = ([StopId::new(0)], [StopId::new(to)]);
+        let trees = One(&patterns);
+        let found = ask_connections(rt.alloc(), &network, &trees, &froms, &tos, window)?;
         assert!(rt; are_these(&found, wanted));
     }
     Ok(())

@@ -1,23 +1,12 @@
-use Rattle.store_answers.specs.Asked.{IsStoredAnswer, IsStoredRefusal}
 use Rattle.store_building.specs.Builds.{IsBuilt, IsUnbuilt, ReportsBuilt}
 use Rattle.store_answers.specs.Listings.{IsListed}
 use Rattle.store_terms.specs.Stores.{IsUntold}
-use Rattle.commands.proofs.FoundFacts.{answer_found, report_found}
+use Rattle.commands.proofs.FoundFacts.{report_found}
 use Rattle.commands.proofs.storing.on_disk.Goals as goal
 
 pub returns-in-Ask-clause-found : goal.returns-in-Ask-clause-found
 returns-in-Ask-clause-found g c = λ honest.
-    let basis = c.args.file.now.basis.now in
-    let k = c.args.file.now.rides in
-    let old = g.S.Store.Disk.state c.args.disk in
-    let new = g.S.Store.Disk.state c.ask_stored-answer.result.1 in
-    let q = c.in-Ask.question in
-    let moment = c.moment-moment.result in
-    let legs = c.tells_legs-legs.result in
-    let found = answer_found q c.ask_stored-answer.result.0 c.found_answer.result
-    (IsStoredAnswer basis k moment q legs old new) (IsStoredRefusal basis k moment q old new)
-    c.found_answer.ensures (c.ask_stored-answer.ensures.answered honest) in
-    rw (c.in-Ask.is, ← c.tells_legs-legs.ensures) (moment, c.moment-moment.ensures, found)
+    rw (c.in-Ask.is, ← c.tells_legs-legs.ensures) (c.ask_on.ensures.found honest)
 
 pub returns-in-List-clause-found : goal.returns-in-List-clause-found
 returns-in-List-clause-found g c = λ honest.

@@ -23,11 +23,11 @@ tell_connections-requires-clause-known g c =
     let ts = c.stops_of_any-tos.result.now in
     let list = c.in_ok-found.found.connections.items in
     let froms : fs ≡ asked.froms = c.stops_of_any-froms.ensures asked.froms
-        (c.place_named-start.ensures ∙ subst (λ n. stops_at n question.from.now ≡ Some asked.froms) (sym c.names.ensures.value) asked.leaves) in
+    (c.place_named-start.ensures ∙ subst (λ n. stops_at n question.from.now ≡ Some asked.froms) (sym c.names.ensures.value) asked.leaves) in
     let tos : ts ≡ asked.tos = c.stops_of_any-tos.ensures asked.tos
-        (c.place_named-end.ensures ∙ subst (λ n. stops_at n question.to.now ≡ Some asked.tos) (sym c.names-2.ensures.value) asked.reaches) in
+    (c.place_named-end.ensures ∙ subst (λ n. stops_at n question.to.now ≡ Some asked.tos) (sym c.names-2.ensures.value) asked.reaches) in
     let points = moved (λ t f u. All (λ (x : Connection). IsAskedPoint t held f u x.departure x.journey) list)
-        c.args.network.now basis.timetable fs asked.froms ts asked.tos c.requires.network froms tos c.in_ok-found.ensures.points in
+    c.args.network.now basis.timetable fs asked.froms ts asked.tos c.requires.network froms tos c.in_ok-found.ensures.points in
     subst (λ (l : List Connection). All (λ (x : Connection). IsKnownJourney basis x.departure x.journey) l) (sym c.deref.ensures.value)
     (asked_known basis sound held asked.froms asked.tos (known_stops basis sound question.from.now asked.froms asked.leaves)
     (known_stops basis sound question.to.now asked.tos asked.reaches) list points)
@@ -48,9 +48,9 @@ returns-clause-answer g c =
     let list = c.in_ok-found.found.connections.items in
     let next = c.in_ok-found.found.next in
     let froms : fs ≡ asked.froms = c.stops_of_any-froms.ensures asked.froms
-        (c.place_named-start.ensures ∙ subst (λ n. stops_at n question.from.now ≡ Some asked.froms) (sym c.names.ensures.value) asked.leaves) in
+    (c.place_named-start.ensures ∙ subst (λ n. stops_at n question.from.now ≡ Some asked.froms) (sym c.names.ensures.value) asked.leaves) in
     let tos : ts ≡ asked.tos = c.stops_of_any-tos.ensures asked.tos
-        (c.place_named-end.ensures ∙ subst (λ n. stops_at n question.to.now ≡ Some asked.tos) (sym c.names-2.ensures.value) asked.reaches) in
+    (c.place_named-end.ensures ∙ subst (λ n. stops_at n question.to.now ≡ Some asked.tos) (sym c.names-2.ensures.value) asked.reaches) in
     record {
       froms = asked.froms;
       tos = asked.tos;
