@@ -162,7 +162,8 @@ fn add_answer<T: Trees>(
         → AreAfter (Scope network.now (T.held trees.now) froms.now tos.now scope) event (points_in next.now) }
     ensures best { IfOk result (λ answer. (scope : Option ℕ) → IsScope network.now (T.held trees.now) froms.now scope
         → AreBest (Scope network.now (T.held trees.now) froms.now tos.now scope event) (map numbers answer)) }
-    ensures points { OnOk result (All (λ c. IsAskedPoint network.now (T.held trees.now) froms.now tos.now c.departure c.journey) found.old.items
+    ensures points { OnOk result (
+        All (λ c. IsAskedPoint network.now (T.held trees.now) froms.now tos.now c.departure c.journey) found.old.items
         → All (λ c. IsAskedPoint network.now (T.held trees.now) froms.now tos.now c.departure c.journey) found.new.items) }
     ensures found { OnOk result ((scope : Option ℕ) (last : ℕ) → IsScope network.now (T.held trees.now) froms.now scope → event ≤ last
         → AreFound (Scope network.now (T.held trees.now) froms.now tos.now scope) (between (event + 1) last) found.old.items

@@ -14,8 +14,8 @@ use pattern_query::Trees;
 use std::alloc::{AllocError, Global};
 use timetable::{LATEST_MOMENT, StopId};
 
-/// The first connections of a window from some stops to others, as `ask_connections` has them all. It asks by parts of an hour, and stops as
-/// `scan_first` does. It fails only if memory runs out.
+/// The first connections of a window from some stops to others, as `ask_connections` has them all. It asks by parts of an hour, and stops
+/// as `scan_first` does. It fails only if memory runs out.
 pub fn ask_first<T: Trees>(
     alloc: Global,
     network: &Network,

@@ -144,8 +144,8 @@ fn write_fault(
     Ok(())
 }
 
-/// The faults of a feed as an object of JSON, each with what stands at its place, on one line, without a line's end. It fails only if memory
-/// runs out.
+/// The faults of a feed as an object of JSON, each with what stands at its place, on one line, without a line's end. It fails only if
+/// memory runs out.
 pub(crate) fn list_json(
     rt: &HostRuntime,
     alloc: Global,

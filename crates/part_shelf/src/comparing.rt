@@ -56,7 +56,8 @@ fn compare_one<D: Disk>(
     right: &mut Vec<u8>,
 ) -> Result<(), PartFault>
     ensures agree { (form : Form) (states : List State) (all : List Content) (tree : Content) → All D.honest disks.old.items
-        → D.honest disk.old → states ≡ map D.state disks.old.items → AreSpots form states spots.now all → IsEntry form (D.state disk.old).read entry.now tree
+        → D.honest disk.old → states ≡ map D.state disks.old.items → AreSpots form states spots.now all
+        → IsEntry form (D.state disk.old).read entry.now tree
         → MatchResult result (λ _. AgreeWith all (tree ∷ [])) (IsUnlike all (tree ∷ [])) }
     ensures honest { (All D.honest disks.old.items → All D.honest disks.new.items) × (D.honest disk.old ↔ D.honest disk.new) }
     ensures still { (All D.honest disks.old.items → map D.state disks.new.items ≡ map D.state disks.old.items)

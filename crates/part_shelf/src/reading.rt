@@ -49,7 +49,8 @@ pub(crate) fn read_spot<D: Disk>(
     ensures honest { All D.honest disks.old.items → All D.honest disks.new.items }
     ensures same { All D.honest disks.old.items → map D.state disks.new.items ≡ map D.state disks.old.items }
     ensures text { (form : Form) (states : List State) (tree : Content) → All D.honest disks.old.items
-        → states ≡ map D.state disks.old.items → spot.part < length states → IsTextAt form (get_or states spot.part empty_disk).read spot.place spot.size tree
+        → states ≡ map D.state disks.old.items → spot.part < length states
+        → IsTextAt form (get_or states spot.part empty_disk).read spot.place spot.size tree
         → MatchResult result (λ _. IsSection form text.new.items tree) (λ fault. fault ≢ ShelfFault.Changed) }
     ensures counted { MatchResult result (λ _. sum_by D.failures disks.new.items ≡ sum_by D.failures disks.old.items)
         (λ fault. fault ≡ ShelfFault.Device → Grew (sum_by D.failures disks.old.items) (sum_by D.failures disks.new.items)) }

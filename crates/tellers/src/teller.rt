@@ -20,8 +20,8 @@ use question_lines::Question;
 use serving::Reply;
 use std::alloc::{AllocError, Global};
 
-/// Makes the texts of answers, connections, reports, replies and faults in formats beside lines, of lists of stops, and what is added to the lines of a
-/// fault. A text ends with a line's end.
+/// Makes the texts of answers, connections, reports, replies and faults in formats beside lines, of lists of stops, and what is added to
+/// the lines of a fault. A text ends with a line's end.
 /// Its ghost says which texts may be made of what; callers rely on no more.
 pub trait Teller: Copy {
     /// What names and times of replies are looked up in.
