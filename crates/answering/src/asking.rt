@@ -157,7 +157,6 @@ pub fn scan<'a>(
 }
 
 /// Journeys of the trees between the question's places, and its moment.
-// No covered moment is as late as the one that stands for none.
 pub fn journeys<'a, T: Trees>(
     basis: &'a Basis,
     network: &Network,
@@ -173,6 +172,7 @@ pub fn journeys<'a, T: Trees>(
     ensures refusal { IfErr result (IsUnanswered (stops_at basis.now.names) (IsMissing basis.now (T.held trees.now) question.now)
         basis.now.timetable moment question.now) }
 {
+    // No covered moment is as late as the one that stands for none.
     let depart = moment.unwrap_or(u32::MAX);
     match ask_on(
         network,

@@ -91,7 +91,7 @@ fn list_all<S: System>(
     told_faults(alloc, &system.teller(), check.style, check.feed, &list)
 }
 
-// What is told of a feed that is at fault: that fault, or all of them.
+// The report of a feed that is at fault: that fault, or all of them.
 fn refused<S: System>(
     alloc: Global,
     system: &S,

@@ -1,4 +1,4 @@
-//! What is told of connections.
+//! Connections as the program prints them.
 
 ghost use Rattle.std.specs.Prelude.{Option, Some};
 ghost use Rattle.std.specs.Fmt.{WritesOnOk};

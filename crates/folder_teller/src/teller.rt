@@ -70,7 +70,7 @@ impl<'r> FolderTeller<'r> {
         itinerary_of(alloc, basis, clock, &sheets, asked, answer)
     }
 
-    // What is told of the connections of a window.
+    // The itinerary of the connections of a window, with the names that the folder has.
     fn window<'a>(
         &self,
         alloc: Global,

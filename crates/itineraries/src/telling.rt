@@ -145,13 +145,13 @@ fn names_for<'a>(
     Names::of(alloc, sheets, &wanted.stops, &wanted.trips)
 }
 
-/// What an answer is told by.
+/// What itineraries are made with.
 #[derive(Clone, Copy)]
 pub(crate) struct Teller<'a> {
     pub(crate) basis: &'a Basis,
     pub(crate) clock: Clock,
     pub(crate) names: &'a Names,
-    /// Whether the stops that a ride calls at in between are told.
+    /// Whether rides have the stops between, at which they call.
     pub(crate) through: bool,
 }
 

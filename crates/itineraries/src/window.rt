@@ -1,4 +1,4 @@
-//! From the connections of a window to what is told of them.
+//! The itineraries of the connections of a window.
 
 use crate::telling::{Asked, Teller, Wanted};
 use connection_lines::Connections;

@@ -131,8 +131,8 @@ fn build<D: Disk + Drop, R: Threads + Wait + Sync, G: Gate + Sync, P: Progress>(
 
 /// Builds the trees of the crew's part of the stops that the desk's store lacks, in the crew's threads, while the calling thread stores
 /// them. The crew's audience sees each tree once it is stored. All threads have ended when this returns. The thread that builds a tree
-/// calls the gate. The calling thread gives `progress` the number of the part's stored stops as it begins, and after each put. Once the flag
-/// is set no source is claimed any more, and what is in hand ends.
+/// calls the gate. The calling thread gives `progress` the number of the part's stored stops as it begins, and after each put. Once the
+/// flag is set no source is claimed any more, and what is in hand ends.
 ///
 /// If each stop of the part has its tree, nothing is started, and no memory is taken. A source whose tree is too large, or for which memory
 /// is refused, stays missing. A thread that can't be made is left out. After `DeviceFailed` the store has to be opened again.
