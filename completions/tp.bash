@@ -29,28 +29,40 @@ _tp() {
         --format) choices="lines json geojson" ;;
         --days) choices="1 2 3 4 5 6 7 8 9 10 11 12 13 14" ;;
         --rides) choices="1 2 3 4 5 6 7 8" ;;
-        --date | --on | --from | --at | --until | --zone | --default-walk | --workers | --part) return ;;
+        --date | --on | --from | --at | --until | --until-on | --next | --within | --zone | --default-walk | --workers | --part) return ;;
         *)
             case $command in
-                "") choices="check stops direct scan build list ask serve audit migrate faults help --help --version" ;;
+                "") choices="check stops direct scan reach build list ask serve audit migrate merge faults help --help --version" ;;
                 check) choices="--feed --date --all --format --help" ;;
                 stops) choices="--feed --all --header --format --help" ;;
                 direct) choices="--feed --date --from --to --at --format --days --zone --rides --default-walk --help" ;;
-                scan) choices="--feed --date --from --to --at --until --legs --names --format --days --zone --rides --default-walk --help" ;;
+                reach) choices="--feed --date --from --at --on --within --format --days --zone --rides --default-walk --help" ;;
+                scan)
+                    choices="--feed --date --from --to --at --until --until-on --next --legs --names --format"
+                    choices+=" --days --zone --rides --default-walk --help"
+                    ;;
                 build)
                     choices="--feed --date --store --workers --progress --part --format"
                     choices+=" --days --zone --rides --default-walk --help"
                     ;;
                 list) choices="--feed --date --store --format --days --zone --rides --default-walk --help" ;;
                 ask)
-                    choices="--feed --date --store --from --to --at --on --until --legs --names --format"
+                    choices="--feed --date --store --from --to --at --on --until --until-on --next --legs --names --format"
                     choices+=" --days --zone --rides --default-walk --help"
                     ;;
                 serve) choices="--feed --date --store --workers --format --days --zone --rides --default-walk --help" ;;
                 audit) choices="--feed --date --store --from --all --workers --progress --days --zone --rides --default-walk --help" ;;
                 migrate) choices="--feed --date --store --to --progress --days --zone --rides --default-walk --help" ;;
                 faults) choices="--help" ;;
-                help) choices="check stops direct scan build list ask serve audit migrate faults help" ;;
+                merge)
+                    if [[ $word = [!-]* ]]; then
+                        compopt -o filenames
+                        mapfile -t COMPREPLY < <(compgen -f -- "$word")
+                        return
+                    fi
+                    choices="--feed --date --store --progress --days --zone --rides --default-walk --help"
+                    ;;
+                help) choices="check stops direct scan reach build list ask serve audit migrate merge faults help" ;;
             esac
             ;;
     esac

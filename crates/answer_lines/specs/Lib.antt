@@ -1,5 +1,6 @@
+pub mod Audits
 pub mod Moments
 pub mod Printed
 pub mod Printing
+pub mod Reaches
 pub mod Reports
-pub mod Audits

@@ -1,9 +1,10 @@
--- How reports on a store are shown, and the status that each ends a program with.
+-- How reports are shown, and the status that each ends a program with.
 use Rattle.std.specs.Prelude.{ℕ, List, [], ◌∷◌, ◌++◌, codes}
 use Rattle.std.specs.Fmt.{decimal}
 use Rattle.std.specs.List.{flat_map}
 use Rattle.shown_ids.specs.Shown.{shown}
 use Rattle.answer_lines.specs.Audits.{audit_line, audit_status, audits_status}
+use Rattle.answer_lines.specs.Reaches.{reach_text}
 use Rattle.answer_lines.specs.declared.report.Built.{Built}
 use Rattle.answer_lines.specs.declared.report.Report.{Report}
 use Rattle.answer_lines.specs.declared.report.Report.TheVariants as reports
@@ -28,6 +29,7 @@ report_text (reports.Built built) =
 report_text (reports.Audited audit) = audit_line audit
 report_text (reports.AuditedAll audits) = flat_map audit_line audits.items
 report_text (reports.Migrated count) = migrated_line count
+report_text (reports.Reached reach) = reach_text reach
 
 -- 3 if some stop has no tree
 abbrev pub status_by : {X : Type 0} → List X → ℕ
@@ -43,3 +45,4 @@ report_status (reports.Built built) = built_status built
 report_status (reports.Audited audit) = audit_status audit
 report_status (reports.AuditedAll audits) = audits_status audits.items
 report_status (reports.Migrated count) = 0
+report_status (reports.Reached reach) = 0

@@ -5,6 +5,7 @@ mod answer;
 mod audit;
 mod moment;
 mod printing;
+mod reach;
 mod report;
 mod stage;
 
@@ -12,5 +13,6 @@ pub use answer::{Answer, Point};
 pub use audit::{Audit, Differing};
 pub use moment::{DayTime, ShownDate, day_time};
 pub use printing::{PrintFault, print, print_bytes};
+pub use reach::{Reach, ReachedStop};
 pub use report::{Built, Report};
 pub use stage::Stage;

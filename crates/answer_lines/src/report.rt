@@ -1,4 +1,4 @@
-//! Reports on a store.
+//! Reports: on a store, or on where one can be.
 
 ghost use Rattle.std.specs.Prelude.{◌≡◌, Some};
 ghost use Rattle.std.specs.Fmt.{WritesOnOk};
@@ -7,6 +7,7 @@ ghost use Rattle.answer_lines.specs.Audits.{audit_line, has_difference};
 ghost use Rattle.answer_lines.specs.Reports.{built_status, id_line, report_status, report_text};
 
 use crate::audit::Audit;
+use crate::reach::Reach;
 use shown_ids::Shown;
 use std::fmt;
 
@@ -21,7 +22,7 @@ pub struct Built<'a> {
     pub missing: Vec<&'a str>,
 }
 
-/// A report on a store, shown as the program prints it: lines, each with its end. A list of no stops has no line.
+/// A report, shown as the program prints it: lines, each with its end. A list of no stops has no line.
 #[derive(Debug, Drop)]
 pub enum Report<'a> {
     /// The ids of the stops whose trees are stored, in the order in which they were: one a line.
@@ -37,6 +38,8 @@ pub enum Report<'a> {
         /// How many trees the old store has, and the new one too.
         count: usize,
     },
+    /// The stops that one reaches: one a line.
+    Reached(Reach<'a>),
 }
 
 impl Built<'_> {
@@ -49,12 +52,15 @@ impl Built<'_> {
 }
 
 impl<'a> Report<'a> {
-    /// The ids that the report lists: an audit is no list of ids, nor is a migration.
+    /// The ids of the stops that a store has, or that a build left: other reports list none.
     pub fn stops(&self) -> &[&'a str] {
         match self {
             Report::Stored(ids) => ids.as_slice(),
             Report::Built(built) => built.missing.as_slice(),
-            Report::Audited(_) | Report::AuditedAll(_) | Report::Migrated { .. } => &[],
+            Report::Audited(_)
+            | Report::AuditedAll(_)
+            | Report::Migrated { .. }
+            | Report::Reached(_) => &[],
         }
     }
 
@@ -67,7 +73,7 @@ impl<'a> Report<'a> {
             Report::Built(built) => built.status(),
             Report::Audited(audit) => audit.status(),
             Report::AuditedAll(audits) => { if has_difference(audits) { 5 } else { 0 } }
-            Report::Migrated { .. } => 0,
+            Report::Migrated { .. } | Report::Reached(_) => 0,
         }
     }
 }
@@ -91,6 +97,7 @@ impl fmt::Display for Report<'_> {
             Report::Audited(audit) => writeln!(f, "{audit}"),
             Report::AuditedAll(audits) => write_audits(f, audits),
             Report::Migrated { count } => writeln!(f, "migrated {count} of {count}"),
+            Report::Reached(reach) => write!(f, "{reach}"),
         }
     }
 }

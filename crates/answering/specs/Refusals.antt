@@ -52,4 +52,6 @@ IsUnanswered stops Missing table moment question faults.PutFailed = ⊥
 IsUnanswered stops Missing table moment question (faults.Migration side f) = ⊥
 IsUnanswered stops Missing table moment question faults.OtherList = ⊥
 IsUnanswered stops Missing table moment question faults.FileTooLarge = ⊥
+IsUnanswered stops Missing table moment question (faults.Part path f) = ⊥
+IsUnanswered stops Missing table moment question (faults.OtherTree stop part before) = ⊥
 IsUnanswered stops Missing table moment question faults.TooLarge = ⊥

@@ -5,17 +5,19 @@ ghost use Rattle.clap.specs.Words.{App, Rule, app_of, fault_of, new_app, rule_of
 ghost use Rattle.clap.specs.Words.{with_subcommand, FailsBy};
 ghost use Rattle.clap.specs.declared.builder.command.Command.TheViews.{out-Command as fields_of};
 ghost use Rattle.command_grammar.specs.CommandLine.{ask_app, audit_app, build_app, building_app, check_app, faults_app, journey_app};
-ghost use Rattle.command_grammar.specs.CommandLine.{list_app, migrate_app, needs_subcommand, program_app, ranged_rule, scan_app};
-ghost use Rattle.command_grammar.specs.CommandLine.{serve_app, stops_app, store_app, tells_version, text_rule};
+ghost use Rattle.command_grammar.specs.CommandLine.{list_app, merge_app, migrate_app, needs_subcommand, program_app, ranged_rule, reach_app};
+ghost use Rattle.command_grammar.specs.CommandLine.{scan_app, serve_app, stops_app, store_app, tells_version, text_rule, texts_rule};
+ghost use Rattle.command_grammar.specs.CommandLine.{window_app};
 ghost use Rattle.command_grammar.specs.Made.{IsMade, IsProgram};
 
 use crate::texts::{
     ABOUT, ALL, ASK, ASK_MORE, ASK_USAGE, AT, AUDIT, AUDIT_ALL, AUDIT_MORE, AUDIT_PROGRESS,
     AUDIT_USAGE, AUDITED, AUDITORS, BUILD, BUILD_MORE, CHECK, CHECK_ALL, CHECK_MORE, DIRECT,
-    DIRECT_MORE, FAULT_TABLE, FAULTS, FEED, FORMAT, FROM, HEADER, LEGS, LIST, LIST_MORE, MIGRATE,
-    MIGRATE_MORE, MIGRATE_PROGRESS, MORE, NAMES, NEW_STORE, OLD_STORE, ON, PART, PLAIN_FORMAT,
-    PROGRESS, SCAN, SCAN_MORE, SERVE, SERVE_MORE, STOPS, STOPS_MORE, STORE, TEXT, TO, UNTIL,
-    VERSION, WEEK, WORKERS,
+    DIRECT_MORE, FAULT_TABLE, FAULTS, FEED, FORMAT, FROM, HEADER, LEGS, LIST, LIST_MORE, MERGE,
+    MERGE_MORE, MERGE_PROGRESS, MERGED_STORE, MIGRATE, MIGRATE_MORE, MIGRATE_PROGRESS, MORE, NAMES,
+    NEW_STORE, NEXT, OLD_STORE, ON, PART, PART_FILES, PLAIN_FORMAT, PROGRESS, REACH, REACH_FROM,
+    REACH_MORE, SCAN, SCAN_MORE, SERVE, SERVE_MORE, STOPS, STOPS_MORE, STORE, TEXT, TO, UNTIL,
+    UNTIL_ON, VERSION, WEEK, WITHIN, WORKERS,
 };
 use clap::builder::ValueParser;
 use clap::{Arg, ArgMatches, Command, Error};
@@ -101,14 +103,38 @@ fn journey<'a>(
     ending(command, more)
 }
 
+// A command that may answer with connections.
+fn windowed<'a>(alloc: Global, command: Result<Command<'a>, Error>) -> Result<Command<'a>, Error>
+    ensures { (app : App) → IsMade app command.entry → IsMade (window_app app) result }
+{
+    let command = with(command, optional(alloc, "until", "HH:MM:SS", UNTIL));
+    let command = with(command, optional(alloc, "until-on", "YYYYMMDD", UNTIL_ON));
+    with(command, ranged(alloc, "next", "N", 1, 1_000, NEXT))
+}
+
 // The command that answers from rounds.
 fn scan<'a>(alloc: Global) -> Result<Command<'a>, Error>
     ensures { IsMade scan_app result }
 {
-    let command = journey(alloc, "scan", SCAN, SCAN_MORE);
-    let command = with(command, optional(alloc, "until", "HH:MM:SS", UNTIL));
+    let command = windowed(alloc, journey(alloc, "scan", SCAN, SCAN_MORE));
     let command = with(command, flag(alloc, "legs", LEGS));
     with(command, flag(alloc, "names", NAMES))
+}
+
+// The command that lists where one can be.
+fn reach<'a>(alloc: Global) -> Result<Command<'a>, Error>
+    ensures { IsMade reach_app result }
+{
+    let command = common(alloc, "reach", REACH);
+    let command = with(command, required(alloc, "from", "STOP", REACH_FROM));
+    let command = with(command, required(alloc, "at", "HH:MM:SS", AT));
+    let command = with(command, optional(alloc, "on", "YYYYMMDD", ON));
+    let command = with(
+        command,
+        ranged(alloc, "within", "MINUTES", 0, 20_160, WITHIN),
+    );
+    let command = with(command, optional(alloc, "format", "FORMAT", FORMAT));
+    ending(command, REACH_MORE)
 }
 
 // A command over the file of a store, and the text below its options.
@@ -163,7 +189,7 @@ fn ask<'a>(alloc: Global) -> Result<Command<'a>, Error>
     let command = journey(alloc, "ask", ASK, ASK_MORE);
     let command = with(command, required(alloc, "store", "FILE", STORE));
     let command = with(command, optional(alloc, "on", "YYYYMMDD", ON));
-    let command = with(command, optional(alloc, "until", "HH:MM:SS", UNTIL));
+    let command = windowed(alloc, command);
     let command = with(command, flag(alloc, "legs", LEGS));
     let command = with(command, flag(alloc, "names", NAMES));
     used(command, ASK_USAGE)
@@ -216,6 +242,25 @@ fn migrate<'a>(alloc: Global) -> Result<Command<'a>, Error>
     ending(command, MIGRATE_MORE)
 }
 
+// A word that stands without an option, once or more often.
+fn words<'a>(alloc: Global, name: &'a str, shown: &'a str, help: &'a str) -> Arg<'a>
+    ensures rule { rule_of result ≡ texts_rule name.entry.now }
+    ensures local { result.global ≡ false }
+{
+    word(alloc, name, shown, help).num_args(1..).required(true)
+}
+
+// The command that puts the stores of parts together.
+fn merge<'a>(alloc: Global) -> Result<Command<'a>, Error>
+    ensures { IsMade merge_app result }
+{
+    let command = common(alloc, "merge", MERGE);
+    let command = with(command, required(alloc, "store", "OUT", MERGED_STORE));
+    let command = with(command, flag(alloc, "progress", MERGE_PROGRESS));
+    let command = with(command, words(alloc, "part", "PART", PART_FILES));
+    ending(command, MERGE_MORE)
+}
+
 // The command that prints the faults.
 fn faults<'a>(alloc: Global) -> Result<Command<'a>, Error>
     ensures { IsMade faults_app result }
@@ -253,12 +298,14 @@ fn program<'a>(alloc: Global) -> Result<Command<'a>, Error>
     let program = with_command(program, stops(alloc));
     let program = with_command(program, journey(alloc, "direct", DIRECT, DIRECT_MORE));
     let program = with_command(program, scan(alloc));
+    let program = with_command(program, reach(alloc));
     let program = with_command(program, build(alloc));
     let program = with_command(program, list(alloc));
     let program = with_command(program, ask(alloc));
     let program = with_command(program, serve(alloc));
     let program = with_command(program, audit(alloc));
     let program = with_command(program, migrate(alloc));
+    let program = with_command(program, merge(alloc));
     with_command(program, faults(alloc))
 }
 

@@ -8,8 +8,8 @@ pub(crate) const MORE: &str = "\
 Example: tp scan --feed demo/feed-m --date 20240102 --from A --to D --at 08:00:00
 
 An answer is lines of ids. With --names, scan and ask print rides and walks with names, for people.
-With --format json, all commands but audit and migrate print JSON. With --format geojson, stops, scan,
-build, list, ask and serve print GeoJSON for a map.
+With --format json, all commands but audit, migrate and merge print JSON. With --format geojson, stops,
+scan, reach, build, list, ask and serve print GeoJSON for a map.
 
 A fault is a line on standard error. `tp help faults` lists the faults and the statuses.";
 
@@ -19,7 +19,7 @@ pub(crate) const FAULTS: &str = "Lists the faults that tp reports, and its statu
 pub const FAULT_TABLE: &str = "\
 A fault is a line on standard error: its code and its name, and for a fault of the feed the file and
 the row. Row 0 is the header or the whole file. For a file of migrate, old or new stands before the
-code. The faults are:
+code, and for a part of merge its name stands at the end. The faults are:
   F1 MissingFile       DIR lacks the file: unpack a zipped feed first
   F2 MissingColumn     the header lacks a column that the file must have
   F3 BadField          the row has a text that its column doesn't take
@@ -34,7 +34,7 @@ code. The faults are:
   S1 BadRange          --days is 1 to 14, and days lie from 1900-01-01 to 9998-12-31
   S2 BadZone           --zone is a POSIX rule, as CET-1CEST,M3.5.0,M10.5.0/3
   S3 ZoneJump          by --zone a day lasts less than 1 or more than 172,800 seconds
-  A1 BadDate           --date and --on are days of the calendar, as 20240102
+  A1 BadDate           --date, --on and --until-on are days of the calendar, as 20240102
   A2 BadTime           --at and --until are times up to 167:59:59, as 08:00:00
   Z1 NotAStore         FILE is no store of this program: name another, or delete it
   Z2 OtherTimetable    FILE was built from another feed, --date, --days, --zone or --default-walk
@@ -42,8 +42,10 @@ code. The faults are:
   Z4 Damaged           FILE is damaged from that section on: delete it and build again
   Z5 Device            FILE can't be made, read or written, or another process has it open
   Z7 OldVersion        FILE is a store of the version before: take it over by migrate
+  Z8 Changed           PART gave other bytes than before: see that nothing else writes it
   M1 OtherList         the trees of NEW aren't the first ones of OLD: name another file
-  P2 TooLarge          NEW would be too large with one more tree: what was stored before stands
+  M2 OtherTree         the second PART has another tree of the stop than the first: audit both
+  P2 TooLarge          NEW or OUT would be too large with one more tree: what was stored stands
   P3 Device            FILE can't be written any more: what was stored before stands
   Q1 UnknownStop       no stop has that stop_id; only ask and serve take a station's as well
   Q2 NotCovered        the time isn't within the covered days
@@ -51,9 +53,9 @@ code. The faults are:
 
 Statuses: 0 done, 1 the feed or its days are at fault, or there is no randomness, 2 the command-line
 arguments are at fault, 3 the build left out stops whose trees would be too large, or had no memory
-for them, 4 the store is at fault, 5 an audit found a difference, 6 the question is at fault (an
-unknown stop, a day that isn't covered, a tree that isn't stored), 7 out of memory, 8 standard output
-refused a write.";
+for them, or no part of a merge has them, 4 the store is at fault, 5 an audit found a difference, 6
+the question is at fault (an unknown stop, a day that isn't covered, a tree that isn't stored), 7 out
+of memory, 8 standard output refused a write.";
 
 pub(crate) const CHECK: &str = "Prints what a feed has, or its first fault, or all its faults";
 
@@ -93,9 +95,25 @@ pub(crate) const SCAN_MORE: &str = "\
 It prints a line for each number of rides that arrives earlier than all with fewer. With --until it
 prints the connections instead: for each departure from --at until then what arrives earlier than all
 that leave later and have no more rides, as `depart DATE TIME arrive DATE TIME rides N`. The way on
-foot is `walk seconds N`. If the last line is `more from DATE TIME`, the connections end before that.
+foot is `walk seconds N`. With --next N it prints the first N of them, by departure and then by
+arrival. If the last line is `more from DATE TIME`, all that leave before that are printed.
 
 Example: tp scan --feed demo/feed-m --date 20240102 --from A --to D --at 08:00:00";
+
+pub(crate) const REACH: &str =
+    "The stops that one reaches from a stop by walks and at most K rides";
+
+pub(crate) const REACH_MORE: &str = "\
+It prints a line for each stop that one reaches, `ID arrive DATE TIME rides N`: the soonest arrival, and
+the fewest rides with which one arrives then; by arrival, then in the order of stops.txt. The first is
+the stop itself, with no ride. With --within it prints only the stops that one reaches in that time.
+
+Example: tp reach --feed demo/feed-m --date 20240102 --from A --at 08:00:00 --within 30";
+
+pub(crate) const REACH_FROM: &str = "The id of the stop to leave from";
+
+pub(crate) const WITHIN: &str =
+    "Print only the stops that one reaches within that many minutes, 0 to 20160";
 
 pub(crate) const BUILD: &str =
     "Builds the pattern trees of all stops that the store lacks, and stores each";
@@ -114,11 +132,12 @@ pub(crate) const SERVE: &str =
 
 pub(crate) const SERVE_MORE: &str = "\
 Each line of standard input is a question: the ids of two stops or stations, a date and a time, with
-tabs between them. The reply is what ask prints, or `refused` and why there is no answer, and then a
-line with only a dot. It is written before the next line is read. With --format json or geojson each
-reply is one line: what ask prints in that format, or a fault as an object. A stop whose tree isn't
-stored yet is refused as Q3 NotStored: ask again later. At the end of the input no new tree is begun,
-and standard error has `stored N of M`; the status is 3 if trees are missing.
+tabs between them. A second time may follow: it asks for the connections until then, as --until. The
+reply is what ask prints, or `refused` and why there is no answer, and then a line with only a dot.
+It is written before the next line is read. With --format json or geojson each reply is one line:
+what ask prints in that format, or a fault as an object. A stop whose tree isn't stored yet is
+refused as Q3 NotStored: ask again later. At the end of the input no new tree is begun, and standard
+error has `stored N of M`; the status is 3 if trees are missing.
 
 Example: tp serve --feed demo/feed-m --date 20240102 --store demo.store < questions.tsv";
 
@@ -133,9 +152,9 @@ pub(crate) const ASK: &str =
     "The best journeys between stops or stations by walks and at most K rides";
 
 pub(crate) const ASK_MORE: &str = "\
-It prints a line for each number of rides that arrives earlier than all with fewer. With --until it
-prints the connections instead, as scan does. The answer comes from the store, which has the patterns
-of the best journeys of each stop: build it first, with the same options.
+It prints a line for each number of rides that arrives earlier than all with fewer. With --until or
+--next it prints connections instead, as scan does. The answer comes from the store, which has the
+patterns of the best journeys of each stop: build it first, with the same options.
 
 Example: tp ask --feed demo/feed-m --date 20240102 --store demo.store --from A --to E --at 08:00:00";
 
@@ -151,6 +170,10 @@ pub(crate) const AT: &str = "The time of the day to leave at; hours up to 167";
 
 pub(crate) const UNTIL: &str =
     "Print the connections that leave from --at until this time of the day";
+
+pub(crate) const UNTIL_ON: &str = "The covered day of --until, if it isn't the day to leave on";
+
+pub(crate) const NEXT: &str = "Print the first N connections, 1 to 1000, up to --until if given";
 
 pub(crate) const ON: &str = "The covered day to leave on, if it isn't the first";
 
@@ -197,6 +220,24 @@ Example: tp migrate --feed demo/feed-m --date 20240102 --store old.store --to ne
 pub(crate) const OLD_STORE: &str = "The file of the version before, which is only read";
 
 pub(crate) const NEW_STORE: &str = "The file of this version, which is made if it isn't there";
+
+pub(crate) const MERGE: &str = "Puts the stores of the parts of a build together in one file";
+
+pub(crate) const MERGE_MORE: &str = "\
+It stores the trees of each PART in OUT, in the order of stops.txt: the file that one build by one
+worker makes. Each PART is only read. The options are those of the builds. A stop that OUT has keeps
+its tree, and one of two parts is taken once. It prints `stored N of M`, and `missing ID` for each
+stop that no part has; the status is 3 then. It may be stopped at any moment, and the same command
+goes on. A part of another feed or other options is refused before anything is stored.
+
+Example: tp merge --feed demo/feed-m --date 20240102 --store all.store part0.store part1.store";
+
+pub(crate) const MERGED_STORE: &str = "The file of all trees, which is made if it isn't there";
+
+pub(crate) const PART_FILES: &str = "The files of the parts, which are only read";
+
+pub(crate) const MERGE_PROGRESS: &str =
+    "Report how far the merge is, even if standard error is no terminal";
 
 pub(crate) const STORE: &str = "The file of the stored trees, which is made if it isn't there";
 

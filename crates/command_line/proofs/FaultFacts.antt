@@ -1,7 +1,7 @@
 -- A fault of a part of the words is one of the whole.
 use Rattle.std.proofs.Common.{◌≡◌, ◌∙◌, List, Option, Some}
 use Rattle.jiff.specs.Types.{Date}
-use Rattle.clap.specs.Words.{Row}
+use Rattle.clap.specs.Words.{Row, Text}
 use Rattle.question_lines.specs.declared.question.Question.{Question}
 use Rattle.command_line.specs.Jobs.{HasPlaces}
 use Rattle.command_line.specs.Misreads.{IsAsked}
@@ -21,18 +21,21 @@ module _ {X Y : Type 0} (IsPart : X → Type 0) (asked : X → Option Question) 
   pub of_part : (fault : WordFault) → IsFaultOf IsPart asked rows first fault → IsFaultOf Is asks rows first fault
   of_part faults.NoJob none = λ y is. let part = back y is in none part.0 part.1
   of_part faults.BadDate bad = (whole bad.0, of bad.0 bad.1, asks_too bad.0 bad.2, bad.3)
+  of_part faults.BadLastDay bad = (whole bad.0, of bad.0 bad.1, asks_too bad.0 bad.2, bad.3)
   of_part faults.BadTime bad = (whole bad.0, of bad.0 bad.1, asks_too bad.0 bad.2, bad.3)
   of_part faults.BadUntil bad = (whole bad.0, of bad.0 bad.1, asks_too bad.0 bad.2, bad.3)
 
 -- the words of these texts give what `whole` makes of their question, whatever its day and time
-pub of_question : {Y : Type 0} (Is : Y → Type 0) (asks : Y → Option Question) (whole : Question → Y) (rows : List Row) (first : Option Date)
-    (places : Places) → ArePlaces rows places → ((question : Question) → HasPlaces rows question → Is (whole question))
+pub of_question : {Y : Type 0} (Is : Y → Type 0) (asks : Y → Option Question) (whole : Question → Y) (goal : Text) (rows : List Row)
+    (first : Option Date) (places : Places) → ArePlaces goal rows places → ((question : Question) → HasPlaces goal rows question → Is (whole question))
     → ((question : Question) → asks (whole question) ≡ Some question) → (fault : WordFault) → LacksTimes rows first fault
     → IsFaultOf Is asks rows first fault
-of_question Is asks whole rows first places are of same faults.NoJob lacks = absurd lacks
-of_question Is asks whole rows first places are of same faults.BadDate lacks =
-    let question = asked_on places some_day in (whole question, of question (has_places rows places some_day are), (question, same question), lacks)
-of_question Is asks whole rows first places are of same faults.BadTime lacks =
-    let question = asked_on places some_day in (whole question, of question (has_places rows places some_day are), (question, same question), lacks)
-of_question Is asks whole rows first places are of same faults.BadUntil lacks =
-    let question = asked_on places some_day in (whole question, of question (has_places rows places some_day are), (question, same question), lacks)
+of_question Is asks whole goal rows first places are of same faults.NoJob lacks = absurd lacks
+of_question Is asks whole goal rows first places are of same faults.BadDate lacks =
+    let question = asked_on places some_day in (whole question, of question (has_places goal rows places some_day are), (question, same question), lacks)
+of_question Is asks whole goal rows first places are of same faults.BadLastDay lacks =
+    let question = asked_on places some_day in (whole question, of question (has_places goal rows places some_day are), (question, same question), lacks)
+of_question Is asks whole goal rows first places are of same faults.BadTime lacks =
+    let question = asked_on places some_day in (whole question, of question (has_places goal rows places some_day are), (question, same question), lacks)
+of_question Is asks whole goal rows first places are of same faults.BadUntil lacks =
+    let question = asked_on places some_day in (whole question, of question (has_places goal rows places some_day are), (question, same question), lacks)

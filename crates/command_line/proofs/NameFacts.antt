@@ -9,11 +9,12 @@ use Rattle.command_line.specs.declared.job.Search.TheVariants as searches
 use Rattle.command_line.specs.declared.job.Task.{Task}
 
 module _ (name : Text) (rows : List Row) where
-  pub stored_search : name ≢ codes "direct" → name ≢ codes "scan" → (search : Search) → IsSearch name rows search
+  pub stored_search : name ≢ codes "direct" → name ≢ codes "scan" → name ≢ codes "reach" → (search : Search) → IsSearch name rows search
       → (task : Task) × IsTask name rows task
-  stored_search no_direct no_scan (searches.Direct question) h = absurd (no_direct h.0)
-  stored_search no_direct no_scan (searches.Scan question legs) h = absurd (no_scan h.0)
-  stored_search no_direct no_scan (searches.Stored store task) h = (task, (h.0, h.1.1))
+  stored_search no_direct no_scan no_reach (searches.Direct question) h = absurd (no_direct h.0)
+  stored_search no_direct no_scan no_reach (searches.Scan question legs) h = absurd (no_scan h.0)
+  stored_search no_direct no_scan no_reach (searches.Reach question minutes) h = absurd (no_reach h.0)
+  stored_search no_direct no_scan no_reach (searches.Stored store task) h = (task, (h.0, h.1.1))
 
   pub found_command : name ≢ codes "serve" → (command : Command) → IsCommand name rows command → (search : Search) × IsSearch name rows search
   found_command no_serve (commands.Find search) h = (search, h)

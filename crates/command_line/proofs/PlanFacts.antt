@@ -51,12 +51,19 @@ module _ (name : Text) (rows : List Row) (settings : Settings) (style : Style) (
       outline = record { settings = has; command = bad.1; style = told };
       told = refl;
       fault = inr (
-        (day.0.0, sym value ∙ ap (option_map ymd) day.0.1),
+        day.0.0,
+        sym value ∙ ap (option_map ymd) day.0.1,
         bad.2,
-        (day.1, subst (λ (first : Option Date). IsDateWord rows settings.date.now first is.0) day.0.1 is.2 day.1.0 day.1.1),
+        inl (day.1, subst (λ (first : Option Date). IsDateWord rows settings.date.now first is.0) day.0.1 is.2 day.1.0 day.1.1),
       );
     }
   ])
+  misread faults.BadLastDay bad why is = subst (IsPlanFault name rows) (sym is.1) (record {
+    plan = planned bad.0;
+    outline = record { settings = has; command = bad.1; style = told };
+    told = refl;
+    fault = inr (bad.3.0, sym value ∙ ap (option_map ymd) bad.3.1, bad.2, inr (bad.3.2, is.2 bad.3.2.1.0 bad.3.2.1.1));
+  })
   misread faults.BadTime bad why is = subst (IsPlanFault name rows) (sym is.1) (record {
     plan = planned bad.0;
     outline = record { settings = has; command = bad.1; style = told };

@@ -1,13 +1,13 @@
 -- Why words give no job, and which fault of theirs is reported: one of `clap`, or else that they name no job, or else the first covered
--- day or the date of a check, or else the day to leave on, or else the time to leave at, or else the last such time.
+-- day or the date of a check, or else the day to leave on, or else the day of the last time to leave at; or else the time to leave at, or
+-- else the last such time.
 use Rattle.std.specs.Prelude.{◌≡◌, ◌⊎◌, ℕ, [], List, Option, None, Some, codes}
 use Rattle.jiff.specs.Types.{Date}
 use Rattle.clap.specs.Words.{Kinds, Row, Text}
 use Rattle.gtfs_text.specs.Values.{date_of}
 use Rattle.options.specs.Statuses.{IsStatus}
-use Rattle.options.specs.Values.{HasText}
 use Rattle.question_lines.specs.declared.question.Question.{Question}
-use Rattle.command_line.specs.Days.{HasNoTime, HasTime, IsDate}
+use Rattle.command_line.specs.Days.{HasNoDate, HasNoTime, HasTime, IsDate, IsNamedDay}
 use Rattle.command_line.specs.FeedWords.{HasCheckWords}
 use Rattle.command_line.specs.Jobs.{IsDayOf, IsOutline, NamesNoJob, question_of}
 use Rattle.command_line.specs.declared.feed_check.FeedCheck.{FeedCheck}
@@ -28,27 +28,38 @@ pub record IsWord (word : Word) (option text : Text) : Type 0 where
 
 -- the day to leave on is named, and is none
 abbrev pub LacksDay : List Row → Type 0
-LacksDay rows = (text : Text) × HasText rows (codes "on") text × (date_of text ≡ None)
+LacksDay rows = HasNoDate rows (codes "on")
 
--- there is a day to leave on, and the time is none
+-- there is a day to leave on, and the day of the last time is none
+abbrev pub LacksLastDay : List Row → Date → Type 0
+LacksLastDay rows first = ((day : Date) × IsDayOf rows first day) × HasNoDate rows (codes "until-on")
+
+-- there are both days
+pub record HasDays (rows : List Row) (first : Date) : Type 0 where
+  pub day : Date
+  pub last : Date
+  pub is_day : IsDayOf rows first day
+  pub is_last : IsNamedDay rows (codes "until-on") day last
+
+-- there are both days, and the time to leave at is none
 abbrev pub LacksTime : List Row → Date → Type 0
-LacksTime rows first = ((day : Date) × IsDayOf rows first day) × HasNoTime rows (codes "at")
+LacksTime rows first = HasDays rows first × HasNoTime rows (codes "at")
 
--- there is such a day and a time, and the last time to leave at is none
+-- there are both days and that time, and the last time to leave at is none
 abbrev pub LacksUntil : List Row → Date → Type 0
-LacksUntil rows first =
-    (((day : Date) × IsDayOf rows first day) × ((seconds : ℕ) × HasTime rows (codes "at") seconds)) × HasNoTime rows (codes "until")
+LacksUntil rows first = (HasDays rows first × ((seconds : ℕ) × HasTime rows (codes "at") seconds)) × HasNoTime rows (codes "until")
 
 -- the date of a check is named, and is none
 abbrev pub NamesNoDate : List Row → Type 0
-NamesNoDate rows = (text : Text) × HasText rows (codes "date") text × (date_of text ≡ None)
+NamesNoDate rows = HasNoDate rows (codes "date")
 
--- the word has the first covered day, which is none; or else the day to leave on, which is
+-- the word has the first covered day, which is none; or else the day to leave on, which is; or else the day of the last time, which is
 abbrev pub IsBadDate : Word → List Row → Plan → Type 0
 IsBadDate word rows plan =
     ((date_of plan.settings.date.now ≡ None) × IsWord word (codes "date") plan.settings.date.now)
-    ⊎ (((first : Date) × IsDate plan.settings.date.now first) × IsAsked (question_of plan.command)
-    × ((lacks : LacksDay rows) × IsWord word (codes "on") lacks.0))
+    ⊎ ((first : Date) × IsDate plan.settings.date.now first × IsAsked (question_of plan.command)
+    × (((lacks : LacksDay rows) × IsWord word (codes "on") lacks.0)
+    ⊎ ((lacks : LacksLastDay rows first) × IsWord word (codes "until-on") lacks.1.0)))
 
 -- the days are such, and the word has the time, which is none; or else the last time, which is
 abbrev pub IsBadTime : Word → List Row → Plan → Type 0

@@ -24,7 +24,7 @@ pub enum Audited<'a> {
 }
 
 /// The trees that the words of an audit mean. None if they name no stop and don't say all, or both, or have a word for all beside a stop.
-pub(crate) fn audited_of<'a>(found: &ArgMatches<'a>) -> Option<Audited<'a>>
+pub(crate) fn audited_of<'m, 'a>(found: &'m ArgMatches<'a>) -> Option<Audited<'m>>
     ensures audited { IfSome result (AuditsOf (rows_of (found_of found.now))) }
     ensures none { IfNone result ((audited : AuditedData) → ¬ AuditsOf (rows_of (found_of found.now)) audited) }
 {

@@ -26,7 +26,7 @@ pub struct FeedCheck<'a> {
 }
 
 /// The check that the words ask for. Its date may be none of the calendar. A fault that words are shown for has status 2.
-pub(crate) fn check_of<'a>(found: &ArgMatches<'a>) -> Result<FeedCheck<'a>, Unread<'a>>
+pub(crate) fn check_of<'m, 'a>(found: &'m ArgMatches<'a>) -> Result<FeedCheck<'m>, Unread<'m>>
     ensures check { IfOk result (IsCheck (rows_of (found_of found.now))) }
     ensures fault { IfErr result (IsCheckFault (rows_of (found_of found.now))) }
 {

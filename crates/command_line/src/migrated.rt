@@ -20,7 +20,7 @@ pub(crate) fn store_option(name: &str) -> &'static str
 }
 
 /// The file of the version before. None if the words name none, or the same text for the new one.
-pub(crate) fn old_store_of<'a>(found: &ArgMatches<'a>) -> Option<&'a str>
+pub(crate) fn old_store_of<'m, 'a>(found: &'m ArgMatches<'a>) -> Option<&'m str>
     ensures old { IfSome result (λ old. TakesOver (rows_of (found_of found.now)) old.now) }
     ensures none { IfNone result ((old : Text) → ¬ TakesOver (rows_of (found_of found.now)) old) }
 {

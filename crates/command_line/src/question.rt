@@ -1,17 +1,18 @@
 //! The words of a question.
 
-ghost use Rattle.std.specs.Prelude.{◌≡◌, IfOk, IfErr, IfSome, IfNone, Some, codes};
-ghost use Rattle.clap.specs.Words.{rows_of, found_of};
-ghost use Rattle.command_line.specs.Days.{HasNoTime};
-ghost use Rattle.command_line.specs.Jobs.{HasPlaces, IsUntilOf};
+ghost use Rattle.std.specs.Prelude.{IfOk, IfErr, IfSome, IfNone, Some};
+ghost use Rattle.clap.specs.Words.{Text, rows_of, found_of};
+ghost use Rattle.command_line.specs.Days.{HasNoDate, IsNamedDay};
+ghost use Rattle.command_line.specs.Jobs.{HasPlaces};
 ghost use Rattle.command_line.specs.Readings.{ArePlaces, AreTimesIn, IsDayIn, LacksDayIn, LacksPlaces, LacksTimes};
 
 use crate::unread::WordFault;
+use crate::within::{names_until, next_of, until_of, within_of};
 use clap::ArgMatches;
 use gtfs_text::{date, time};
 use jiff::civil::Date;
 use options::text_of;
-use question_lines::{Question, Until};
+use question_lines::Question;
 
 /// The ids and the time of a question, as they are written.
 #[derive(Clone, Copy)]
@@ -19,17 +20,35 @@ pub(crate) struct Places<'a> {
     from: &'a str,
     to: &'a str,
     at: &'a str,
+    // How many connections are asked for at most.
+    next: Option<u16>,
 }
 
-/// The question's texts: none if one of its words isn't there.
-pub(crate) fn places_of<'a>(found: &ArgMatches<'a>) -> Option<Places<'a>>
-    ensures places { IfSome result (ArePlaces (rows_of (found_of found.now))) }
-    ensures none { IfNone result (LacksPlaces (rows_of (found_of found.now))) }
+/// The question's texts, of which the option `goal` has the place to go to: none if one of its words isn't there, the number of connections
+/// is out of its range, or a day is named for a last time that isn't.
+pub(crate) fn places_of<'m, 'a>(found: &'m ArgMatches<'a>, goal: &str) -> Option<Places<'m>>
+    ensures places { IfSome result (ArePlaces goal.now (rows_of (found_of found.now))) }
+    ensures none { IfNone result (LacksPlaces goal.now (rows_of (found_of found.now))) }
 {
     let from = text_of(found, "from")?;
-    let to = text_of(found, "to")?;
+    let to = text_of(found, goal)?;
     let at = text_of(found, "at")?;
-    Some(Places { from, to, at })
+    let next = next_of(found)?;
+    if !names_until(found) {
+        return None;
+    }
+    Some(Places { from, to, at, next })
+}
+
+// The day that an option names, or else the other one; none where the option's text is no day.
+fn named_day(found: &ArgMatches<'_>, option: &str, other: Date) -> Option<Date>
+    ensures day { IfSome result (IsNamedDay (rows_of (found_of found.now)) option.now other) }
+    ensures none { IfNone result (HasNoDate (rows_of (found_of found.now)) option.now) }
+{
+    match text_of(found, option) {
+        None => Some(other),
+        Some(text) => date(text),
+    }
 }
 
 // The day to leave on: none if it is none, or the first covered day `first` is none.
@@ -38,51 +57,38 @@ fn day_of(found: &ArgMatches<'_>, first: Option<Date>) -> Option<Date>
     ensures none { IfNone result (LacksDayIn (rows_of (found_of found.now)) first) }
 {
     let first = first?;
-    match text_of(found, "on") {
-        None => Some(first),
-        Some(text) => date(text),
-    }
+    named_day(found, "on", first)
 }
 
-// The last time to leave at, on the day to leave on, if one is named. It may be none.
-fn until_of(found: &ArgMatches<'_>, day: Date) -> Result<Option<Until>, WordFault>
-    ensures until { IfOk result (IsUntilOf (rows_of (found_of found.now)) day) }
-    ensures fault { IfErr result (λ fault. (fault ≡ WordFault.BadUntil) × HasNoTime (rows_of (found_of found.now)) (codes "until")) }
-{
-    let Some(text) = text_of(found, "until") else {
-        return Ok(None);
-    };
-    match time(text) {
-        Some(seconds) => Ok(Some(Until { day, seconds })),
-        None => Err(WordFault::BadUntil),
-    }
-}
-
-/// The question of these texts, with its day and times read from the words; `first` is the first covered day. Its day may be none, or else
-/// its time, or else its last time.
+/// The question of these texts, with its days and times read from the words; `first` is the first covered day. Its day may be none, or else
+/// the day of its last time, or else its time, or else its last time.
 pub(crate) fn question_of<'a>(
     places: Places<'a>,
     found: &ArgMatches<'_>,
     first: Option<Date>,
 ) -> Result<Question<'a>, WordFault>
-    requires { ArePlaces (rows_of (found_of found.now)) places }
-    ensures places { IfOk result (HasPlaces (rows_of (found_of found.now))) }
+    requires { (goal : Text) × ArePlaces goal (rows_of (found_of found.now)) places }
+    ensures places { (goal : Text) → ArePlaces goal (rows_of (found_of found.now)) places.entry
+        → IfOk result (HasPlaces goal (rows_of (found_of found.now))) }
     ensures times { IfOk result (λ question. AreTimesIn (rows_of (found_of found.now)) first (Some question)) }
     ensures fault { IfErr result (LacksTimes (rows_of (found_of found.now)) first) }
 {
     let Some(day) = day_of(found, first) else {
         return Err(WordFault::BadDate);
     };
+    let Some(last) = named_day(found, "until-on", day) else {
+        return Err(WordFault::BadLastDay);
+    };
     let Some(seconds) = time(places.at) else {
         return Err(WordFault::BadTime);
     };
-    match until_of(found, day) {
+    match until_of(found, last) {
         Ok(until) => Ok(Question {
             from: places.from,
             to: places.to,
             day,
             seconds,
-            until,
+            within: within_of(until, places.next),
         }),
         Err(fault) => Err(fault),
     }

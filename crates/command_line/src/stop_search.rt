@@ -24,7 +24,7 @@ pub struct StopSearch<'a> {
 }
 
 /// The stops that the words ask for: none if a word isn't there, or the format is none.
-pub(crate) fn stops_of<'a>(found: &ArgMatches<'a>) -> Option<StopSearch<'a>>
+pub(crate) fn stops_of<'m, 'a>(found: &'m ArgMatches<'a>) -> Option<StopSearch<'m>>
     ensures search { IfSome result (HasSearchedStops (rows_of (found_of found.now))) }
     ensures none { IfNone result ((search : StopSearchData) → ¬ HasSearchedStops (rows_of (found_of found.now)) search) }
 {

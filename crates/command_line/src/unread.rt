@@ -1,9 +1,7 @@
 //! Why words give no job.
 
-ghost use Rattle.clap.specs.Words.{Text, rows_of, found_of};
-ghost use Rattle.options.specs.Values.{HasText};
-ghost use Rattle.command_line.specs.Misreads.{IsWord};
-ghost use Rattle.command_line.specs.Readings.{IsDateWord, IsUnreadOf};
+ghost use Rattle.clap.specs.Words.{rows_of, found_of};
+ghost use Rattle.command_line.specs.Readings.{IsDateWord, IsUnreadOf, IsWordOf};
 
 use crate::format::Style;
 use clap::ArgMatches;
@@ -35,6 +33,8 @@ pub(crate) enum WordFault {
     /// No command has the name, or a word isn't there.
     NoJob,
     BadDate,
+    // The day of the last time to leave at is none.
+    BadLastDay,
     BadTime,
     // The last time to leave at is none.
     BadUntil,
@@ -42,7 +42,7 @@ pub(crate) enum WordFault {
 
 // An option with its text: an empty one if there is none.
 fn word_of<'a>(found: &ArgMatches<'a>, option: &'static str) -> Word<'a>
-    ensures { (text : Text) → HasText (rows_of (found_of found.now)) option.now text → IsWord result option.now text }
+    ensures { IsWordOf (rows_of (found_of found.now)) option.now result }
 {
     Word {
         option,
@@ -76,6 +76,7 @@ pub(crate) fn unread_of<'a>(
     match fault {
         WordFault::NoJob => Unread::Shown(2),
         WordFault::BadDate => Unread::BadDate(style, date_word(found, date, first)),
+        WordFault::BadLastDay => Unread::BadDate(style, word_of(found, "until-on")),
         WordFault::BadTime => Unread::BadTime(style, word_of(found, "at")),
         WordFault::BadUntil => Unread::BadTime(style, word_of(found, "until")),
     }

@@ -1,10 +1,10 @@
 -- What each command may find, or which fault it has.
-use Rattle.std.specs.Prelude.{◌≡◌, ◌↔◌, ◌⊎◌, ℕ, Bool, List, Option, None, Some, Result, Err, IfErr, MatchResult}
+use Rattle.std.specs.Prelude.{◌≡◌, ◌↔◌, ◌⊎◌, ℕ, Bool, List, Option, None, Some, Result, Err, IfErr, MatchResult, map, option_map}
 use Rattle.disk_model.specs.Disk.{State, Grew}
 use Rattle.disk_model.specs.Image.{IsOutcome}
 use Rattle.disk_model.specs.Moments.{LeavesOnly}
 use Rattle.question_lines.specs.declared.question.Question.{Question}
-use Rattle.question_lines.specs.declared.question.Until.{Until}
+use Rattle.question_lines.specs.declared.question.Within.{Within}
 use Rattle.faults.specs.Faults.{in_migration}
 use Rattle.faults.specs.declared.fault.Fault.{Fault}
 use Rattle.faults.specs.declared.migrating.Side.TheVariants.{Old}
@@ -15,7 +15,10 @@ use Rattle.answer_lines.specs.declared.report.Report.{Report}
 use Rattle.answering.specs.Answers.{ArePoints, IsAnswered}
 use Rattle.answering.specs.Refusals.{IsUnanswered, NoneMissing}
 use Rattle.connection_lines.specs.declared.connections.Connections.{Connections}
+use Rattle.told_reach.specs.Reaches.{IsReach, IsUnreached, ReportsReach}
+use Rattle.told_connections.specs.Times.{AreTimesOf}
 use Rattle.told_connections.specs.Windows.{IsAnsweredWithin, IsUnansweredWithin}
+use Rattle.told_connections.specs.declared.times.Times.{Times}
 use Rattle.store_answers.specs.Asked.{IsStoredAnswer, IsStoredRefusal}
 use Rattle.stored_connections.specs.Stored.{IsStoredRefusalWithin, IsStoredWindow}
 use Rattle.store_answers.specs.Audited.{IsAllAudited, IsAudited, IsUnaudited}
@@ -23,17 +26,23 @@ use Rattle.store_building.specs.Builds.{IsBuilt, IsUnbuilt, ReportsBuilt}
 use Rattle.store_answers.specs.Listings.{IsListed}
 use Rattle.service_days.specs.Answers.{IsMoment}
 use Rattle.tellers.specs.Tellings.{tells_legs}
+use Rattle.store_merging.specs.Merges.{IsMerged, OnlyFailing as PartsOnlyFailing}
+use Rattle.store_merging.specs.Telling.{IsOfMerge, IsToldUnmerged}
+use Rattle.store_merging.specs.declared.fault.UnmergedFault.{UnmergedFault}
 use Rattle.store_migration.specs.Migrations.{IsTakenOver, IsUntaken, TellsOldDevice}
 use Rattle.store_terms.specs.Stores.{IsUntold, form_over}
 use Rattle.command_line.specs.declared.audited.Audited.{Audited}
 use Rattle.command_line.specs.declared.audited.Audited.TheVariants as audits
 use Rattle.command_line.specs.declared.format.Style.{Style}
+use Rattle.command_line.specs.declared.minutes.Minutes.{Minutes}
 use Rattle.command_line.specs.declared.job.Task.{Task}
 use Rattle.command_line.specs.declared.job.Task.TheVariants as tasks
 use Rattle.commands.specs.Files.{IsKeptOut, IsReady}
+use Rattle.commands.specs.Merged.{AreOpened, IfHonest, IsUnshelved}
 use Rattle.commands.specs.World.{SystemView}
 use Rattle.commands.specs.declared.found.Found.{Found}
 use Rattle.commands.specs.declared.found.Found.TheVariants as founds
+use denote.Ref.{Bor}
 
 -- an answer to a question is found, which is right
 abbrev pub FindsAnswer : (Answer → Type 0) → Found → Type 0
@@ -56,18 +65,23 @@ IsStopAnswer basis question Right found =
     × MatchResult found (FindsAnswer (IsAnswered (stop_alone basis.names) Right basis.timetable moment question))
     (IsUnanswered (stop_alone basis.names) NoneMissing basis.timetable moment question)
 
--- a question between stops for the connections until a last time to leave at, over the timetable alone
-abbrev pub IsWindowAnswer : BasisData → ℕ → Bool → Question → Until → Result Found Fault → Type 0
-IsWindowAnswer basis k wanted question last found =
-    (moment : Option ℕ) × (until : Option ℕ) × IsMoment basis.cover question.day question.seconds moment
-    × IsMoment basis.cover last.day last.seconds until
-    × MatchResult found (FindsConnections (IsAnsweredWithin basis k wanted moment until question))
-    (IsUnansweredWithin basis moment until question)
+-- a question between stops for connections, over the timetable alone
+abbrev pub IsWindowAnswer : BasisData → ℕ → Bool → Question → Within → Result Found Fault → Type 0
+IsWindowAnswer basis k wanted question within found =
+    (times : Times) × AreTimesOf basis question within times
+    × MatchResult found (FindsConnections (IsAnsweredWithin basis k wanted times question)) (IsUnansweredWithin basis times question)
 
--- by rounds: the best arrivals, or the connections if a last time to leave at is named
-abbrev pub IsScanned : BasisData → ℕ → Bool → Question → Option Until → Result Found Fault → Type 0
+-- by rounds: the best arrivals, or the connections if these are asked for
+abbrev pub IsScanned : BasisData → ℕ → Bool → Question → Option Within → Result Found Fault → Type 0
 IsScanned basis k wanted question None found = IsStopAnswer basis question (ArePoints basis k wanted) found
-IsScanned basis k wanted question (Some last) found = IsWindowAnswer basis k wanted question last found
+IsScanned basis k wanted question (Some within) found = IsWindowAnswer basis k wanted question within found
+
+-- where one can be: the stops that one reaches from the question's first place, which take no store
+abbrev pub IsReachFound : BasisData → ℕ → Question → Option Minutes → Result Found Fault → Type 0
+IsReachFound basis k question minutes found =
+    (moment : Option ℕ) × IsMoment basis.cover question.day question.seconds moment
+    × MatchResult found (FindsReport (ReportsReach (IsReach basis k question.from.now moment (option_map (λ m. m.number) minutes))))
+    (IsUnreached basis question.from.now moment)
 
 -- what an audit of a stored tree, or of all of them, may find
 abbrev pub IsAuditDone : BasisData → ℕ → Audited → State → State → Result Found Fault → Type 0
@@ -103,23 +117,46 @@ pub record IsTakenFrom {D : Type 0} (v : SystemView D) (basis : BasisData) (k : 
 abbrev pub IsMigrated : {D : Type 0} → SystemView D → BasisData → ℕ → List ℕ → State → State → Result Found Fault → Type 0
 IsMigrated v basis k path old new found = IsOldKeptOut v basis k path old new found ⊎ IsTakenFrom v basis k path old new found
 
--- from trees of a store: the best journeys, or the connections if a last time to leave at is named
-abbrev pub IsAskDone : BasisData → ℕ → Question → Bool → Option Until → State → State → Result Found Fault → Type 0
+-- a part isn't taken, and that is the fault; nothing was done to the file into which the parts are put
+pub record IsPartsFault {D : Type 0} (v : SystemView D) (basis : BasisData) (k : ℕ) (paths : List (Bor (List ℕ))) (old new : State)
+    (found : Result Found Fault) : Type 0 where
+  pub fault : Fault
+  pub told : found ≡ Err fault
+  pub why : IsUnshelved v basis k paths fault
+  pub untouched : new ≡ old
+
+-- All parts were taken, and their trees put together, or why not. A fault that says that a read of a part failed comes only if one more
+-- call of the disk of that part did.
+pub record IsPutFrom {D : Type 0} (v : SystemView D) (basis : BasisData) (k : ℕ) (paths : List (Bor (List ℕ))) (old new : State)
+    (found : Result Found Fault) : Type 0 where
+  pub disks : List D
+  pub opened : AreOpened v (form_over basis k) paths disks
+  pub right : IfHonest v (form_over basis k) disks (λ states all. MatchResult found
+      (FindsReport (ReportsBuilt (IsMerged basis k all old new))) (IsToldUnmerged basis k paths all old new))
+  pub failed : List ℕ
+  pub device : IfErr found (λ fault. (why : UnmergedFault) × IsOfMerge paths why fault × PartsOnlyFailing (map v.failures disks) failed why)
+
+-- what a merge of the parts in files of these paths may find, by the states of the disk into which they are put before and after
+abbrev pub IsPutTogether : {D : Type 0} → SystemView D → BasisData → ℕ → List (Bor (List ℕ)) → State → State → Result Found Fault → Type 0
+IsPutTogether v basis k paths old new found = IsPartsFault v basis k paths old new found ⊎ IsPutFrom v basis k paths old new found
+
+-- from trees of a store: the best journeys, or the connections if these are asked for
+abbrev pub IsAskDone : BasisData → ℕ → Question → Bool → Option Within → State → State → Result Found Fault → Type 0
 IsAskDone basis k question wanted None old new found =
     (moment : Option ℕ) × IsMoment basis.cover question.day question.seconds moment
     × MatchResult found (FindsAnswer (IsStoredAnswer basis k moment question wanted old new)) (IsStoredRefusal basis k moment question old new)
-IsAskDone basis k question wanted (Some last) old new found =
-    (moment : Option ℕ) × (until : Option ℕ) × IsMoment basis.cover question.day question.seconds moment
-    × IsMoment basis.cover last.day last.seconds until
-    × MatchResult found (FindsConnections (IsStoredWindow basis k moment until question wanted old new))
-    (IsStoredRefusalWithin basis k moment until question old new)
+IsAskDone basis k question wanted (Some within) old new found =
+    (times : Times) × AreTimesOf basis question within times
+    × MatchResult found (FindsConnections (IsStoredWindow basis k times question wanted old new))
+    (IsStoredRefusalWithin basis k times question old new)
 
 -- What a task may find over the file of a store, by the states of its disk before and after, or which fault. The style says whether rides
 -- and walks are found without being asked for.
 abbrev pub IsTaskDone : {D : Type 0} → SystemView D → Style → BasisData → ℕ → Task → State → State → Result Found Fault → Type 0
-IsTaskDone v style basis k (tasks.Ask question legs) old new found = IsAskDone basis k question (tells_legs style legs) question.until old new found
+IsTaskDone v style basis k (tasks.Ask question legs) old new found = IsAskDone basis k question (tells_legs style legs) question.within old new found
 IsTaskDone v style basis k tasks.List old new found = MatchResult found (FindsReport (IsListed basis k old new)) (IsUntold basis k old new)
 IsTaskDone v style basis k (tasks.Audit whose) old new found = IsAuditDone basis k whose old new found
 IsTaskDone v style basis k (tasks.Build workers progress part) old new found =
     MatchResult found (FindsReport (ReportsBuilt (IsBuilt basis part k old new))) (IsUnbuilt basis part k old new)
 IsTaskDone v style basis k (tasks.Migrate path progress) old new found = IsMigrated v basis k path.now old new found
+IsTaskDone v style basis k (tasks.Merge parts progress) old new found = IsPutTogether v basis k parts.now old new found

@@ -19,7 +19,7 @@ use Rattle.tellers.specs.Tellings.{tells_legs, tells_reply}
 use Rattle.commands.specs.Feeds.{IsGround}
 use Rattle.commands.specs.Found.{IsFoundPrinted}
 use Rattle.commands.specs.Idle.{IsIdleSaid}
-use Rattle.commands.specs.Rules.{IsScanned, IsStopAnswer}
+use Rattle.commands.specs.Rules.{IsReachFound, IsScanned, IsStopAnswer}
 use Rattle.commands.specs.Served.{IsNoLookup, IsServedBy, dialogue_of}
 use Rattle.commands.specs.Stored.{IsOverStore}
 use Rattle.commands.specs.World.{SystemView}
@@ -34,7 +34,9 @@ abbrev pub IsSearchFound : {D : Type 0} → SystemView D → Style → BasisData
 IsSearchFound v style basis k (searches.Direct question) found disk old new =
     IsStopAnswer basis question (IsDirect basis) found × (disk ≡ None) × (new ≡ old)
 IsSearchFound v style basis k (searches.Scan question legs) found disk old new =
-    IsScanned basis k (tells_legs style legs) question question.until found × (disk ≡ None) × (new ≡ old)
+    IsScanned basis k (tells_legs style legs) question question.within found × (disk ≡ None) × (new ≡ old)
+IsSearchFound v style basis k (searches.Reach question minutes) found disk old new =
+    IsReachFound basis k question minutes found × (disk ≡ None) × (new ≡ old)
 IsSearchFound v style basis k (searches.Stored store task) found disk old new =
     IsOverStore v style basis k store.now task found disk old new
 

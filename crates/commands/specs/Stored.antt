@@ -24,6 +24,7 @@ told_for tasks.List fault = fault
 told_for (tasks.Audit whose) fault = fault
 told_for (tasks.Build workers progress part) fault = fault
 told_for (tasks.Migrate old progress) fault = in_migration New fault
+told_for (tasks.Merge parts progress) fault = fault
 
 -- there was no file in which the store may be opened, and that is the fault
 pub record IsShutOut {D : Type 0} (v : SystemView D) (form : Form) (path : List ℕ) (task : Task) (found : Result Found Fault) (disk : Option D)

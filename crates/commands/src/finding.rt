@@ -1,15 +1,16 @@
 //! What a command finds: at the timetable, or over the file of a store.
 
+ghost use Rattle.std.specs.Prelude.{◌≡◌, option_map};
 ghost use Rattle.commands.specs.Rules.{IsScanned};
 ghost use Rattle.commands.specs.Runs.{IsSearchFound};
 ghost use Rattle.commands.specs.World.{view_of};
 
-use crate::found::{Found, found_answer, found_connections};
+use crate::found::{Found, found_answer, found_connections, found_report};
 use crate::opening::StoreFile;
 use crate::storing::over_store;
 use crate::system::System;
 use answering::{direct, scan};
-use command_line::{Search, Style};
+use command_line::{Minutes, Search, Style};
 use faults::Fault;
 use feed_basis::Basis;
 use question_lines::Question;
@@ -18,9 +19,10 @@ use std::io::Write;
 use streams::Stream;
 use tellers::tells_legs;
 use timetable::Rides;
-use told_connections::scan_within;
+use told_connections::{scan_within, times_of};
+use told_reach::reach_from;
 
-// What the rounds find: the best arrivals, or the connections if a last time to leave at is named.
+// What the rounds find: the best arrivals, or the connections if the question asks for them.
 fn scanned<'a>(
     alloc: Global,
     basis: &Basis,
@@ -28,19 +30,29 @@ fn scanned<'a>(
     question: &Question<'a>,
     legs: bool,
 ) -> Result<Found<'a>, Fault<'a>>
-    ensures { IsScanned basis.now rides legs question.now question.now.until result }
+    ensures { IsScanned basis.now rides legs question.now question.now.within result }
 {
-    let moment = basis.moment(question.day, question.seconds);
-    match question.until {
+    match question.within {
         None => {
+            let moment = basis.moment(question.day, question.seconds);
             let answer = scan(alloc, basis, question, moment, rides, legs);
             found_answer(question, answer)
         }
-        Some(last) => {
-            let until = basis.moment(last.day, last.seconds);
-            let found = scan_within(alloc, basis, question, moment, until, rides, legs);
+        Some(within) => {
+            let times = times_of(basis, question, within);
+            let found = scan_within(alloc, basis, question, times, rides, legs);
             found_connections(question, found)
         }
+    }
+}
+
+// The number of minutes, if there is one.
+fn number_of(minutes: Option<Minutes>) -> Option<u16>
+    ensures { result ≡ option_map (λ m. m.number) minutes }
+{
+    match minutes {
+        Some(minutes) => Some(minutes.number),
+        None => None,
     }
 }
 
@@ -68,6 +80,12 @@ pub fn find<'a, S: System, E: Write + Drop>(
         Search::Scan { question, legs } => {
             let legs = tells_legs(style, *legs);
             (scanned(alloc, basis, rides, question, legs), None)
+        }
+        Search::Reach { question, minutes } => {
+            let moment = basis.moment(question.day, question.seconds);
+            let minutes = number_of(*minutes);
+            let reached = reach_from(alloc, basis, question.from, moment, minutes, rides);
+            (found_report(reached), None)
         }
         Search::Stored { store, task } => {
             let file = StoreFile {

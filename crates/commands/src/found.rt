@@ -114,7 +114,7 @@ fn in_format<T: Teller>(
         }
         Found::Report(report) => {
             let command = plan.command.name();
-            teller.report(alloc, format, command, plan.settings.feed, report)
+            teller.report(alloc, format, command, &plan.settings, report)
         }
     };
     match text {

@@ -5,6 +5,7 @@ mod checking;
 mod finding;
 mod found;
 mod idling;
+mod merging_parts;
 mod opening;
 mod program;
 mod replies;

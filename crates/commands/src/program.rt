@@ -1,6 +1,8 @@
 //! The program, from its words to both streams.
 
-ghost use Rattle.std.specs.Prelude.{◌≡◌, map};
+ghost use Rattle.std.specs.Prelude.{◌≡◌, List, map};
+ghost use Rattle.clap.specs.Words.{Text};
+ghost use Rattle.command_line.specs.Programs.{IsMatched};
 ghost use Rattle.commands.specs.Programs.{AreFaultsListed, IsJobRun, IsPlainRun, IsProgramRun, IsRefused, folder_voice, word_voice};
 ghost use Rattle.commands.specs.World.{view_of};
 ghost use Rattle.printing.specs.Finished.{IsFaulted, streams_of};
@@ -8,6 +10,8 @@ ghost use Rattle.printing.specs.Finished.{IsFaulted, streams_of};
 use crate::checking::{check, stops};
 use crate::running::{Ended, run_plan, voice_of};
 use crate::system::System;
+use clap::{ArgMatches, Error};
+use command_grammar::matches_of;
 use command_line::{Job, Style, Unread, Word, read_words};
 use disk_model::Disk;
 use faults::Fault;
@@ -139,6 +143,35 @@ fn refuse_words<T: Teller, O: Write + Drop, E: Write + Drop>(
     }
 }
 
+// Does what the words say by what they match of the command line.
+fn run_matched<S: System, I: BufRead, O: Write + Drop, E: Write + Drop>(
+    alloc: Global,
+    system: &S,
+    matched: &Result<ArgMatches<'_>, Error>,
+    input: &mut I,
+    streams: Streams<O, E>,
+) -> Ended<S::Store, O, E>
+    ensures { (words : List Text) → IsMatched words matched.now
+        → IsProgramRun (view_of (S.world system.now) S.Store.honest S.Store.state S.Store.failures S.Teller.telling)
+        (I.remaining input.old) words (streams_of streams.out streams.err) (streams_of result.streams.out result.streams.err)
+        result.status result.store }
+{
+    let mut shown = Vec::new(alloc);
+    match read_words(matched, &mut shown) {
+        Ok(job) => run_job(alloc, system, &job, input, streams),
+        Err(why) => {
+            let mut streams = streams;
+            let teller = system.teller();
+            let status = refuse_words(alloc, &teller, why, shown.as_slice(), &mut streams);
+            Ended {
+                status,
+                store: None,
+                streams,
+            }
+        }
+    }
+}
+
 /// Reads the program's words, the first of which is its name, and does what they say on the system. The answer goes to standard output, a
 /// fault to standard error, with a line beneath it if there is something to do about it. Questions that are asked line by line stand in
 /// `input`.
@@ -154,18 +187,6 @@ pub fn run_words<'a, S: System, I: BufRead, O: Write + Drop, E: Write + Drop>(
         (I.remaining input.old) (map (λ word. word.now) words.entry.now)
         (streams_of streams.out streams.err) (streams_of result.streams.out result.streams.err) result.status result.store }
 {
-    let mut shown = Vec::new(alloc);
-    match read_words(alloc, words, &mut shown) {
-        Ok(job) => run_job(alloc, system, &job, input, streams),
-        Err(why) => {
-            let mut streams = streams;
-            let teller = system.teller();
-            let status = refuse_words(alloc, &teller, why, shown.as_slice(), &mut streams);
-            Ended {
-                status,
-                store: None,
-                streams,
-            }
-        }
-    }
+    let matched = matches_of(alloc, words);
+    run_matched(alloc, system, &matched, input, streams)
 }

@@ -7,6 +7,7 @@ ghost use Rattle.commands.specs.World.{view_of};
 ghost use Rattle.store_terms.specs.Stores.{OnlyFailing};
 
 use crate::found::{Found, found_answer, found_connections, found_report};
+use crate::merging_parts::merge_on;
 use crate::opening::{Access, Ready, StoreFile, open_ready, say_new};
 use crate::system::System;
 use command_line::{Audited, Style, Task};
@@ -21,10 +22,9 @@ use store_migration::take_over;
 use stored_connections::ask_stored_within;
 use streams::Stream;
 use tellers::tells_legs;
-use told_connections::Times;
+use told_connections::times_of;
 
-// Answers a question from the trees that the disk of the file has, or with the connections if a last time to leave at is named; the disk
-// comes back.
+// Answers a question from the trees that the disk of the file has, or with the connections if it asks for them; the disk comes back.
 fn ask_on<'a, D: Disk>(
     alloc: Global,
     file: &StoreFile<'a>,
@@ -32,21 +32,20 @@ fn ask_on<'a, D: Disk>(
     question: &Question<'a>,
     legs: bool,
 ) -> (Result<Found<'a>, Fault<'a>>, D)
-    ensures found { D.honest disk → IsAskDone file.now.basis.now file.now.rides question.now legs question.now.until
+    ensures found { D.honest disk → IsAskDone file.now.basis.now file.now.rides question.now legs question.now.within
         (D.state disk) (D.state result.1) result.0 }
     ensures device { IfErr result.0 (OnlyFailing (D.failures disk) (D.failures result.1)) }
     ensures honest { D.honest disk ↔ D.honest result.1 }
 {
     let StoreFile { basis, rides, .. } = *file;
-    let moment = basis.moment(question.day, question.seconds);
-    match question.until {
+    match question.within {
         None => {
+            let moment = basis.moment(question.day, question.seconds);
             let (answer, disk) = ask_stored(alloc, basis, rides, disk, question, moment, legs);
             (found_answer(question, answer), disk)
         }
-        Some(last) => {
-            let until = basis.moment(last.day, last.seconds);
-            let times = Times { moment, until };
+        Some(within) => {
+            let times = times_of(basis, question, within);
             let (connections, disk) = ask_stored_within(
                 alloc, basis, rides, disk, question, times, legs,
             );
@@ -172,6 +171,7 @@ fn on_disk<'a, S: System>(
             (found_report(report), disk)
         }
         Task::Migrate { old, progress } => migrate_on(alloc, system, file, disk, old, *progress),
+        Task::Merge { parts, progress } => merge_on(alloc, system, file, disk, parts, *progress),
     }
 }
 

@@ -6,6 +6,7 @@ ghost use Rattle.commands.specs.World.{World};
 
 use disk_model::{Disk, FileFault};
 use gtfs_tables::Files;
+use merging::MergeProgress;
 use migration::MigrationProgress;
 use precomputing::Progress;
 use std::alloc::Global;
@@ -18,7 +19,8 @@ use store_audit::AuditProgress;
 use tellers::Teller;
 
 /// What the program finds on its system: folders of feeds, files of stores, threads and randomness. It also has who makes texts in formats,
-/// and who reports the progress of a build, of the audits of all trees or of a migration. A call is made at its turn, or not at all.
+/// and who reports the progress of a build, of the audits of all trees, of a migration or of a merge. A call is made at its turn, or not at
+/// all.
 pub trait System {
     /// Reads a file of a feed.
     type Reader: Read + Drop;
@@ -29,8 +31,8 @@ pub trait System {
     /// In which workers build.
     type Threads: Threads + Wait + Sync;
 
-    /// Reports the progress of a build, of the audits of all trees, or of a migration.
-    type Meter: Progress + AuditProgress + MigrationProgress + Drop;
+    /// Reports the progress of a build, of the audits of all trees, of a migration, or of a merge.
+    type Meter: Progress + AuditProgress + MigrationProgress + MergeProgress + Drop;
 
     /// Makes the texts of formats.
     type Teller: Teller;

@@ -16,7 +16,8 @@ use Rattle.faults.specs.declared.migrating.Side.TheVariants as sides
 use Rattle.faults.specs.declared.migrating.StoreFault.{StoreFault}
 use Rattle.faults.specs.declared.migrating.StoreFault.TheVariants as files
 use Rattle.faults.specs.declared.migrating.TheConstants.{FILE_TOO_LARGE, MIGRATED_RIDES, MIGRATED_TIMETABLE, NEW_DAMAGED, NEW_NOT_A_STORE}
-use Rattle.faults.specs.declared.migrating.TheConstants.{NEW_OLD_VERSION, OLD_DEVICE, OLD_NOT_A_STORE, OTHER_LIST}
+use Rattle.faults.specs.declared.migrating.TheConstants.{CHANGED, NEW_OLD_VERSION, OLD_DEVICE, OLD_NOT_A_STORE, OTHER_LIST}
+use Rattle.faults.specs.declared.parting.TheConstants.{OTHER_TREE, PART_DEVICE, PART_NOT_A_STORE}
 
 -- of the faults of the covered days, a range that can't be covered has advice
 abbrev pub days_advice : DayFault → Option (List ℕ)
@@ -63,6 +64,23 @@ abbrev pub migration_advice : Side → StoreFault → Option (List ℕ)
 migration_advice side (files.Recover f) = side_advice side f
 migration_advice side files.GateDamaged = Some GATE_DAMAGED.now
 migration_advice side files.InUse = Some IN_USE.now
+migration_advice side files.Changed = Some CHANGED.now
+
+-- each fault of the file of a part of a merge has, but for want of memory
+abbrev pub read_advice : RecoverFault → Option (List ℕ)
+read_advice stores.NotAStore = Some PART_NOT_A_STORE.now
+read_advice stores.OldVersion = Some OLD_VERSION.now
+read_advice stores.OtherTimetable = Some MIGRATED_TIMETABLE.now
+read_advice stores.OtherRides = Some MIGRATED_RIDES.now
+read_advice (stores.Damaged number) = Some DAMAGED.now
+read_advice stores.Device = Some PART_DEVICE.now
+read_advice stores.Memory = None
+
+abbrev pub part_advice : StoreFault → Option (List ℕ)
+part_advice (files.Recover f) = read_advice f
+part_advice files.GateDamaged = Some GATE_DAMAGED.now
+part_advice files.InUse = Some IN_USE.now
+part_advice files.Changed = Some CHANGED.now
 
 -- of the refusals of a question, a moment that isn't covered has advice, and a stop whose tree the store lacks
 abbrev pub question_advice : Refusal → Option (List ℕ)
@@ -84,6 +102,8 @@ advice_of fault.PutFailed = Some PUT_FAILED.now
 advice_of (fault.Migration side f) = migration_advice side f
 advice_of fault.OtherList = Some OTHER_LIST.now
 advice_of fault.FileTooLarge = Some FILE_TOO_LARGE.now
+advice_of (fault.Part path f) = part_advice f
+advice_of (fault.OtherTree stop part before) = Some OTHER_TREE.now
 advice_of (fault.Question refusal) = question_advice refusal
 advice_of fault.TooLarge = None
 advice_of fault.Memory = None

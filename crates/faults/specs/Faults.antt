@@ -1,5 +1,5 @@
 -- The faults that the program reports, and the status that each ends them with.
-use Rattle.std.specs.Prelude.{ℕ}
+use Rattle.std.specs.Prelude.{ℕ, List}
 use Rattle.gtfs_rows.specs.declared.fault.FaultKind.{FaultKind}
 use Rattle.gtfs_rows.specs.declared.fault.FaultKind.TheVariants as kinds
 use Rattle.gtfs_rows.specs.declared.fault.FeedFault.{FeedFault}
@@ -13,6 +13,7 @@ use Rattle.faults.specs.declared.fault.Fault.{Fault}
 use Rattle.faults.specs.declared.fault.Fault.TheVariants as fault
 use Rattle.faults.specs.declared.migrating.Side.{Side}
 use Rattle.faults.specs.declared.migrating.StoreFault.TheVariants as files
+use denote.Ref.{Bor}
 
 abbrev pub status_of : Fault → ℕ
 status_of fault.BadDate = 2
@@ -27,6 +28,8 @@ status_of fault.PutFailed = 4
 status_of (fault.Migration side f) = 4
 status_of fault.OtherList = 4
 status_of fault.FileTooLarge = 4
+status_of (fault.Part path f) = 4
+status_of (fault.OtherTree stop part before) = 4
 status_of (fault.Question refusal) = 6
 status_of fault.TooLarge = 3
 status_of fault.Memory = 7
@@ -85,3 +88,20 @@ in_migration side (fault.Store f) = fault.Migration side (files.Recover f)
 in_migration side fault.GateDamaged = fault.Migration side files.GateDamaged
 in_migration side fault.StoreInUse = fault.Migration side files.InUse
 in_migration side other = other
+
+-- that of the file of a part: want of memory is nobody's
+abbrev pub of_part : Bor (List ℕ) → RecoverFault → Fault
+of_part path stores.Memory = fault.Memory
+of_part path stores.NotAStore = fault.Part path (files.Recover stores.NotAStore)
+of_part path stores.OldVersion = fault.Part path (files.Recover stores.OldVersion)
+of_part path stores.OtherTimetable = fault.Part path (files.Recover stores.OtherTimetable)
+of_part path stores.OtherRides = fault.Part path (files.Recover stores.OtherRides)
+of_part path (stores.Damaged number) = fault.Part path (files.Recover (stores.Damaged number))
+of_part path stores.Device = fault.Part path (files.Recover stores.Device)
+
+-- a fault of a store's file, if it is that of a part; any other is as it was
+abbrev pub in_part : Bor (List ℕ) → Fault → Fault
+in_part path (fault.Store f) = fault.Part path (files.Recover f)
+in_part path fault.GateDamaged = fault.Part path files.GateDamaged
+in_part path fault.StoreInUse = fault.Part path files.InUse
+in_part path other = other

@@ -17,6 +17,7 @@ use Rattle.faults.specs.declared.migrating.Side.TheVariants as sides
 use Rattle.faults.specs.declared.migrating.StoreFault.{StoreFault}
 use Rattle.faults.specs.declared.migrating.StoreFault.TheVariants as of_files
 use Rattle.pattern_query.specs.Refusals.{refusal_text}
+use Rattle.shown_ids.specs.Shown.{shown}
 
 abbrev pub kind_text : FaultKind → List ℕ
 kind_text kinds.MissingFile = codes "F1 MissingFile"
@@ -69,9 +70,18 @@ abbrev pub store_fault_text : StoreFault → List ℕ
 store_fault_text (of_files.Recover f) = store_text f
 store_fault_text of_files.GateDamaged = codes "Z1 NotAStore"
 store_fault_text of_files.InUse = codes "Z5 Device"
+store_fault_text of_files.Changed = codes "Z8 Changed"
 
 abbrev pub migration_text : Side → StoreFault → List ℕ
 migration_text side f = side_text side ++ store_fault_text f
+
+-- after the fault of a part's file stands which one it is
+abbrev pub part_text : List ℕ → StoreFault → List ℕ
+part_text path f = store_fault_text f ++ (32 ∷ shown path)
+
+-- of which stop the file of a part has another tree: first the file of the part before, and then its own
+abbrev pub other_tree_text : List ℕ → List ℕ → List ℕ → List ℕ
+other_tree_text stop part before = codes "M2 OtherTree " ++ (shown stop ++ (32 ∷ (shown before ++ (32 ∷ shown part))))
 
 -- a store whose first byte is damaged is none, and one that another process has open is a device that refuses
 abbrev pub fault_text : Fault → List ℕ
@@ -87,6 +97,8 @@ fault_text fault.PutFailed = codes "P3 Device"
 fault_text (fault.Migration side f) = migration_text side f
 fault_text fault.OtherList = codes "M1 OtherList"
 fault_text fault.FileTooLarge = codes "P2 TooLarge"
+fault_text (fault.Part path f) = part_text path.now f
+fault_text (fault.OtherTree stop part before) = other_tree_text stop.now part.now before.now
 fault_text (fault.Question refusal) = refusal_text refusal
 fault_text fault.TooLarge = codes "N1 TooLarge"
 fault_text fault.Memory = codes "Memory"

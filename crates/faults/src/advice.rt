@@ -5,6 +5,7 @@ ghost use Rattle.faults.specs.Advice.{advice_of, days_advice, question_advice, s
 
 use crate::fault::Fault;
 use crate::migrating::{FILE_TOO_LARGE, OTHER_LIST, migration_advice};
+use crate::parting::{OTHER_TREE, part_advice};
 use pattern_query::Refusal;
 use recovery::RecoverFault;
 use service_days::DayFault;
@@ -105,6 +106,8 @@ pub(crate) fn advice_of(fault: &Fault<'_>) -> Option<&'static str>
         Fault::Migration(side, fault) => migration_advice(*side, fault),
         Fault::OtherList => Some(OTHER_LIST),
         Fault::FileTooLarge => Some(FILE_TOO_LARGE),
+        Fault::Part(_, fault) => part_advice(fault),
+        Fault::OtherTree { .. } => Some(OTHER_TREE),
         Fault::Question(refusal) => question_advice(refusal),
         _ => None,
     }

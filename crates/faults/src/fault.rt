@@ -38,8 +38,16 @@ pub enum Fault<'a> {
     Migration(Side, StoreFault),
     /// The new file of a migration has trees that aren't the first ones of the old one.
     OtherList,
-    /// With one more tree the new file of a migration would pass its limit.
+    /// With one more tree the file that a migration or a merge writes would pass its limit.
     FileTooLarge,
+    /// The store of a part of a merge isn't used: its file, and why.
+    Part(&'a str, StoreFault),
+    /// The file of a part of a merge has another tree of a stop than that of a part before it.
+    OtherTree {
+        stop: &'a str,
+        part: &'a str,
+        before: &'a str,
+    },
     Question(Refusal<'a>),
     TooLarge,
     Memory,
@@ -57,6 +65,7 @@ impl<'a> Fault<'a> {
             Fault::TooLarge => 3,
             Fault::Store(_) | Fault::GateDamaged | Fault::StoreInUse | Fault::PutFailed => 4,
             Fault::Migration(..) | Fault::OtherList | Fault::FileTooLarge => 4,
+            Fault::Part(..) | Fault::OtherTree { .. } => 4,
             Fault::Question(_) => 6,
             Fault::Memory => 7,
         }

@@ -30,6 +30,8 @@ pub enum StoreFault {
     GateDamaged,
     /// Another process holds it.
     InUse,
+    /// A read gave other bytes than before.
+    Changed,
 }
 
 pub const OLD_NOT_A_STORE: &str =
@@ -58,6 +60,9 @@ pub const OTHER_LIST: &str =
 
 pub const FILE_TOO_LARGE: &str =
     "The new file would be too large with one more tree. What was stored before stands.";
+
+pub const CHANGED: &str =
+    "That file gave other bytes than before: see that nothing else writes it, and run the same command again.";
 
 // What to do about a fault of the file of the version before.
 fn old_advice(fault: &RecoverFault) -> Option<&'static str>
@@ -95,6 +100,7 @@ pub(crate) fn migration_advice(side: Side, fault: &StoreFault) -> Option<&'stati
     match fault {
         StoreFault::GateDamaged => Some(GATE_DAMAGED),
         StoreFault::InUse => Some(IN_USE),
+        StoreFault::Changed => Some(CHANGED),
         StoreFault::Recover(fault) => match side {
             Side::Old => old_advice(fault),
             Side::New => new_advice(fault),
@@ -102,14 +108,18 @@ pub(crate) fn migration_advice(side: Side, fault: &StoreFault) -> Option<&'stati
     }
 }
 
-// Why a file isn't used as a store.
-fn write_cause<W: fmt::Write>(f: &mut fmt::Formatter<W>, fault: &StoreFault) -> fmt::Result
+/// Writes why a file isn't used as a store.
+pub(crate) fn write_cause<W: fmt::Write>(
+    f: &mut fmt::Formatter<W>,
+    fault: &StoreFault,
+) -> fmt::Result
     ensures { WritesOnOk W.write_str_gives f.old result (store_fault_text fault.now) f.new }
 {
     match fault {
         StoreFault::Recover(fault) => write_store(f, fault),
         StoreFault::GateDamaged => write!(f, "Z1 NotAStore"),
         StoreFault::InUse => write!(f, "Z5 Device"),
+        StoreFault::Changed => write!(f, "Z8 Changed"),
     }
 }
 

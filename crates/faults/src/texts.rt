@@ -6,6 +6,7 @@ ghost use Rattle.faults.specs.Texts.{days_text, fault_text, feed_text, file_text
 
 use crate::fault::Fault;
 use crate::migrating::write_migration;
+use crate::parting::{write_other_tree, write_part};
 use gtfs_tables::{FaultKind, FeedFault, FeedFile};
 use recovery::RecoverFault;
 use service_days::DayFault;
@@ -104,6 +105,8 @@ pub(crate) fn write_fault<W: fmt::Write>(
         Fault::Migration(side, fault) => write_migration(f, *side, fault),
         Fault::OtherList => write!(f, "M1 OtherList"),
         Fault::FileTooLarge => write!(f, "P2 TooLarge"),
+        Fault::Part(path, fault) => write_part(f, path, fault),
+        Fault::OtherTree { stop, part, before } => write_other_tree(f, stop, part, before),
         Fault::Question(refusal) => write!(f, "{refusal}"),
         Fault::TooLarge => write!(f, "N1 TooLarge"),
         Fault::Memory => write!(f, "Memory"),

@@ -37,6 +37,8 @@ IsKeyedFault feed settings first faults.PutFailed = ⊥
 IsKeyedFault feed settings first (faults.Migration side f) = ⊥
 IsKeyedFault feed settings first faults.OtherList = ⊥
 IsKeyedFault feed settings first faults.FileTooLarge = ⊥
+IsKeyedFault feed settings first (faults.Part path f) = ⊥
+IsKeyedFault feed settings first (faults.OtherTree stop part before) = ⊥
 
 -- Where the system gave no randomness for hash keys, that is the fault, whatever the feed is.
 abbrev pub IsBasisFault : Bool → Feed → Settings → Date → Fault → Type 0

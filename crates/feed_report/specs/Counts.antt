@@ -63,6 +63,8 @@ IsReadingFault feed faults.PutFailed = ⊥
 IsReadingFault feed (faults.Migration side f) = ⊥
 IsReadingFault feed faults.OtherList = ⊥
 IsReadingFault feed faults.FileTooLarge = ⊥
+IsReadingFault feed (faults.Part path f) = ⊥
+IsReadingFault feed (faults.OtherTree stop part before) = ⊥
 
 -- where the system gave no randomness for hash keys, that is the fault, whatever the feed is
 abbrev pub IsCheckFault : Bool → Feed → Fault → Type 0

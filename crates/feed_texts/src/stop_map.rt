@@ -5,8 +5,8 @@ use itinerary_texts::{Place, begin_feature, begin_features, end_features, positi
 use json_writer::JsonWriter;
 use std::alloc::{AllocError, Global};
 
-// Writes where a stop is (RFC 7946, section 3.1.2): nowhere if the feed has no position of it.
-fn write_spot(out: &mut JsonWriter, place: &Place) {
+/// Writes where a stop is (RFC 7946, section 3.1.2): nowhere if the feed has no position of it.
+pub(crate) fn write_spot(out: &mut JsonWriter, place: &Place) {
     let Some(position) = position_of(place) else {
         out.null();
         return;

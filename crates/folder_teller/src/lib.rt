@@ -1,16 +1,12 @@
 //! Answers, reports, replies and faults in formats beside lines, with the names that a feed's folder has.
 #![tactic(auto)]
 
-mod fault;
 mod found;
-mod hints;
-mod listed;
-mod meant;
-mod parts;
+mod reached;
 mod replies;
 mod teller;
 mod texts;
 
-pub use listed::FaultParts;
+pub use fault_places::FaultParts;
 pub use replies::Lookup;
 pub use teller::FolderTeller;

@@ -2,15 +2,14 @@
 
 ghost use Rattle.tellers.specs.Tellings.{any_text};
 
-use crate::fault::fault_json;
 use crate::found::{feed_text, found_text, listed_by_ids};
-use crate::hints::hint;
-use crate::listed::{FaultParts, hint_at, list_json, parts_of_all};
+use crate::reached::reach_text;
 use crate::replies::{Lookup, MEMORY_REFUSED, reply_text};
 use crate::texts::{asked_by, line, stops_text, told_text};
-use answer_lines::{Answer, Report};
+use answer_lines::{Answer, Reach, Report};
 use command_line::{Format, Plan, StopSearch};
 use connection_lines::Connections;
+use fault_places::{FaultParts, fault_json, hint, hint_at, list_json, parts_of_all};
 use faults::Fault;
 use feed_basis::Basis;
 use feed_names::open_names;
@@ -95,6 +94,20 @@ impl<'r> FolderTeller<'r> {
         listed_by_ids(alloc, &sheets, ids)
     }
 
+    // The text of the stops that one reaches, with the names that the folder has.
+    fn reach(
+        &self,
+        alloc: Global,
+        format: Format,
+        command: &str,
+        settings: &Settings<'_>,
+        reach: &Reach<'_>,
+    ) -> Result<String, AllocError> {
+        let sheets = self.sheets(alloc, settings.feed)?;
+        let clock = Clock::of(settings.zone);
+        reach_text(alloc, format, command, clock, &sheets, reach)
+    }
+
     // The stops and stations that are searched for, as they are printed: none if there is no sheet of stops.
     fn found(&self, alloc: Global, search: &StopSearch<'_>) -> Result<Option<String>, AllocError> {
         let sheets = NameSheets {
@@ -147,10 +160,11 @@ impl Teller for FolderTeller<'_> {
         alloc: Global,
         format: Format,
         command: &str,
-        folder: &str,
+        settings: &Settings<'_>,
         report: &Report<'_>,
     ) -> Result<String, AllocError> {
         let built = match report {
+            Report::Reached(reach) => return self.reach(alloc, format, command, settings, reach),
             Report::Built(built) => Some(BuildCount {
                 stored: built.stored,
                 of: built.of,
@@ -160,7 +174,7 @@ impl Teller for FolderTeller<'_> {
         let list = StopList {
             command,
             built,
-            stops: self.listed_by_ids(alloc, folder, report.stops())?,
+            stops: self.listed_by_ids(alloc, settings.feed, report.stops())?,
             more: None,
         };
         stops_text(alloc, format, &list)

@@ -5,12 +5,12 @@ use command_line::Format;
 use feed_texts::{StopList, stop_list_geojson, stop_list_json};
 use itineraries::Asked;
 use itinerary_texts::{Itinerary, geojson, itinerary_json, people_text};
-use question_lines::{Question, Until};
+use question_lines::{Question, Within};
 use std::alloc::{AllocError, Global};
 
 // The last time to leave at, if one is named.
-fn until_of(until: Option<Until>) -> Option<DayTime> {
-    let until = until?;
+fn until_of(within: Option<Within>) -> Option<DayTime> {
+    let until = within?.until?;
     Some(DayTime {
         date: until.day,
         seconds: until.seconds,
@@ -27,7 +27,7 @@ pub(crate) fn asked_by<'a>(command: &'a str, question: &Question<'a>, format: Fo
             date: question.day,
             seconds: question.seconds,
         },
-        until: until_of(question.until),
+        until: until_of(question.within),
         through: format == Format::GeoJson,
     }
 }

@@ -8,4 +8,4 @@ mod through;
 mod window;
 
 pub use telling::{Asked, itinerary_by, itinerary_of, places_of};
-pub use window::connections_of;
+pub use window::{connections_by, connections_of};

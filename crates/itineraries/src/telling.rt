@@ -19,7 +19,7 @@ pub struct Asked<'a> {
     pub to: &'a str,
     /// The time to leave at.
     pub departs: DayTime,
-    /// The last time to leave at, if connections are asked for.
+    /// The last time to leave at, if connections up to it are asked for.
     pub until: Option<DayTime>,
     /// Whether the stops that a ride calls at in between are told, as on a map.
     pub through: bool,

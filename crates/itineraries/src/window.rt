@@ -1,6 +1,7 @@
 //! The itineraries of the connections of a window.
 
 use crate::telling::{Asked, Teller, Wanted};
+use answer_lines::DayTime;
 use connection_lines::Connections;
 use feed_basis::Basis;
 use itinerary_texts::{Itinerary, Journey, Window};
@@ -28,10 +29,18 @@ fn names_for<'a>(
     Names::of(alloc, sheets, &wanted.stops, &wanted.trips)
 }
 
+// The last time to leave at: if none is named, it is that of the last covered moment.
+fn until_of(basis: &Basis, asked: &Asked<'_>) -> DayTime {
+    match asked.until {
+        Some(until) => until,
+        None => basis.day_time(basis.timetable().horizon()),
+    }
+}
+
 // What is told of the window beside its connections.
 fn window_of(teller: &Teller<'_>, asked: &Asked<'_>, connections: &Connections) -> Window {
     Window {
-        until: teller.time(asked.until.unwrap_or(asked.departs)),
+        until: teller.time(until_of(teller.basis, asked)),
         walk_seconds: connections.walk,
         next: match connections.next {
             Some(next) => Some(teller.time(next)),
@@ -64,10 +73,23 @@ pub fn connections_of<'a>(
     connections: &Connections,
 ) -> Result<Itinerary<'a>, AllocError> {
     let names = names_for(alloc, basis, sheets, asked, connections)?;
+    connections_by(alloc, basis, clock, &names, asked, connections)
+}
+
+/// What is told of the connections that were asked for over the basis. They have their rides and walks; times are by the clock, and names
+/// are these. It fails only if memory runs out.
+pub fn connections_by<'a>(
+    alloc: Global,
+    basis: &Basis,
+    clock: Clock,
+    names: &Names,
+    asked: &Asked<'a>,
+    connections: &Connections,
+) -> Result<Itinerary<'a>, AllocError> {
     let teller = Teller {
         basis,
         clock,
-        names: &names,
+        names,
         through: asked.through,
     };
     Ok(Itinerary {

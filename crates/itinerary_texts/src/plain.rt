@@ -25,23 +25,23 @@ pub fn write_place_members(out: &mut JsonWriter, place: &Place) {
     out.member("longitude", &place.longitude);
 }
 
-// Writes a stop or a station.
-fn write_place(out: &mut JsonWriter, place: &Place) {
+/// Writes a stop or a station.
+pub fn write_place(out: &mut JsonWriter, place: &Place) {
     out.begin_object();
     write_place_members(out, place);
     out.end_object();
 }
 
 /// Writes a time of the zone's clock under a name, or null past the years that jiff knows.
-pub(crate) fn write_iso(out: &mut JsonWriter, name: &str, time: &Time) {
+pub fn write_iso(out: &mut JsonWriter, name: &str, time: &Time) {
     match time.iso() {
         Some(iso) => out.plain_member(name, iso.as_str()),
         None => out.member(name, &()),
     }
 }
 
-// Writes a time.
-fn write_time(out: &mut JsonWriter, time: &Time) {
+/// Writes a time.
+pub fn write_time(out: &mut JsonWriter, time: &Time) {
     let told = time.told();
     let (date, hours) = told.as_str().split_once(' ').unwrap_or((told.as_str(), ""));
     out.begin_object();

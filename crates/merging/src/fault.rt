@@ -6,15 +6,15 @@ use thiserror::Error;
 /// Why the tree of a stop isn't given.
 #[derive(Clone, Copy, Debug, PartialEq, Eq, Error)]
 pub enum ShelfFault {
-    /// A read failed.
+    /// A read of the part of that index failed.
     #[error("Z5 Device")]
-    Device,
+    Device(usize),
     /// Memory ran out.
     #[error("Z6 Memory")]
     Memory,
-    /// A read gave other bytes than before.
+    /// A read of the part of that index gave other bytes than before.
     #[error("Z8 Changed")]
-    Changed,
+    Changed(usize),
 }
 
 /// Why not all trees were put.

@@ -7,8 +7,9 @@ ghost use Rattle.timetable.specs.Table.{stops_of};
 ghost use Rattle.section_store.specs.Store.{Holds};
 ghost use Rattle.migration.specs.Migration.{OneIsTooLarge};
 ghost use Rattle.merging.specs.Merging.{Goes, Merges, lacked, merged, with_next};
+ghost use Rattle.merging.specs.Reads.{IfOfShelf, IsSteady, OnlyFailing};
 
-use crate::fault::{MergeFault, ShelfFault};
+use crate::fault::MergeFault;
 use crate::progress::MergeProgress;
 use crate::shelf::Shelf;
 use disk_model::Disk;
@@ -35,11 +36,11 @@ fn put_next<E: Disk, S: Shelf>(
     ensures device { MatchResult result
         (λ _. (E.failures store.new.disk ≡ E.failures store.old.disk) × (S.failures shelf.new ≡ S.failures shelf.old))
         (λ fault. (fault ≡ MergeFault.Put PutFault.Device → Grew (E.failures store.old.disk) (E.failures store.new.disk))
-        × (fault ≡ MergeFault.Shelf ShelfFault.Device → Grew (S.failures shelf.old) (S.failures shelf.new))) }
+        × IfOfShelf (OnlyFailing (S.failures shelf.old) (S.failures shelf.new)) fault) }
     ensures large { (disks : List State) (all : List Content) → S.has shelf.old disks all
         → IfErr result (λ fault. fault ≡ MergeFault.Put PutFault.TooLarge → OneIsTooLarge store.old.form all) }
     ensures changed { (disks : List State) (all : List Content) → S.has shelf.old disks all
-        → IfErr result (λ fault. fault ≢ MergeFault.Shelf ShelfFault.Changed) }
+        → IfErr result (IfOfShelf IsSteady) }
     ensures kinds { IfErr result (λ fault. (fault ≢ MergeFault.Put PutFault.Failed) × (fault ≢ MergeFault.Put PutFault.OtherTimetable)
         × (fault ≢ MergeFault.Put PutFault.AlreadyStored)) }
     ensures still { (disks : List State) (all : List Content) → S.has shelf.old disks all → S.has shelf.new disks all }
@@ -87,11 +88,11 @@ pub fn merge<E: Disk, S: Shelf, P: MergeProgress>(
     ensures device { MatchResult result
         (λ _. (E.failures store.new.disk ≡ E.failures store.old.disk) × (S.failures shelf.new ≡ S.failures shelf.old))
         (λ fault. (fault ≡ MergeFault.Put PutFault.Device → Grew (E.failures store.old.disk) (E.failures store.new.disk))
-        × (fault ≡ MergeFault.Shelf ShelfFault.Device → Grew (S.failures shelf.old) (S.failures shelf.new))) }
+        × IfOfShelf (OnlyFailing (S.failures shelf.old) (S.failures shelf.new)) fault) }
     ensures large { (disks : List State) (all : List Content) → S.has shelf.old disks all
         → IfErr result (λ fault. fault ≡ MergeFault.Put PutFault.TooLarge → OneIsTooLarge store.old.form all) }
     ensures changed { (disks : List State) (all : List Content) → S.has shelf.old disks all
-        → IfErr result (λ fault. fault ≢ MergeFault.Shelf ShelfFault.Changed) }
+        → IfErr result (IfOfShelf IsSteady) }
     ensures kinds { IfErr result (λ fault. (fault ≢ MergeFault.Put PutFault.Failed) × (fault ≢ MergeFault.Put PutFault.OtherTimetable)
         × (fault ≢ MergeFault.Put PutFault.AlreadyStored)) }
     ensures still { (disks : List State) (all : List Content) → S.has shelf.old disks all → S.has shelf.new disks all }

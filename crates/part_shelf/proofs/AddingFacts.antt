@@ -25,10 +25,11 @@ entries_still form old new entries given trees alone same each =
     (subst (λ (r : List ℕ). AllZip (IsEntry form r) entries trees) (sym (read_alone old new alone)) each)
 
 -- why trees that don't agree aren't added
-pub unlike_why : (form : Form) (read : List ℕ) (all trees : List Content) → Stands form read trees → (fault : PartFault) → IsUnlike all trees fault → WhyNot form read all fault
-unlike_why form read all trees stands (parts.Store fault) unlike = absurd unlike
-unlike_why form read all trees stands (parts.OtherTree stop part) unlike = record { trees = trees; stands = stands; differ = unlike }
-unlike_why form read all trees stands (parts.Shelf fault) unlike = unlike
+pub unlike_why : (form : Form) (read : List ℕ) (disks : List State) (all trees : List Content) → Stands form read trees → (fault : PartFault) → IsUnlike form disks all trees fault
+    → WhyNot form read disks all fault
+unlike_why form read disks all trees stands (parts.Store fault) unlike = absurd unlike
+unlike_why form read disks all trees stands (parts.OtherTree stop part) unlike = record { trees = trees; stands = stands; differ = unlike }
+unlike_why form read disks all trees stands (parts.Shelf fault) unlike = unlike
 
 -- there are as many states as disks
 pub counted_disks : {D : Type 0} (state : D → State) (disks : List D) (states : List State) → states ≡ map state disks → length disks ≡ length states

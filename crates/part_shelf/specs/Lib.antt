@@ -1,3 +1,4 @@
 pub mod Comparing
+pub mod Reading
 pub mod Shelves
 pub mod Spots

@@ -1,5 +1,5 @@
 -- What a shelf of parts has.
-use Rattle.std.specs.Prelude.{◌≡◌, ◌≢◌, ◌⊎◌, ℕ, List, ◌++◌, Option, map}
+use Rattle.std.specs.Prelude.{◌≡◌, ◌⊎◌, ℕ, List, ◌++◌, Option, map}
 use Rattle.std.specs.Arc.{arc_value}
 use Rattle.std.specs.List.{All, AllZip, flat_map}
 use Rattle.disk_model.specs.Disk.{State}
@@ -8,7 +8,7 @@ use Rattle.section_store.specs.Lasting.{IsExact, IsTrusted}
 use Rattle.section_store.specs.Sections.{Form, Stands, form_of}
 use Rattle.recovery.specs.Recovery.{CauseOf, IsLeftAlone, IsOutside, StandsForNoList}
 use Rattle.merging.specs.Laws.{Agree}
-use Rattle.merging.specs.declared.fault.ShelfFault.TheVariants.{Changed}
+use Rattle.merging.specs.Reads.{IsSteady}
 use Rattle.part_shelf.specs.Comparing.{Differ}
 use Rattle.part_shelf.specs.Spots.{AreSpots}
 use Rattle.part_shelf.specs.declared.entry.Spot.{Spot}
@@ -46,14 +46,14 @@ pub record IsAdded (form : Form) (old : State) (all : List Content) (Has : State
   pub exact : IsTrusted form old → All (IsExact form) trees
   pub has : Has now (all ++ trees)
 
--- the part stands for trees of which one isn't the one that all have of the stop
-pub record IsOtherTree (form : Form) (read : List ℕ) (all : List Content) (stop : ℕ) : Type 0 where
+-- the part stands for trees of which one isn't the one that all have of the stop, which the part of that index has
+pub record IsOtherTree (form : Form) (read : List ℕ) (disks : List State) (all : List Content) (stop part : ℕ) : Type 0 where
   pub trees : List Content
   pub stands : Stands form read trees
-  pub differ : Differ all trees stop
+  pub differ : Differ form disks all trees stop part
 
 -- why a part isn't added: its bytes, the device or memory; or a tree of it; or else a read, or memory
-abbrev pub WhyNot : Form → List ℕ → List Content → PartFault → Type 0
-WhyNot form read all (parts.Store fault) = CauseOf form read fault × (IsOutside fault ⊎ StandsForNoList form read)
-WhyNot form read all (parts.OtherTree stop part) = IsOtherTree form read all stop
-WhyNot form read all (parts.Shelf fault) = fault ≢ Changed
+abbrev pub WhyNot : Form → List ℕ → List State → List Content → PartFault → Type 0
+WhyNot form read disks all (parts.Store fault) = CauseOf form read fault × (IsOutside fault ⊎ StandsForNoList form read)
+WhyNot form read disks all (parts.OtherTree stop part) = IsOtherTree form read disks all stop part
+WhyNot form read disks all (parts.Shelf fault) = IsSteady fault

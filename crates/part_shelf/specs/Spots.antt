@@ -1,4 +1,4 @@
--- Where the trees of a store stand in its file. Only private clauses cite these words.
+-- Where the trees of a store stand in its file. Only private clauses cite these words, but for the text of a tree at a place.
 use Rattle.std.specs.Prelude.{◌≡◌, ◌<◌, ◌+◌, ◌^◌, ℕ, List, [], ◌∷◌, ◌++◌, Option, None, Some, take, drop, get_or, length, slice_index_or, slice_set, is_some, if◌then◌else◌}
 use Rattle.std.specs.List.{All, AllZip}
 use Rattle.disk_model.specs.Disk.{State, empty_disk}

@@ -1,11 +1,10 @@
 //! Adds a part.
 
-ghost use Rattle.std.specs.Prelude.{◌≡◌, ◌↔◌, ◌+◌, ◌++◌, [], ◌∷◌, List, IfOk, IfErr, MatchResult};
-ghost use Rattle.std.specs.List.{sum_by};
-ghost use Rattle.disk_model.specs.Disk.{Grew, State};
+ghost use Rattle.std.specs.Prelude.{◌≡◌, ◌↔◌, ◌++◌, [], ◌∷◌, List, IfOk, IfErr, MatchResult, map};
+ghost use Rattle.disk_model.specs.Disk.{State};
 ghost use Rattle.pattern_tree.specs.Content.{Content};
 ghost use Rattle.recovery.specs.Recovery.{IsLeftAlone};
-ghost use Rattle.part_shelf.specs.Comparing.{TellsDevice};
+ghost use Rattle.part_shelf.specs.Comparing.{FailsOnly};
 ghost use Rattle.part_shelf.specs.Shelves.{Has, IsAdded, WhyNot, form_for};
 
 use crate::comparing::compare;
@@ -25,13 +24,13 @@ impl<D: Disk> PartShelf<D> {
             → Has D.honest D.state self.old states all → D.honest disk → MatchResult result
             (λ _. IsAdded (form_for self.old) (D.state disk) all
             (λ now trees. Has D.honest D.state self.new (states ++ now ∷ []) trees))
-            (λ e. WhyNot (form_for self.old) (D.state disk).read all e.0
+            (λ e. WhyNot (form_for self.old) (D.state disk).read states all e.0
             × IsLeftAlone (D.state disk) (D.state e.1)
             × Has D.honest D.state self.new states all) }
         ensures device { MatchResult result
-            (λ _. sum_by D.failures self.new.disks.items ≡ sum_by D.failures self.old.disks.items + D.failures disk)
-            (λ e. TellsDevice e.0 → Grew (sum_by D.failures self.old.disks.items + D.failures disk)
-            (sum_by D.failures self.new.disks.items + D.failures e.1)) }
+            (λ _. map D.failures self.new.disks.items ≡ map D.failures self.old.disks.items ++ D.failures disk ∷ [])
+            (λ e. FailsOnly (map D.failures self.old.disks.items) (map D.failures self.new.disks.items)
+            (D.failures disk) (D.failures e.1) e.0) }
         ensures honest { IfErr result (λ e. D.honest disk ↔ D.honest e.1) }
         ensures form { form_for self.new ≡ form_for self.old }
     {

@@ -1,4 +1,7 @@
-//! Why a part isn't taken.
+//! Why a part isn't taken, and why a text isn't read.
+
+ghost use Rattle.std.specs.Prelude.{◌≡◌};
+ghost use Rattle.part_shelf.specs.Reading.{of_text};
 
 use merging::ShelfFault;
 use recovery::RecoverFault;
@@ -17,4 +20,26 @@ pub enum PartFault {
     /// A tree wasn't read once more.
     #[error("{0}")]
     Shelf(ShelfFault),
+}
+
+/// Why the text of a tree isn't read.
+#[derive(Clone, Copy, Debug, PartialEq, Eq)]
+pub(crate) enum TextFault {
+    /// A read failed.
+    Device,
+    /// Memory ran out.
+    Memory,
+    /// A read gave other bytes than before.
+    Changed,
+}
+
+/// Why the text of a tree of that part isn't read.
+pub(crate) fn of_text(part: usize, fault: TextFault) -> ShelfFault
+    ensures { result ≡ of_text part fault }
+{
+    match fault {
+        TextFault::Device => ShelfFault::Device(part),
+        TextFault::Memory => ShelfFault::Memory,
+        TextFault::Changed => ShelfFault::Changed(part),
+    }
 }

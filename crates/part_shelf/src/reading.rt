@@ -1,15 +1,15 @@
 //! Reads texts of trees.
 
 ghost use Rattle.std.specs.Prelude.{◌≡◌, ◌≢◌, ◌↔◌, ◌<◌, ◌+◌, ◌^◌, List, take, drop, get_or, length, map, IsTrue, IfOk, IfErr, MatchResult};
-ghost use Rattle.std.specs.List.{All, sum_by};
+ghost use Rattle.std.specs.List.{All};
 ghost use Rattle.disk_model.specs.Disk.{Grew, State, empty_disk};
 ghost use Rattle.pattern_tree.specs.Content.{Content};
 ghost use Rattle.section_store.specs.Sections.{Form, IsSection, MayStand, form_of};
 ghost use Rattle.part_shelf.specs.Spots.{IsTextAt};
 
 use crate::entry::Spot;
+use crate::fault::TextFault;
 use disk_model::{Disk, ReadFault, read_up_to};
-use merging::ShelfFault;
 use pattern_tree::PatternTree;
 use std::alloc::Global;
 use timetable::{Rides, StopId, Timetable, Width};
@@ -22,21 +22,21 @@ pub(crate) fn read_text<D: Disk>(
     place: u64,
     size: u64,
     text: &mut Vec<u8>,
-) -> Result<(), ShelfFault>
+) -> Result<(), TextFault>
     ensures honest { D.honest disk.old ↔ D.honest disk.new }
     ensures same { D.honest disk.old → D.state disk.new ≡ D.state disk.old }
     ensures text { D.honest disk.old → place + size < 2 ^ 64 → MatchResult result
-        (λ _. text.new.items ≡ take size (drop place (D.state disk.old).read)) (λ fault. fault ≢ ShelfFault.Changed) }
+        (λ _. text.new.items ≡ take size (drop place (D.state disk.old).read)) (λ fault. fault ≢ TextFault.Changed) }
     ensures counted { MatchResult result (λ _. D.failures disk.new ≡ D.failures disk.old)
-        (λ fault. fault ≡ ShelfFault.Device → Grew (D.failures disk.old) (D.failures disk.new)) }
+        (λ fault. fault ≡ TextFault.Device → Grew (D.failures disk.old) (D.failures disk.new)) }
 {
     if place.checked_add(size).is_none() {
-        return Err(ShelfFault::Changed);
+        return Err(TextFault::Changed);
     }
     match read_up_to(disk, place, size, text) {
         Ok(()) => Ok(()),
-        Err(ReadFault::Failed) => Err(ShelfFault::Device),
-        Err(ReadFault::Memory) => Err(ShelfFault::Memory),
+        Err(ReadFault::Failed) => Err(TextFault::Device),
+        Err(ReadFault::Memory) => Err(TextFault::Memory),
     }
 }
 
@@ -45,19 +45,21 @@ pub(crate) fn read_spot<D: Disk>(
     disks: &mut Vec<D>,
     spot: Spot,
     text: &mut Vec<u8>,
-) -> Result<(), ShelfFault>
+) -> Result<(), TextFault>
     ensures honest { All D.honest disks.old.items → All D.honest disks.new.items }
     ensures same { All D.honest disks.old.items → map D.state disks.new.items ≡ map D.state disks.old.items }
     ensures text { (form : Form) (states : List State) (tree : Content) → All D.honest disks.old.items
         → states ≡ map D.state disks.old.items → spot.part < length states
         → IsTextAt form (get_or states spot.part empty_disk).read spot.place spot.size tree
-        → MatchResult result (λ _. IsSection form text.new.items tree) (λ fault. fault ≢ ShelfFault.Changed) }
-    ensures counted { MatchResult result (λ _. sum_by D.failures disks.new.items ≡ sum_by D.failures disks.old.items)
-        (λ fault. fault ≡ ShelfFault.Device → Grew (sum_by D.failures disks.old.items) (sum_by D.failures disks.new.items)) }
+        → MatchResult result (λ _. IsSection form text.new.items tree) (λ fault. fault ≢ TextFault.Changed) }
+    ensures counted { MatchResult result (λ _. map D.failures disks.new.items ≡ map D.failures disks.old.items)
+        (λ fault. fault ≡ TextFault.Device
+        → Grew (get_or (map D.failures disks.old.items) spot.part 0) (get_or (map D.failures disks.new.items) spot.part 0)) }
+    ensures long { length disks.new.items ≡ length disks.old.items }
 {
     let Spot { part, place, size } = spot;
     if part >= disks.len() {
-        return Err(ShelfFault::Changed);
+        return Err(TextFault::Changed);
     }
     read_text(&mut disks[part], place, size, text)
 }
@@ -76,12 +78,12 @@ pub(crate) fn tree_in(
     table: &Timetable,
     rides: Rides,
     stop: StopId,
-) -> Result<PatternTree, ShelfFault>
+) -> Result<PatternTree, TextFault>
     ensures tree { (tree : Content) → IsSection (form_of table.now rides) text.now tree → tree.source ≡ stop
-        → MatchResult result (λ read. read ≡ tree) (λ fault. fault ≢ ShelfFault.Changed) }
+        → MatchResult result (λ read. read ≡ tree) (λ fault. fault ≢ TextFault.Changed) }
     ensures may { IfOk result (MayStand (form_of table.now rides)) }
     ensures of { IfOk result (λ tree. tree.source ≡ stop) }
-    ensures device { IfErr result (λ fault. fault ≢ ShelfFault.Device) }
+    ensures device { IfErr result (λ fault. fault ≢ TextFault.Device) }
 {
     texts_apart();
     texts_within();
@@ -89,21 +91,21 @@ pub(crate) fn tree_in(
         Ok(read) => {
             let (tree, used) = read;
             if used < text.len() {
-                return Err(ShelfFault::Changed);
+                return Err(TextFault::Changed);
             }
             if tree.depth() > usize::from(rides.number()) {
-                return Err(ShelfFault::Changed);
+                return Err(TextFault::Changed);
             }
             if tree.source() != stop {
-                return Err(ShelfFault::Changed);
+                return Err(TextFault::Changed);
             }
             Ok(tree)
         }
         Err(fault) => {
             if fault == CodecFault::Memory {
-                Err(ShelfFault::Memory)
+                Err(TextFault::Memory)
             } else {
-                Err(ShelfFault::Changed)
+                Err(TextFault::Changed)
             }
         }
     }

@@ -6,6 +6,7 @@ ghost use Rattle.section_store.specs.Sections.{form_of};
 ghost use Rattle.part_shelf.specs.Shelves.{Has, form_for};
 
 use crate::entry::Spot;
+use crate::fault::of_text;
 use crate::reading::{read_spot, tree_in};
 use disk_model::Disk;
 use merging::{Shelf, ShelfFault};
@@ -54,23 +55,25 @@ impl<D: Disk> PartShelf<D> {
 }
 
 impl<D: Disk> Shelf for PartShelf<D> {
-    ghost use Rattle.std.specs.List.{sum_by};
+    ghost use Rattle.std.specs.Prelude.{map};
     ghost use Rattle.part_shelf.specs.Shelves.{Has, form_for};
 
     ghost form = { form_for };
 
     ghost has = { Has D.honest D.state };
 
-    ghost failures = { λ shelf. sum_by D.failures shelf.disks.items };
+    ghost failures = { λ shelf. map D.failures shelf.disks.items };
 
     fn tree(&mut self, stop: StopId) -> Result<Option<PatternTree>, ShelfFault> {
         let Some(Some(spot)) = self.spots.get(stop.number()).copied() else {
             return Ok(None);
         };
-        read_spot(&mut self.disks, spot, &mut self.text)?;
+        if let Err(fault) = read_spot(&mut self.disks, spot, &mut self.text) {
+            return Err(of_text(spot.part, fault));
+        }
         match tree_in(self.alloc, &self.text, &self.table, self.rides, stop) {
             Ok(tree) => Ok(Some(tree)),
-            Err(fault) => Err(fault),
+            Err(fault) => Err(of_text(spot.part, fault)),
         }
     }
 }

@@ -3,9 +3,8 @@
 ghost use Rattle.std.specs.Prelude.{◌<◌, ◌≤◌};
 
 use crate::audience::Audience;
-use crate::gate::Gate;
-use crate::halt::Halt;
 use stop_parts::Part;
+use tree_workers::{Gate, Halt};
 
 /// The number of the workers, the part of the stops that they build, and the gate that is called before and after each build. Each worker
 /// looks at the flag `stop` before it claims a source. The audience sees each tree once it is stored.

@@ -9,8 +9,6 @@ ghost use Rattle.precomputing.specs.Outcome.{IsDoneAtOnce, IsLeft, IsPrecomputed
 
 use crate::audience::Audience;
 use crate::crew::Crew;
-use crate::gate::Gate;
-use crate::halt::Halt;
 use crate::missing::{count_in, has_each, mark, missing_stops, settled_stops};
 use crate::outcome::Outcome;
 use crate::progress::{Counted, Progress, Silent};
@@ -26,6 +24,7 @@ use std::sync::Wait;
 use std::thread::Threads;
 use stop_parts::Part;
 use timetable::StopId;
+use tree_workers::{Gate, Halt};
 use work_ledger::Ledger;
 
 // How many finished trees wait to be stored at most.

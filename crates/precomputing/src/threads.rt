@@ -10,13 +10,10 @@ ghost use Rattle.precomputing.specs.Flushed.{Flushed, ShowsTo};
 use crate::audience::Audience;
 use crate::crew::Crew;
 use crate::flushing::flush_desk;
-use crate::gate::Gate;
 use crate::held::Held;
 use crate::parted::Parted;
 use crate::progress::Progress;
 use crate::taking::Taker;
-use crate::worker::work;
-use crate::workshop::Workshop;
 use disk_model::Disk;
 use flusher::FlushEnd;
 use planner::{Desk, Planner};
@@ -26,14 +23,8 @@ use std::alloc::Global;
 use std::sync::{Mutex, Wait};
 use std::thread;
 use std::thread::Threads;
+use tree_workers::{Gate, Workshop, work};
 use work_ledger::Ledger;
-
-// Leaves a seat at which nobody sits, since its thread couldn't be made.
-fn leave_one<B: Basis, R: Wait, G: Gate>(workshop: &Workshop<'_, B, R, G>) {
-    if let Some(seat) = workshop.take_seat() {
-        workshop.shared.leave(workshop.rt, seat);
-    }
-}
 
 // Starts `workers` workers, and stores what they hand in, as the seat says. All of them have ended when this returns. The end is none if
 // no thread could be made; then nothing was done.
@@ -79,7 +70,7 @@ fn run<
                 if thread.is_ok() {
                     started = true;
                 } else {
-                    leave_one(workshop);
+                    workshop.leave_seat();
                 }
             }
             let desk = held.into_desk();
@@ -90,6 +81,87 @@ fn run<
             workshop.shared.close(rt, seat);
             (desk, Some(end))
         },
+    )
+}
+
+// How many workers build: no more than trees may be missing, of the crew's at most.
+fn workers_for<D: Disk, G: Gate>(crew: &Crew<'_, G>, desk: &Desk<D>, stops: usize) -> usize
+    ensures some { 0 < result }
+    ensures most { result ≤ 64 }
+{
+    let missing = stops.saturating_sub(desk.stored().len());
+    let most = missing.min(crew.part.among(stops));
+    crew.workers.min(most.max(1))
+}
+
+// The ledger under a lock, with the seats of the workers, and that of who stores.
+#[derive(Drop)]
+struct Seated<B: Basis> {
+    shared: Shared<B>,
+    seats: Mutex<Vec<Seat>>,
+    seat: Seat,
+}
+
+// Puts the ledger under a lock, with seats for so many workers. None if memory is refused.
+fn with_seats<B: Basis>(alloc: Global, ledger: Ledger, workers: usize) -> Option<Seated<B>>
+    requires table { ledger.table ≡ B.table }
+    requires rides { ledger.rides ≡ B.rides }
+    requires most { workers ≤ 64 }
+{
+    let Ok((shared, mut seats)) = Shared::<B>::open(alloc, ledger, workers + 1) else {
+        return None;
+    };
+    let seat = seats.pop()?;
+    Some(Seated {
+        shared,
+        seats: Mutex::new(seats),
+        seat,
+    })
+}
+
+// Builds trees in the workshop by so many of the crew's workers, and stores those of its part, as the seat says.
+fn run_at<
+    B: Basis + Parted + Send + Sync,
+    D: Disk + Drop,
+    R: Threads + Wait + Sync,
+    G: Gate + Sync,
+    P: Progress,
+>(
+    workshop: &Workshop<'_, B, R, G>,
+    workers: usize,
+    seat: &Seat,
+    crew: &Crew<'_, G>,
+    progress: &mut P,
+    desk: Desk<D>,
+) -> (Desk<D>, Option<FlushEnd>)
+    requires form { form_of B.table B.rides ≡ desk.form }
+    requires part { crew.now.part ≡ B.part }
+    requires ready { desk.next ≡ Step.WriteBody }
+    ensures flushed { MatchOption result.1
+        (result.0 ≡ desk)
+        (λ end. Flushed B.part D.honest D.state D.failures end desk result.0) }
+    ensures shown { ShowsTo crew.now.audience desk.board result.0.board }
+{
+    let stops = workshop.network.timetable().stops();
+    let taken = Taker::new(
+        workshop.alloc,
+        workshop.rt,
+        workshop.shared,
+        seat,
+        crew.part,
+        stops,
+    );
+    let Ok(taker) = taken else {
+        return (desk, None);
+    };
+    run(
+        workshop,
+        workers,
+        seat,
+        taker,
+        progress,
+        crew.audience,
+        desk,
     )
 }
 
@@ -121,37 +193,19 @@ pub(crate) fn run_over<
         (λ end. Flushed B.part D.honest D.state D.failures end desk result.0) }
     ensures shown { ShowsTo crew.now.audience desk.board result.0.board }
 {
-    let stops = ledger.timetable().stops();
-    let missing = stops.saturating_sub(desk.stored().len());
-    let most = missing.min(crew.part.among(stops));
-    let workers = crew.workers.min(most.max(1));
-    let Ok((shared, mut seats)) = Shared::<B>::open(alloc, ledger, workers + 1) else {
+    let workers = workers_for(crew, &desk, ledger.timetable().stops());
+    let Some(seated) = with_seats::<B>(alloc, ledger, workers) else {
         return (desk, None);
     };
-    let Some(seat) = seats.pop() else {
-        return (desk, None);
-    };
-    let Ok(taker) = Taker::new(alloc, rt, &shared, &seat, crew.part, stops) else {
-        return (desk, None);
-    };
-    let seats = Mutex::new(seats);
     let workshop = Workshop {
         rt,
         alloc,
         network: planner.network(),
         rides: planner.k(),
-        shared: &shared,
-        seats: &seats,
+        shared: &seated.shared,
+        seats: &seated.seats,
         gate: crew.gate,
         stop: crew.stop,
     };
-    run(
-        &workshop,
-        workers,
-        &seat,
-        taker,
-        progress,
-        crew.audience,
-        desk,
-    )
+    run_at(&workshop, workers, &seated.seat, crew, progress, desk)
 }

@@ -1,5 +1,5 @@
 -- Texts that are cut at tabs.
-use Rattle.std.proofs.Common.{◌≡◌, ◌<◌, ◌==◌, ℕ, false, List, [], ◌∷◌, Option, None, Some, MatchOption, length, ap, ◌∙◌, sym, arith}
+use Rattle.std.proofs.Common.{◌≡◌, ◌<◌, ◌≤◌, ◌==◌, ℕ, false, List, [], ◌∷◌, Option, None, Some, MatchOption, option_to_list, length, ap, ◌∙◌, refl, sym, arith}
 use Rattle.std.specs.List.{position_or_len, before_first, after_first}
 use Rattle.std.proofs.lemmas.List.Elements.{All-from_get_or}
 use Rattle.std.proofs.lemmas.List.Splits.{length-slice_split, slice_split_first, slice_split_none}
@@ -20,11 +20,29 @@ cut_parts text (Some x) found =
     ∙ ap (λ front. front ∷ cut_at_tabs (after_first (λ b. b == 9) text)) (sym found.1)
     ∙ ap (λ back. x.0.now ∷ cut_at_tabs back) (sym found.2)
 
--- a line that is cut four times has more than four fields
-pub five : (text from rest to more day time x y : List ℕ) → cut_at_tabs text ≡ from ∷ cut_at_tabs rest → cut_at_tabs rest ≡ to ∷ cut_at_tabs more
-    → cut_at_tabs more ≡ day ∷ cut_at_tabs time → cut_at_tabs time ≡ x ∷ cut_at_tabs y → LacksFields text
-five text from rest to more day time x y first second third fourth f t d u fields =
-    let all : cut_at_tabs text ≡ from ∷ to ∷ day ∷ x ∷ cut_at_tabs y =
-    first ∙ ap (λ l. from ∷ l) (second ∙ ap (λ l. to ∷ l) (third ∙ ap (λ l. day ∷ l) fourth)) in
-    let count : length (from ∷ to ∷ day ∷ x ∷ cut_at_tabs y) ≡ 4 = ap length (sym all ∙ fields) in
-    absurd (omega (arith, count, length-slice_split (λ (b : ℕ). b == 9) y))
+-- a last time or none is at most one field
+few : (l : Option (List ℕ)) → length (option_to_list l) ≤ 1
+few None = omega arith
+few (Some x) = omega arith
+
+-- the fields of a line are those that it has
+pub same_last : (from to day time f t d u : List ℕ) (last l : Option (List ℕ))
+    → from ∷ to ∷ day ∷ time ∷ option_to_list last ≡ f ∷ t ∷ d ∷ u ∷ option_to_list l → (day ≡ d) × (last ≡ l)
+same_last from to day time f t d u None None e = (cc, refl)
+same_last from to day time f t d u None (Some y) e = absurd cc
+same_last from to day time f t d u (Some x) None e = absurd cc
+same_last from to day time f t d u (Some x) (Some y) e = (cc, cc)
+
+-- the fields that come after the first three
+module _ (text from rest to more day last : List ℕ) (first : cut_at_tabs text ≡ from ∷ cut_at_tabs rest)
+    (second : cut_at_tabs rest ≡ to ∷ cut_at_tabs more) (third : cut_at_tabs more ≡ day ∷ cut_at_tabs last) where
+  pub front : cut_at_tabs text ≡ from ∷ to ∷ day ∷ cut_at_tabs last
+  front = first ∙ ap (λ l. from ∷ l) (second ∙ ap (λ l. to ∷ l) third)
+
+  -- a line that is cut five times has more than five fields
+  pub six : (time x y z : List ℕ) → cut_at_tabs last ≡ time ∷ cut_at_tabs x → cut_at_tabs x ≡ y ∷ cut_at_tabs z → LacksFields text
+  six time x y z fourth fifth f t d u l fields =
+      let all : cut_at_tabs text ≡ from ∷ to ∷ day ∷ time ∷ y ∷ cut_at_tabs z =
+      front ∙ ap (λ l. from ∷ to ∷ day ∷ l) (fourth ∙ ap (λ l. time ∷ l) fifth) in
+      let count : length (from ∷ to ∷ day ∷ time ∷ y ∷ cut_at_tabs z) ≡ length (f ∷ t ∷ d ∷ u ∷ option_to_list l) = ap length (sym all ∙ fields) in
+      absurd (omega (arith, count, few l, length-slice_split (λ (b : ℕ). b == 9) z))

@@ -6,4 +6,4 @@ mod question;
 mod reading;
 
 pub use line::Line;
-pub use question::{Question, Until};
+pub use question::{Question, Until, Within};

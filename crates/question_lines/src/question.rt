@@ -1,7 +1,8 @@
 //! Which question a line is.
 
-ghost use Rattle.std.specs.Prelude.{◌≡◌, [], ◌∷◌, MatchOption};
-ghost use Rattle.question_lines.specs.Questions.{AreFields, IsQuestion, LacksFields, NotQuestion, cut_at_tabs};
+ghost use Rattle.std.specs.Prelude.{◌≡◌, [], ◌∷◌, MatchOption, Option, option_map};
+ghost use Rattle.question_lines.specs.Questions.{AreFields, IsQuestion, IsWithin, LacksFields, NotQuestion, cut_at_tabs};
+ghost use Rattle.question_lines.specs.declared.question.Within.{Within as WithinData};
 
 use gtfs_text::{date, time};
 use jiff::civil::Date;
@@ -18,6 +19,15 @@ pub struct Until {
     pub seconds: u32,
 }
 
+/// Which connections are asked for.
+#[derive(Clone, Copy, Debug, PartialEq, Eq)]
+pub struct Within {
+    /// The last time to leave at; without one it is the last covered moment.
+    pub until: Option<Until>,
+    /// How many of them at most: the first ones, by departure and then by arrival.
+    pub next: Option<u16>,
+}
+
 /// From which place to which, and when.
 #[derive(Clone, Copy, Debug, PartialEq, Eq)]
 pub struct Question<'a> {
@@ -28,8 +38,8 @@ pub struct Question<'a> {
     pub day: Date,
     /// The time of that service day, in seconds from its start.
     pub seconds: u32,
-    /// The last time to leave at, if the connections up to then are asked for.
-    pub until: Option<Until>,
+    /// Which connections are asked for, if they are.
+    pub within: Option<Within>,
 }
 
 // The fields of a line.
@@ -39,6 +49,8 @@ struct Fields<'a> {
     to: &'a str,
     day: &'a str,
     time: &'a str,
+    // The last time to leave at, if there is one.
+    last: Option<&'a str>,
 }
 
 // What stands before the first tab, and what behind it; none where there is no tab.
@@ -50,22 +62,47 @@ fn cut(text: &str) -> Option<(&str, &str)>
     text.split_once('\t')
 }
 
-// The four fields of a line; none where it hasn't exactly so many.
+// The four or five fields of a line; none where it hasn't exactly so many.
 fn fields_of(text: &str) -> Option<Fields<'_>>
-    ensures { MatchOption result (LacksFields text.now) (λ f. AreFields text.now f.from.now f.to.now f.day.now f.time.now) }
+    ensures { MatchOption result (LacksFields text.now)
+        (λ f. AreFields text.now f.from.now f.to.now f.day.now f.time.now (option_map (λ last. last.now) f.last)) }
 {
     let (from, rest) = cut(text)?;
     let (to, rest) = cut(rest)?;
-    let (day, time) = cut(rest)?;
-    match cut(time) {
-        Some(_) => None,
+    let (day, rest) = cut(rest)?;
+    match cut(rest) {
         None => Some(Fields {
             from,
             to,
             day,
-            time,
+            time: rest,
+            last: None,
         }),
+        Some((time, last)) => match cut(last) {
+            None => Some(Fields {
+                from,
+                to,
+                day,
+                time,
+                last: Some(last),
+            }),
+            Some(_) => None,
+        },
     }
+}
+
+// Which connections a question on the day asks for, by the text of its last time to leave at; none where that is no time.
+fn within_of(last: Option<&str>, day: Date) -> Option<Option<Within>>
+    ensures { MatchOption result
+        ((within : Option WithinData) → ¬ IsWithin (option_map (λ last. last.now) last.entry) day within)
+        (IsWithin (option_map (λ last. last.now) last.entry) day) }
+{
+    let Some(last) = last else {
+        return Some(None);
+    };
+    let seconds = time(last)?;
+    let until = Some(Until { day, seconds });
+    Some(Some(Within { until, next: None }))
 }
 
 /// The question that a line is; none where it is none.
@@ -81,11 +118,12 @@ pub(crate) fn question_of(line: &[u8]) -> Option<Question<'_>>
     let fields = fields_of(text)?;
     let day = date(fields.day)?;
     let seconds = time(fields.time)?;
+    let within = within_of(fields.last, day)?;
     Some(Question {
         from: fields.from,
         to: fields.to,
         day,
         seconds,
-        until: None,
+        within,
     })
 }

@@ -1,15 +1,21 @@
 -- Replies to questions, as they are asked on one look.
-use Rattle.std.proofs.Common.{◌≡◌, ℕ, Bool, List, [], All, refl, sym, subst, append-nil}
+use Rattle.std.proofs.Common.{◌≡◌, ℕ, Bool, List, [], All, Result, Ok, Err, IfOk, IfErr, refl, sym, subst, append-nil, inl, inr}
 use Rattle.feed_basis.specs.Basis.{BasisData}
 use Rattle.pattern_query.specs.Answer.{PointData}
 use Rattle.board.specs.Ties.{BoardPart}
 use Rattle.section_store.specs.Lasting.{IsExact}
-use Rattle.planner.specs.Asking.{AreBestBetween, IsAnswered, IsLook, IsUnanswered}
+use Rattle.pattern_query.specs.Questions.{AreComplete}
+use Rattle.planner.specs.Asking.{AreBestBetween, IsAnswered, IsLook, IsUnanswered, held_by}
 use Rattle.planner.specs.PlannerView.{PlannerView}
 use Rattle.planner.specs.declared.fault.AskFault.{AskFault}
 use Rattle.planner.specs.declared.fault.AskFault.TheVariants as faults
+use Rattle.connection_lines.specs.declared.connections.Connections.{Connections}
+use Rattle.faults.specs.declared.fault.Fault.{Fault}
+use Rattle.faults.specs.declared.fault.Fault.TheVariants as told
+use Rattle.told_connections.specs.Windows.{IsAskedWithin, IsUnaskedWithin}
+use Rattle.told_connections.specs.declared.times.Times.{Times}
 use Rattle.question_lines.specs.declared.question.Question.{Question}
-use Rattle.serving.specs.Answers.{IsAsked, IsRefused, IsReply, IsTold}
+use Rattle.serving.specs.Answers.{AsksWithin, IsAsked, IsRefused, IsReply, IsTold, IsUnaskedAt, reply_of}
 use Rattle.serving.specs.declared.reply.Refusal.TheVariants as refusals
 use Rattle.serving.specs.declared.reply.Reply.{Reply}
 use Rattle.serving.specs.declared.reply.Reply.TheVariants as replies
@@ -29,8 +35,9 @@ module _ (p : PlannerView) (basis : BasisData) (wanted : Bool) (line : List ℕ)
     exact = exact;
     told = told;
   }
+  told_reply question depart journeys is answered exact (replies.Connections shown) none = absurd none
   told_reply question depart journeys is answered exact (replies.Refused refusal) none =
-      subst (IsRefused p basis.cover line old new) (sym none) answered.0
+      subst (IsRefused p basis line old new) (sym none) answered.0
 
   looks_still : new ≡ old → IsLook old new
   looks_still same = subst (IsLook old) (sym same) (record { later = ([], append-nil old.told.list); book = refl; origin = refl })
@@ -39,9 +46,33 @@ module _ (p : PlannerView) (basis : BasisData) (wanted : Bool) (line : List ℕ)
   looks_unanswered from to depart faults.BoardRefused un = looks_still un
   looks_unanswered from to depart (faults.Question fault) un = un.0
 
+  looks_unasked : (times : Times) (question : Question) (fault : AskFault) → IsUnaskedAt p basis times question old new fault → IsLook old new
+  looks_unasked times question faults.BoardRefused un = looks_still un
+  looks_unasked times question (faults.Question fault) un = un.0
+
+  -- the reply by what was found at one look
+  pub found_reply : (question : Question) (times : Times) → AsksWithin basis line question times → IsLook old new
+      → (All (IsExact p.form) old.origin.opened.list → (froms : List ℕ) → AreComplete basis.timetable (held_by p new) p.form.rides froms)
+      → (found : Result Connections Fault) → IfOk found (IsAskedWithin basis (held_by p new) wanted times question)
+      → IfErr found (IsUnaskedWithin basis (held_by p new) times question) → IsReply p basis wanted line old new (reply_of found)
+  found_reply question times asks look complete (Ok shown) ok err = record {
+    question = question;
+    times = times;
+    asked = asks;
+    look = look;
+    answered = ok;
+    exact = λ right. complete right ok.froms;
+  }
+  found_reply question times asks look complete (Err (told.Question refusal)) ok err =
+      inr (record { question = question; times = times; asked = asks; unasked = (look, err) })
+  found_reply question times asks look complete (Err other) ok err = look
+
   -- whatever was replied, the reader knows what it knew
   pub looks : (reply : Reply) → IsReply p basis wanted line old new reply → IsLook old new
   looks (replies.Answer answer) is = is.answered.0
+  looks (replies.Connections shown) is = is.look
   looks (replies.Refused refusals.BadLine) is = looks_still is.1
   looks (replies.Refused refusals.Memory) is = is
-  looks (replies.Refused (refusals.Ask fault)) is = looks_unanswered is.question.from.now is.question.to.now is.depart fault is.unanswered
+  looks (replies.Refused (refusals.Ask fault)) (inl is) =
+      looks_unanswered is.question.from.now is.question.to.now is.depart fault is.unanswered
+  looks (replies.Refused (refusals.Ask fault)) (inr is) = looks_unasked is.times is.question fault is.unasked

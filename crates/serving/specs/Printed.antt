@@ -2,6 +2,7 @@
 use Rattle.std.specs.Prelude.{ℕ, List, [], ◌∷◌, ◌++◌, codes}
 use Rattle.planner.specs.AskTexts.{ask_text}
 use Rattle.answer_lines.specs.Printed.{answer_text}
+use Rattle.connection_lines.specs.Printed.{connections_text}
 use Rattle.serving.specs.declared.reply.Refusal.{Refusal}
 use Rattle.serving.specs.declared.reply.Refusal.TheVariants as refusals
 use Rattle.serving.specs.declared.reply.Reply.{Reply}
@@ -13,13 +14,18 @@ refusal_text refusals.BadLine = codes "BadLine"
 refusal_text (refusals.Ask fault) = ask_text fault
 refusal_text refusals.Memory = codes "Memory"
 
--- the end of a line, and a line with a dot alone
-abbrev pub closing : List ℕ
-closing = 10 ∷ 46 ∷ 10 ∷ []
+-- a line with a dot alone
+abbrev pub dot_line : List ℕ
+dot_line = 46 ∷ 10 ∷ []
 
--- the lines of an answer or a refusal, and then a line with a dot alone
+-- the end of a line, and such a line
+abbrev pub closing : List ℕ
+closing = 10 ∷ dot_line
+
+-- the lines of an answer, of connections or of a refusal, and then a line with a dot alone
 abbrev pub reply_text : Reply → List ℕ
 reply_text (replies.Answer answer) = answer_text answer ++ closing
+reply_text (replies.Connections shown) = connections_text shown ++ dot_line
 reply_text (replies.Refused refusal) = codes "refused " ++ (refusal_text refusal ++ closing)
 
 -- the reply for want of memory

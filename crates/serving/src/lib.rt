@@ -1,11 +1,13 @@
 //! Questions that are asked line by line, and the replies to them, while trees are built.
 #![tactic(auto)]
 
+mod look;
 mod printing;
 mod reply;
 mod replying;
 mod serving;
 mod telling;
+mod windows;
 
 pub use reply::{Refusal, Reply};
 pub use serving::{End, serve_lines};

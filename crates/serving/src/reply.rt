@@ -4,6 +4,7 @@ ghost use Rattle.std.specs.Prelude.{Some};
 ghost use Rattle.serving.specs.Printed.{refusal_text, reply_text};
 
 use answer_lines::Answer;
+use connection_lines::Connections;
 use planner::AskFault;
 use std::fmt;
 
@@ -18,10 +19,12 @@ pub enum Refusal<'a> {
     Memory,
 }
 
-/// What is replied to a line: an answer, or why there is none. Shown by its lines and then a line with a dot alone, each with its end.
+/// What is replied to a line: an answer or connections, or why there are none. Shown by its lines and then a line with a dot alone, each
+/// with its end.
 #[derive(Debug, Drop)]
 pub enum Reply<'a> {
     Answer(Answer),
+    Connections(Connections),
     Refused(Refusal<'a>),
 }
 
@@ -43,6 +46,7 @@ impl fmt::Display for Reply<'_> {
     fn fmt<W: fmt::Write>(&self, f: &mut fmt::Formatter<W>) -> fmt::Result {
         match self {
             Reply::Answer(answer) => write!(f, "{answer}\n.\n"),
+            Reply::Connections(connections) => write!(f, "{connections}.\n"),
             Reply::Refused(refusal) => write!(f, "refused {refusal}\n.\n"),
         }
     }

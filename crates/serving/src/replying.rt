@@ -1,6 +1,6 @@
 //! The reply to a line.
 
-ghost use Rattle.std.specs.Prelude.{◌≡◌, ◌≤◌, List, ℕ};
+ghost use Rattle.std.specs.Prelude.{◌≡◌, ◌≤◌, List, None, ℕ};
 ghost use Rattle.std.specs.List.{All};
 ghost use Rattle.question_lines.specs.Questions.{IsQuestion};
 ghost use Rattle.serving.specs.Answers.{IsOver, IsReply, IsTold};
@@ -8,6 +8,7 @@ ghost use Rattle.serving.specs.Tellings.{IsAsking};
 ghost use Rattle.told_journeys.specs.Points.{IsKnownJourney};
 
 use crate::reply::{Refusal, Reply};
+use crate::windows::reply_within;
 use answer_lines::Answer;
 use board::Reader;
 use feed_basis::Basis;
@@ -35,7 +36,8 @@ fn answer_of(
     }
 }
 
-// The reply to a question, on one look of the reader. A time of a day that isn't covered is as late as no covered one is.
+// The reply to a question that asks for no connections, on one look of the reader. A time of a day that isn't covered is later than each
+// covered moment.
 fn reply_to<'a>(
     alloc: Global,
     planner: &'a Planner,
@@ -46,6 +48,7 @@ fn reply_to<'a>(
 ) -> (Reader, Reply<'a>)
     requires over { IsOver basis.now planner.now }
     requires own { reader.origin.form ≡ planner.now.form }
+    requires alone { question.now.within ≡ None }
     ensures { (line : List ℕ) → IsQuestion line question.now → IsReply planner.now basis.now legs line reader result.0 result.1 }
 {
     // It says that the names know the timetable's stops and trips.
@@ -65,7 +68,7 @@ fn reply_to<'a>(
 pub(crate) fn reply_of<'a>(
     alloc: Global,
     planner: &'a Planner,
-    basis: &Basis,
+    basis: &'a Basis,
     legs: bool,
     reader: Reader,
     question: &Option<Question<'a>>,
@@ -74,8 +77,11 @@ pub(crate) fn reply_of<'a>(
     requires own { reader.origin.form ≡ planner.now.form }
     ensures { (line : List ℕ) → IsAsking line question.now → IsReply planner.now basis.now legs line reader result.0 result.1 }
 {
-    match question {
-        None => (reader, Reply::Refused(Refusal::BadLine)),
-        Some(question) => reply_to(alloc, planner, basis, legs, reader, question),
+    let Some(question) = question else {
+        return (reader, Reply::Refused(Refusal::BadLine));
+    };
+    match question.within {
+        None => reply_to(alloc, planner, basis, legs, reader, question),
+        Some(within) => reply_within(alloc, planner, basis, legs, reader, question, within),
     }
 }

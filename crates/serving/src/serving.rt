@@ -30,13 +30,13 @@ pub enum End {
 }
 
 // Replies to one line; the reader comes back.
-fn serve_line<T: ReplyTeller, W: Write>(
+fn serve_line<'a, T: ReplyTeller, W: Write>(
     alloc: Global,
-    planner: &Planner,
-    basis: &Basis,
+    planner: &'a Planner,
+    basis: &'a Basis,
     teller: &T,
     reader: Reader,
-    line: &Line,
+    line: &'a Line,
     out: &mut W,
 ) -> (Reader, Result<(), OutputRefused>)
     requires over { IsOver basis.now planner.now }
@@ -56,11 +56,13 @@ fn serve_line<T: ReplyTeller, W: Write>(
 }
 
 /// Reads questions from the input, a line each, and replies to each on `out` before the next one is read: the best journeys between the
-/// question's places, as `Planner::ask` gives them on one look of the reader, or why there are none, as the teller tells it. It waits for
-/// nobody but the input and the output. The basis is that of the planner's timetable.
+/// question's places, as `Planner::ask` gives them on one look of the reader, or the connections, as `ask_within` gives them on such a
+/// look, or why there are none, as the teller tells it. It waits for nobody but the input and the output. The basis is that of the
+/// planner's timetable.
 ///
-/// A line is the ids of two places, a date (`YYYYMMDD`) and a time (`HH:MM:SS`), with a tab between each and the next; any other line is
-/// refused, and so is one of more than 65,536 bytes, whose rest is skipped. Where memory is refused for a line, that is replied.
+/// A line is the ids of two places, a date (`YYYYMMDD`) and a time (`HH:MM:SS`), with a tab between each and the next. Another time may
+/// follow after a tab, of the same day: it asks for the connections until then. Any other line is refused, and so is one of more than
+/// 65,536 bytes, whose rest is skipped. Where memory is refused for a line, that is replied.
 pub fn serve_lines<T: ReplyTeller, R: BufRead, W: Write>(
     alloc: Global,
     planner: &Planner,
@@ -86,7 +88,7 @@ pub fn serve_lines<T: ReplyTeller, R: BufRead, W: Write>(
             Ok(false) => return End::AllRead,
             Err(_) => return End::Unread,
         }
-        let (next, printed) = serve_line(alloc, planner, basis, teller, reader, &line, out);
+        let (next, printed) = serve_line(alloc, &*planner, &*basis, teller, reader, &line, out);
         reader = next;
         if printed.is_err() {
             return End::OutputRefused;

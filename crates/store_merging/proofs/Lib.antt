@@ -1,2 +1,3 @@
 pub mod CountFacts
 pub mod MergingFacts
+pub mod TellingFacts

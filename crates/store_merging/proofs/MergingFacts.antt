@@ -21,7 +21,7 @@ use Rattle.migration.specs.Migration.{OneIsTooLarge}
 use Rattle.merging.specs.Merging.{Merges, merged}
 use Rattle.merging.specs.declared.fault.MergeFault.{MergeFault}
 use Rattle.merging.specs.declared.fault.MergeFault.TheVariants as merges
-use Rattle.merging.specs.declared.fault.ShelfFault.TheVariants as shelves
+use Rattle.merging.specs.Reads.{IfOfShelf, IsSteady}
 use Rattle.answer_lines.specs.declared.report.Built.{Built}
 use Rattle.feed_basis.specs.Basis.{BasisData}
 use Rattle.store_building.specs.Builds.{CountsStored}
@@ -68,9 +68,9 @@ counts basis k before all old new list built is holds are told =
     record { before = before; merging = is; holds = holds; told = subst (λ (l : List ℕ). CountsStored basis whole l built) are told }
 
 -- why it stopped
-pub stops : (form : Form) (all : List Content) (fault : MergeFault) → (fault ≡ merges.Put puts.TooLarge → OneIsTooLarge form all) → fault ≢ merges.Shelf shelves.Changed
+pub stops : (form : Form) (all : List Content) (fault : MergeFault) → (fault ≡ merges.Put puts.TooLarge → OneIsTooLarge form all) → IfOfShelf IsSteady fault
     → (fault ≢ merges.Put puts.Failed) × (fault ≢ merges.Put puts.OtherTimetable) × (fault ≢ merges.Put puts.AlreadyStored) → CauseOfStop form all fault
-stops form all (merges.Shelf fault) large changed kinds = λ is. changed (ap (λ f. merges.Shelf f) is)
+stops form all (merges.Shelf fault) large changed kinds = changed
 stops form all (merges.Put puts.TooLarge) large changed kinds = large refl
 stops form all (merges.Put puts.Device) large changed kinds = tt
 stops form all (merges.Put puts.Memory) large changed kinds = tt

@@ -1,5 +1,5 @@
 -- What a merge does to a file, and what the program tells of it.
-use Rattle.std.specs.Prelude.{◌≡◌, ◌≢◌, ◌⊎◌, ℕ, List}
+use Rattle.std.specs.Prelude.{◌≡◌, ◌⊎◌, ℕ, List}
 use Rattle.std.specs.List.{All}
 use Rattle.disk_model.specs.Disk.{State}
 use Rattle.disk_model.specs.Moments.{Leaves}
@@ -18,7 +18,8 @@ use Rattle.migration.specs.Migration.{OneIsTooLarge}
 use Rattle.merging.specs.Merging.{merged}
 use Rattle.merging.specs.declared.fault.MergeFault.{MergeFault}
 use Rattle.merging.specs.declared.fault.MergeFault.TheVariants as merges
-use Rattle.merging.specs.declared.fault.ShelfFault.TheVariants as shelves
+use Rattle.merging.specs.Reads as reads
+use Rattle.merging.specs.Reads.{IfOfShelf, IsSteady}
 use Rattle.answer_lines.specs.declared.report.Built.{Built}
 use Rattle.feed_basis.specs.Basis.{BasisData}
 use Rattle.store_building.specs.Builds.{CountsStored}
@@ -58,7 +59,7 @@ pub record IsUnopened (form : Form) (old new : State) (why : RecoverFault) : Typ
 -- Why a merge stops: a tree wasn't read, which of honest disks gives the bytes of before; or it wasn't put, as the file would be too large,
 -- its device failed or memory ran out.
 abbrev pub CauseOfStop : Form → List Content → MergeFault → Type 0
-CauseOfStop form all (merges.Shelf fault) = fault ≢ shelves.Changed
+CauseOfStop form all (merges.Shelf fault) = IsSteady fault
 CauseOfStop form all (merges.Put puts.TooLarge) = OneIsTooLarge form all
 CauseOfStop form all (merges.Put puts.Device) = Unit {0}
 CauseOfStop form all (merges.Put puts.Memory) = Unit {0}
@@ -79,6 +80,8 @@ IsUnmerged basis k all old new faults.Untold =
 abbrev pub TellsOut : UnmergedFault → Type 0
 TellsOut fault = (fault ≡ faults.Unopened stores.Device) ⊎ (fault ≡ faults.Stopped (merges.Put puts.Device))
 
--- that one of a part failed
-abbrev pub TellsPart : UnmergedFault → Type 0
-TellsPart fault = fault ≡ faults.Stopped (merges.Shelf shelves.Device)
+-- a fault that says that a read of a part failed comes only if one more call of the disk of that part did
+abbrev pub OnlyFailing : List ℕ → List ℕ → UnmergedFault → Type 0
+OnlyFailing before after (faults.Unopened why) = Unit {0}
+OnlyFailing before after (faults.Stopped why) = IfOfShelf (reads.OnlyFailing before after) why
+OnlyFailing before after faults.Untold = Unit {0}

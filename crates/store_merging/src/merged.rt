@@ -1,12 +1,11 @@
 //! The trees of several stores are put together.
 
-ghost use Rattle.std.specs.Prelude.{◌≡◌, ◌↔◌, List, IfErr, MatchResult};
-ghost use Rattle.std.specs.List.{sum_by};
+ghost use Rattle.std.specs.Prelude.{◌≡◌, ◌↔◌, List, IfErr, MatchResult, map};
 ghost use Rattle.disk_model.specs.Disk.{Grew, State};
 ghost use Rattle.pattern_tree.specs.Content.{Content};
 ghost use Rattle.part_shelf.specs.Shelves.{Has, form_for};
 ghost use Rattle.store_terms.specs.Stores.{form_over};
-ghost use Rattle.store_merging.specs.Merges.{IsMerged, IsUnmerged, TellsOut, TellsPart};
+ghost use Rattle.store_merging.specs.Merges.{IsMerged, IsUnmerged, OnlyFailing, TellsOut};
 
 use crate::counting::counted;
 use crate::fault::UnmergedFault;
@@ -43,8 +42,8 @@ pub fn merge_parts<'a, D: Disk, E: Disk, P: MergeProgress>(
     ensures still { (disks : List State) (all : List Content)
         → Has D.honest D.state shelf.old disks all → Has D.honest D.state shelf.new disks all }
     ensures device { IfErr result.0 (λ fault. TellsOut fault → Grew (E.failures out) (E.failures result.1)) }
-    ensures part_device { IfErr result.0 (λ fault. TellsPart fault
-        → Grew (sum_by D.failures shelf.old.disks.items) (sum_by D.failures shelf.new.disks.items)) }
+    ensures part_device { IfErr result.0
+        (OnlyFailing (map D.failures shelf.old.disks.items) (map D.failures shelf.new.disks.items)) }
     ensures honest { E.honest out ↔ E.honest result.1 }
 {
     goes_between();

@@ -3,4 +3,4 @@
 
 mod taken;
 
-pub use taken::take_over;
+pub use taken::{of_put, take_over};

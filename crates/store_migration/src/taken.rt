@@ -16,8 +16,9 @@ use section_store::PutFault;
 use std::alloc::Global;
 use timetable::Rides;
 
-// Why a tree wasn't put. Of these only three come: the others say that the new file isn't the one that was compared.
-fn of_put<'a>(fault: PutFault) -> Fault<'a>
+/// Why a tree wasn't put, as the program reports it. Of these only three come: the others say that the new file isn't the one that was
+/// compared.
+pub fn of_put<'a>(fault: PutFault) -> Fault<'a>
     ensures { result ≡ of_put fault }
 {
     match fault {

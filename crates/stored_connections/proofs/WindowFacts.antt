@@ -1,5 +1,5 @@
 -- Connections from the trees of a store, and refusals for want of one.
-use Rattle.std.proofs.Common.{Option, ◌≡◌, ℕ, Bool, List, All, Contains, inl, inr, subst}
+use Rattle.std.proofs.Common.{Option, None, Some, ℕ, Bool, List, All, Contains, inl, inr, subst}
 use Rattle.std.proofs.lemmas.List.Elements.{All-weaker}
 use Rattle.disk_model.specs.Disk.{State}
 use Rattle.timetable.specs.declared.parts.Numbers.{Numbers}
@@ -20,7 +20,10 @@ use Rattle.store_answers.specs.Asked.{StoredReaches}
 use Rattle.store_answers.proofs.AskedFacts.{Shows, kept_of, known, stored_in, unanswered_fails, why}
 use Rattle.store_answers.proofs.StoredFacts.{in_trees, reaches_stored, stored_reaches}
 use Rattle.store_terms.specs.Stores.{OnlyFailing, form_over}
+use Rattle.told_connections.specs.Next.{AreChosen, AreNext}
 use Rattle.told_connections.specs.Windows.{IsAskedWithin, IsUnaskedWithin}
+use Rattle.told_connections.specs.declared.choosing.TheConstants.{ENOUGH}
+use Rattle.told_connections.specs.declared.times.Times.{Times}
 use Rattle.stored_connections.specs.Stored.{IsStoredPoint, IsStoredWindow, IsUnansweredFromWithin}
 
 -- sets with the same numbers have the same connections
@@ -32,33 +35,56 @@ module _ (P Q : ℕ → Numbers → Type 0) (to : (d : ℕ) (n : Numbers) → P 
     last = λ later m lt some few le of. is.last later m lt some few le (from later m of);
   }
 
+module _ (P Q : ℕ → Numbers → Type 0) (to : (d : ℕ) (n : Numbers) → P d n → Q d n) (from : (d : ℕ) (n : Numbers) → Q d n → P d n)
+    (window : Window) where
+  connection_same : (c : Connection) → IsConnection P window c → IsConnection Q window c
+  connection_same c is = record {
+    after = is.after;
+    before = is.before;
+    connects = connects_same P Q to from c.departure (numbers c.journey) is.connects;
+  }
+
 module _ (P Q : ℕ → Numbers → Type 0) (to : (d : ℕ) (n : Numbers) → P d n → Q d n) (from : (d : ℕ) (n : Numbers) → Q d n → P d n) where
-  pub first_same : (window : Window) (enough : ℕ) (list : List Connection) (next : ℕ) → AreFirst P window enough list next → AreFirst Q window enough list next
+  first_same : (window : Window) (enough : ℕ) (list : List Connection) (next : ℕ) → AreFirst P window enough list next → AreFirst Q window enough list next
   first_same window enough list next are = record {
     are = record {
       rising = are.are.rising;
-      each = All-weaker (IsConnection P window) (IsConnection Q window)
-          (λ c is. record { after = is.after; before = is.before; connects = connects_same P Q to from c.departure (numbers c.journey) is.connects })
-          list are.are.each;
+      each = All-weaker (IsConnection P window) (IsConnection Q window) (connection_same P Q to from window) list are.are.each;
       before = are.are.before;
       all = λ d n after before lt is. are.are.all d n after before lt (connects_same Q P from to d n is);
     };
     some = are.some;
   }
 
+-- so the same are the first of them
+module _ (P Q : ℕ → Numbers → Type 0) (to : (d : ℕ) (n : Numbers) → P d n → Q d n) (from : (d : ℕ) (n : Numbers) → Q d n → P d n) where
+  next_same : (window : Window) (n : ℕ) (list : List Connection) (next : ℕ) → AreNext P window n list next → AreNext Q window n list next
+  next_same window n list next are = record {
+    rising = are.rising;
+    each = All-weaker (IsConnection P window) (IsConnection Q window) (connection_same P Q to from window) list are.each;
+    few = are.few;
+    some = are.some;
+    rest = λ c is. are.rest c (connection_same Q P from to window c is);
+  }
+
+  pub chosen_same : (window : Window) (asked : Option ℕ) (list : List Connection) (next : ℕ) → AreChosen P window asked list next
+      → AreChosen Q window asked list next
+  chosen_same window None list next are = first_same P Q to from window ENOUGH list next are
+  chosen_same window (Some n) list next are = next_same window n list next are
+
 -- a question that has no answer tells of no failed call
-pub unasked_fails : (basis : BasisData) (board : List (Option Content)) (moment until : Option ℕ) (question : Question) (fault : Fault) (before after : ℕ)
-    → IsUnaskedWithin basis (tree_at board) moment until question fault → OnlyFailing before after fault
-unasked_fails basis board moment until question fault before after (inl h) =
-    unanswered_fails (stops_at basis.names) _ basis.timetable moment question fault before after h
-unasked_fails basis board moment until question fault before after (inr h) =
-    unanswered_fails (stops_at basis.names) _ basis.timetable until question fault before after h
+pub unasked_fails : (basis : BasisData) (board : List (Option Content)) (times : Times) (question : Question) (fault : Fault) (before after : ℕ)
+    → IsUnaskedWithin basis (tree_at board) times question fault → OnlyFailing before after fault
+unasked_fails basis board times question fault before after (inl h) =
+    unanswered_fails (stops_at basis.names) _ basis.timetable times.moment question fault before after h
+unasked_fails basis board times question fault before after (inr h) =
+    unanswered_fails (stops_at basis.names) _ basis.timetable times.until question fault before after h
 
 module _ (basis : BasisData) (k : ℕ) (old new : State) (question : Question) (list : List ℕ) (board : List (Option Content))
     (is : Shows basis k old new question list board) where
-  pub stored_window : (moment until : Option ℕ) (legs : Bool) (shown : Connections) → WholeIsComplete
-      → IsAskedWithin basis (tree_at board) legs moment until question shown → IsStoredWindow basis k moment until question legs old new shown
-  stored_window moment until legs shown complete h =
+  pub stored_window : (times : Times) (legs : Bool) (shown : Connections) → WholeIsComplete
+      → IsAskedWithin basis (tree_at board) legs times question shown → IsStoredWindow basis k times question legs old new shown
+  stored_window times legs shown complete h =
       let right = h.right in
       let table = basis.timetable in
       let trees = is.whole.trees in
@@ -84,7 +110,7 @@ module _ (basis : BasisData) (k : ℕ) (old new : State) (question : Question) (
                 (λ c p. in_trees table trees board h.froms h.tos c.departure is.whole.same right.stored (numbers c.journey) c.journey.from c.journey.to
                 c.journey.legs (held_between table (tree_at board) h.froms h.tos c.departure c.journey p))
                 right.found right.journeys;
-            right = first_same (AskedReaches table (tree_at board) h.froms h.tos) (StoredReaches table trees h.froms h.tos)
+            right = chosen_same (AskedReaches table (tree_at board) h.froms h.tos) (StoredReaches table trees h.froms h.tos)
                 (λ d. reaches_stored table trees board h.froms h.tos d is.whole.same right.stored)
                 (λ d. stored_reaches table trees board h.froms h.tos d is.whole.same right.stored (form_over basis k) old.read is.whole.stands)
                 _ _ right.found right.next right.right;
@@ -98,14 +124,14 @@ module _ (basis : BasisData) (k : ℕ) (old new : State) (question : Question) (
         opening = is.opening;
       }
 
-  pub unasked_from : (moment until : Option ℕ) (fault : Fault) → IsUnaskedWithin basis (tree_at board) moment until question fault
-      → IsUnansweredFromWithin basis k moment until question old new fault
-  unasked_from moment until fault h = record {
+  pub unasked_from : (times : Times) (fault : Fault) → IsUnaskedWithin basis (tree_at board) times question fault
+      → IsUnansweredFromWithin basis k times question old new fault
+  unasked_from times fault h = record {
     list = list;
     stands = is.stands;
     why = elim h [
-      | inl first ↦ inl (why basis k old new question list board is moment fault first)
-      | inr last ↦ inr (why basis k old new question list board is until fault last)
+      | inl first ↦ inl (why basis k old new question list board is times.moment fault first)
+      | inr last ↦ inr (why basis k old new question list board is times.until fault last)
     ];
     opening = is.opening;
   }

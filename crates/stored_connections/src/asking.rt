@@ -29,8 +29,8 @@ pub fn ask_stored_within<'a, D: Disk>(
     legs: bool,
 ) -> (Result<Connections, Fault<'a>>, D)
     ensures answered { D.honest disk → MatchResult result.0
-        (IsStoredWindow basis.now rides times.moment times.until question.now legs (D.state disk) (D.state result.1))
-        (IsStoredRefusalWithin basis.now rides times.moment times.until question.now (D.state disk) (D.state result.1)) }
+        (IsStoredWindow basis.now rides times question.now legs (D.state disk) (D.state result.1))
+        (IsStoredRefusalWithin basis.now rides times question.now (D.state disk) (D.state result.1)) }
     ensures device { IfErr result.0 (OnlyFailing (D.failures disk) (D.failures result.1)) }
     ensures honest { D.honest disk ↔ D.honest result.1 }
 {

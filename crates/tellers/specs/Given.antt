@@ -24,10 +24,12 @@ task_places tasks.List = None
 task_places (tasks.Audit whose) = None
 task_places (tasks.Build workers progress part) = None
 task_places (tasks.Migrate old progress) = None
+task_places (tasks.Merge parts progress) = None
 
 abbrev pub search_places : Search → Option Places
 search_places (searches.Direct question) = Some (places_of question)
 search_places (searches.Scan question legs) = Some (places_of question)
+search_places (searches.Reach question minutes) = Some (places_of question)
 search_places (searches.Stored store task) = task_places task
 
 abbrev pub command_places : Command → Option Places

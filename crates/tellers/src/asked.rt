@@ -23,6 +23,6 @@ pub fn copy_of<'a>(question: &Question<'a>) -> Question<'a>
         to: question.to,
         day: question.day,
         seconds: question.seconds,
-        until: question.until,
+        within: question.within,
     }
 }

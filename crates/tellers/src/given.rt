@@ -68,7 +68,8 @@ fn task_places<'a>(task: &Task<'a>) -> Option<Places<'a>>
 {
     match task {
         Task::Ask { question, .. } => Some(places_of(question)),
-        Task::List | Task::Audit { .. } | Task::Build { .. } | Task::Migrate { .. } => None,
+        Task::List | Task::Audit { .. } | Task::Build { .. } => None,
+        Task::Migrate { .. } | Task::Merge { .. } => None,
     }
 }
 
@@ -77,7 +78,9 @@ fn search_places<'a>(search: &Search<'a>) -> Option<Places<'a>>
     ensures { result ≡ search_places search.now }
 {
     match search {
-        Search::Direct { question } | Search::Scan { question, .. } => Some(places_of(question)),
+        Search::Direct { question }
+        | Search::Scan { question, .. }
+        | Search::Reach { question, .. } => Some(places_of(question)),
         Search::Stored { task, .. } => task_places(task),
     }
 }

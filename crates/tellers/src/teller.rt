@@ -16,6 +16,7 @@ use feed_basis::Basis;
 use feed_report::FeedReport;
 use file_faults::FaultList;
 use gtfs_rows::FeedFault;
+use options::Settings;
 use question_lines::Question;
 use serving::Reply;
 use std::alloc::{AllocError, Global};
@@ -55,13 +56,13 @@ pub trait Teller: Copy {
     ) -> Result<String, AllocError>
         ensures { IfOk result (λ text. telling.connects format basis.now connections.now (string_bytes text)) };
 
-    /// The text of a command's report in a format, over the feed in a folder. It fails only if memory runs out.
+    /// The text of a command's report in a format, by the settings of its feed. It fails only if memory runs out.
     fn report(
         &self,
         alloc: Global,
         format: Format,
         command: &str,
-        folder: &str,
+        settings: &Settings<'_>,
         report: &Report<'_>,
     ) -> Result<String, AllocError>
         ensures { IfOk result (λ text. telling.reports format report.now (string_bytes text)) };

@@ -1,2 +1,3 @@
+pub mod NextFacts
 pub mod ToldFacts
 pub mod WalkFacts

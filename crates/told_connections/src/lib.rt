@@ -2,9 +2,13 @@
 #![tactic(auto)]
 
 mod asking;
+mod choosing;
 mod places;
 mod telling;
+mod times;
 mod walks;
 
-pub use asking::{ENOUGH, scan_within};
-pub use places::{Times, ask_within, stops_of_any};
+pub use asking::scan_within;
+pub use choosing::ENOUGH;
+pub use places::{ask_within, stops_of_any};
+pub use times::{Times, times_of};

@@ -5,8 +5,9 @@ ghost use Rattle.std.specs.Option.{option_map};
 ghost use Rattle.feed_ids.specs.Names.{stops_in};
 ghost use Rattle.told_connections.specs.Windows.{IsAskedWithin, IsUnaskedWithin};
 
-use crate::asking::ENOUGH;
+use crate::choosing::{chosen, enough_for};
 use crate::telling::{tell_connections, tell_next};
+use crate::times::Times;
 use crate::walks::least_walk;
 use answering::{covered_moment, journeys};
 use connection_lines::Connections;
@@ -20,13 +21,6 @@ use question_lines::Question;
 use std::alloc::Global;
 use timetable::StopId;
 
-/// When one may leave: the moment of a question and its last one, each none if it is of a day that isn't covered.
-#[derive(Clone, Copy, Debug, PartialEq, Eq)]
-pub struct Times {
-    pub moment: Option<u32>,
-    pub until: Option<u32>,
-}
-
 /// The stops of a place, none if there is no place.
 pub fn stops_of_any<'a>(place: &'a Option<Place<'a>>) -> &'a [StopId]
     ensures { (stops : List ℕ) → option_map stops_in place.now ≡ Some stops → result.now ≡ stops }
@@ -37,9 +31,9 @@ pub fn stops_of_any<'a>(place: &'a Option<Place<'a>>) -> &'a [StopId]
     }
 }
 
-/// The connections between the question's places, each a stop or a station, that depart from the moment to `until`, from the trees of the
-/// first place's stops. With `legs` the rides and walks of each journey are told. If the trees are complete, these are the connections of
-/// all journeys. The network is that of the basis's timetable.
+/// The connections between the question's places, each a stop or a station, that depart from the moment to `until`, or the first `next`
+/// of them, from the trees of the first place's stops. With `legs` the rides and walks of each journey are told. If the trees are
+/// complete, these are the connections of all journeys. The network is that of the basis's timetable.
 ///
 /// The window is searched as `scan_within` does.
 pub fn ask_within<'a, T: Trees>(
@@ -52,8 +46,8 @@ pub fn ask_within<'a, T: Trees>(
     legs: bool,
 ) -> Result<Connections, Fault<'a>>
     requires network { network.now ≡ basis.now.timetable }
-    ensures answer { IfOk result (IsAskedWithin basis.now (T.held trees.now) legs times.moment times.until question.now) }
-    ensures refusal { IfErr result (IsUnaskedWithin basis.now (T.held trees.now) times.moment times.until question.now) }
+    ensures answer { IfOk result (IsAskedWithin basis.now (T.held trees.now) legs times question.now) }
+    ensures refusal { IfErr result (IsUnaskedWithin basis.now (T.held trees.now) times question.now) }
 {
     let (_, first) = journeys(basis, network, trees, question, times.moment)?;
     let Some(last) = covered_moment(basis, times.until) else {
@@ -64,10 +58,12 @@ pub fn ask_within<'a, T: Trees>(
     let froms = stops_of_any(&start);
     let tos = stops_of_any(&end);
     let window = Window { first, last };
-    let found = ask_first(alloc, network, trees, froms, tos, window, ENOUGH)?;
+    let enough = enough_for(times.next);
+    let found = ask_first(alloc, network, trees, froms, tos, window, enough)?;
+    let told = chosen(found, times.next);
     Ok(Connections {
         walk: least_walk(basis.timetable(), froms, tos),
-        list: tell_connections(alloc, basis, legs, &found.connections)?,
-        next: tell_next(basis, found.next, last),
+        list: tell_connections(alloc, basis, legs, &told.connections)?,
+        next: tell_next(basis, told.next, last),
     })
 }

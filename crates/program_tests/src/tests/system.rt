@@ -5,6 +5,7 @@ use super::teller::Saying;
 use commands::System;
 use disk_model::{FileFault, MemDisk};
 use gtfs_tables::Files;
+use merging::MergeProgress;
 use migration::MigrationProgress;
 use precomputing::Progress;
 use std::alloc::Global;
@@ -15,7 +16,7 @@ use std::sync::Wait;
 use std::thread::Threads;
 use store_audit::AuditProgress;
 
-/// Hears how far a build is, the audits or a migration, and does nothing.
+/// Hears how far a build is, the audits, a migration or a merge, and does nothing.
 #[derive(Clone, Copy, Debug)]
 pub struct Deaf;
 
@@ -33,6 +34,12 @@ impl AuditProgress for Deaf {
 
 impl MigrationProgress for Deaf {
     fn migrated(&mut self, _migrated: usize, _of: usize) {}
+
+    fn ended(&mut self) {}
+}
+
+impl MergeProgress for Deaf {
+    fn merged(&mut self, _stored: usize, _of: usize) {}
 
     fn ended(&mut self) {}
 }

@@ -3,6 +3,8 @@ use Rattle.command_grammar.proofs.program.program.Goals as goal
 pub returns : goal.returns
 returns c =
     c.with_command.ensures _ _ (
+    c.with_command-program-12.ensures _ _ (
+    c.with_command-program-11.ensures _ _ (
     c.with_command-program-10.ensures _ _ (
     c.with_command-program-9.ensures _ _ (
     c.with_command-program-8.ensures _ _ (
@@ -16,10 +18,12 @@ returns c =
     ) c.stops.ensures
     ) c.journey.ensures
     ) c.scan.ensures
+    ) c.reach.ensures
     ) c.build.ensures
     ) c.list.ensures
     ) c.ask.ensures
     ) c.serve.ensures
     ) c.audit.ensures
     ) c.migrate.ensures
+    ) c.merge.ensures
     ) c.faults.ensures

@@ -3,7 +3,7 @@ use Rattle.command_grammar.proofs.program.scan.Goals as goal
 pub returns : goal.returns
 returns c =
     c.with.ensures _ _ (
-    c.with-command-2.ensures _ _ (
-    c.with-command.ensures _ _ c.journey-command.ensures c.optional.ensures.rule c.optional.ensures.local
+    c.with-command.ensures _ _ (
+    c.windowed-command.ensures _ c.journey.ensures
     ) c.flag.ensures.rule c.flag.ensures.local
     ) c.flag-2.ensures.rule c.flag-2.ensures.local

@@ -1,17 +1,12 @@
-use Rattle.std.proofs.Common.{◌∙◌, sym, ap, option_map, refl}
 use Rattle.clap.specs.Words.{rows_of, found_of}
-use Rattle.command_line.proofs.DayFacts.{day_read, no_day}
+use Rattle.command_line.proofs.DayFacts.{leaves_on, leaves_on_none}
 use Rattle.command_line.proofs.question.day_of.Goals as goal
 
-pub returns-in-None-clause-day : goal.returns-in-None-clause-day
-returns-in-None-clause-day c = (c.in_ok-first.first, c.in_ok-first.was, rw (← c.text_of.ensures, c.in-None.is) refl)
+pub returns-clause-day : goal.returns-clause-day
+returns-clause-day c =
+    leaves_on (rows_of (found_of c.args.found.now)) c.args.first c.in_ok-first.first c.in_ok-first.was c.named_day.result c.named_day.ensures.day
 
-pub returns-in-Some-clause-day : goal.returns-in-Some-clause-day
-returns-in-Some-clause-day c =
-    day_read (rows_of (found_of c.args.found.now)) c.args.first c.in_ok-first.first c.in-Some.text.now c.in_ok-first.was
-    (sym c.text_of.ensures ∙ ap (option_map (λ text. text.now)) c.in-Some.is) c.date.result c.date.ensures
-
-pub returns-in-Some-clause-none : goal.returns-in-Some-clause-none
-returns-in-Some-clause-none c =
-    no_day (rows_of (found_of c.args.found.now)) c.args.first c.in_ok-first.first c.in-Some.text.now c.in_ok-first.was
-    (sym c.text_of.ensures ∙ ap (option_map (λ text. text.now)) c.in-Some.is) c.date.result c.date.ensures
+pub returns-clause-none : goal.returns-clause-none
+returns-clause-none c =
+    leaves_on_none (rows_of (found_of c.args.found.now)) c.args.first c.in_ok-first.first c.in_ok-first.was c.named_day.result
+    c.named_day.ensures.none

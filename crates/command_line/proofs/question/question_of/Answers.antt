@@ -1,5 +1,6 @@
 use Rattle.std.proofs.Common.{◌∙◌, sym, subst}
 use Rattle.clap.specs.Words.{rows_of, found_of}
+use Rattle.command_line.specs.Misreads.{HasDays}
 use Rattle.command_line.specs.Readings.{LacksTimes}
 use Rattle.command_line.specs.declared.unread.WordFault.{WordFault}
 use Rattle.command_line.proofs.question.question_of.Goals as goal
@@ -8,18 +9,19 @@ pub returns-in_default-time-clause-fault : goal.returns-in_default-time-clause-f
 returns-in_default-time-clause-fault c =
     let places = c.args.places in
     let leaves = c.in-Some.ensures.day in
-    (leaves.0, leaves.1, ((c.in-Some.day, leaves.2), (places.at.now, c.requires.at, sym c.time.ensures ∙ c.in_default-time.is)))
+    let days : HasDays (rows_of (found_of c.args.found.now)) leaves.0 =
+    record { day = c.in-Some.day; last = c.in-Some-named_day.last; is_day = leaves.2; is_last = c.in-Some-named_day.ensures.day } in
+    (leaves.0, leaves.1, (days, (places.at.now, c.requires.1.at, sym c.time.ensures ∙ c.in_default-time.is)))
 
 pub returns-in-Err-clause-fault : goal.returns-in-Err-clause-fault
 returns-in-Err-clause-fault c =
     let places = c.args.places in
     let leaves = c.in-Some.ensures.day in
     let bad = c.in-Err.ensures.fault in
+    let days : HasDays (rows_of (found_of c.args.found.now)) leaves.0 =
+    record { day = c.in-Some.day; last = c.in-Some-named_day.last; is_day = leaves.2; is_last = c.in-Some-named_day.ensures.day } in
     subst (λ (fault : WordFault). LacksTimes (rows_of (found_of c.args.found.now)) c.args.first fault) (sym bad.0) (
       leaves.0,
       leaves.1,
-      (
-        ((c.in-Some.day, leaves.2), (c.in-Some-time.seconds, (places.at.now, c.requires.at, sym c.time.ensures ∙ c.in-Some-time.is))),
-        bad.1,
-      ),
+      ((days, (c.in-Some-time.seconds, (places.at.now, c.requires.1.at, sym c.time.ensures ∙ c.in-Some-time.is))), bad.1),
     )

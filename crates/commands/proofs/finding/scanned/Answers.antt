@@ -19,11 +19,10 @@ returns-in-None c =
 pub returns-in-Some : goal.returns-in-Some
 returns-in-Some c =
     let basis = c.args.basis.now in
-    let moment = c.moment-moment.result in
-    let until = c.moment-until.result in
+    let times = c.times_of-times.result in
     let question = c.args.question.now in
-    let right = IsAnsweredWithin basis c.args.rides c.args.legs moment until question in
-    let wrong = IsUnansweredWithin basis moment until question in
+    let right = IsAnsweredWithin basis c.args.rides c.args.legs times question in
+    let wrong = IsUnansweredWithin basis times question in
     let found = connections_found question c.scan_within-found.result c.found_connections.result right wrong c.found_connections.ensures
     (matched c.scan_within-found.result right wrong c.scan_within-found.ensures.answer c.scan_within-found.ensures.refusal) in
-    rw c.in-Some.is (moment, until, c.moment-moment.ensures, c.moment-until.ensures, found)
+    rw c.in-Some.is (times, c.times_of-times.ensures, found)

@@ -23,9 +23,8 @@ returns-in-Some-clause-found g c = λ honest.
     let old = g.D.Disk.state c.args.disk in
     let new = g.D.Disk.state c.ask_stored_within-connections.result.1 in
     let q = c.args.question.now in
-    let moment = c.moment-moment.result in
-    let until = c.moment-until.result in
+    let times = c.times_of-times.result in
     let found = connections_found q c.ask_stored_within-connections.result.0 c.found_connections.result
-    (IsStoredWindow basis k moment until q c.args.legs old new) (IsStoredRefusalWithin basis k moment until q old new)
+    (IsStoredWindow basis k times q c.args.legs old new) (IsStoredRefusalWithin basis k times q old new)
     c.found_connections.ensures (c.ask_stored_within-connections.ensures.answered honest) in
-    rw c.in-Some.is (moment, until, c.moment-moment.ensures, c.moment-until.ensures, found)
+    rw c.in-Some.is (times, c.times_of-times.ensures, found)

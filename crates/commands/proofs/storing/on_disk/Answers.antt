@@ -32,3 +32,6 @@ returns-in-Audit-clause-found g c = λ honest. rw c.in-Audit.is (c.audit_on.ensu
 
 pub returns-in-Migrate-clause-found : goal.returns-in-Migrate-clause-found
 returns-in-Migrate-clause-found g c = λ honest. rw c.in-Migrate.is (c.migrate_on.ensures.found honest)
+
+pub returns-in-Merge-clause-found : goal.returns-in-Merge-clause-found
+returns-in-Merge-clause-found g c = λ honest. rw c.in-Merge.is (c.merge_on.ensures.found honest)

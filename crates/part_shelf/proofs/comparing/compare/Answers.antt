@@ -6,7 +6,7 @@ use Rattle.pattern_tree.specs.Content.{Content}
 use Rattle.part_shelf.specs.Comparing.{AgreeWith}
 use Rattle.part_shelf.specs.Spots.{IsEntry}
 use Rattle.part_shelf.specs.declared.entry.Entry.{Entry}
-use Rattle.part_shelf.proofs.ComparingFacts.{grew_since, more_agree, one_of}
+use Rattle.part_shelf.proofs.ComparingFacts.{fails_since, more_agree, one_of}
 use Rattle.part_shelf.proofs.SpotFacts.{zip_at, zip_long}
 use Rattle.part_shelf.proofs.comparing.compare.Goals as goal
 
@@ -54,7 +54,7 @@ returns-in_err-compare_one-clause-agree g c = λ form states all trees honest he
     let now : IsEntry form (state at.disk).read entry tree = subst (λ (s : State). IsEntry form s.read entry tree) (sym (inv.disk_same here)) own in
     let long = zip_long (IsEntry form read) entries trees each in
     let p = err_from_is_err_and c.from_residual.result c.from_residual.ensures.1 in
-    rw (p.1, p.2) (one_of all trees at.i blank c.in_err-compare_one.field-0.0 (omega (arith, below, long))
+    rw (p.1, p.2) (one_of form states all trees at.i blank c.in_err-compare_one.field-0.0 (omega (arith, below, long))
     (c.in_err-compare_one.ensures.agree form states all tree (inv.honest honest) (inv.disk_honest.0 here) (are ∙ sym (inv.same honest)) spots now))
 
 pub returns-clause-agree : goal.returns-clause-agree
@@ -81,4 +81,4 @@ pub returns-in_err-compare_one-clause-counted : goal.returns-in_err-compare_one-
 returns-in_err-compare_one-clause-counted g c =
     let inv = c.loop-i.invariant in
     let p = err_from_is_err_and c.from_residual.result c.from_residual.ensures.1 in
-    rw (p.1, p.2) (λ tells. grew_since _ _ _ _ _ inv.failures inv.disk_failures (c.in_err-compare_one.ensures.counted tells))
+    rw (p.1, p.2) (fails_since _ _ _ _ _ _ c.in_err-compare_one.field-0.0 inv.failures inv.disk_failures c.in_err-compare_one.ensures.counted)

@@ -21,4 +21,4 @@ returns-else-same-clause-agree g c = λ form states all tree honest here are spo
     let it = compared form states c.args.spots.now all (g.D.Disk.state c.args.disk.now).read c.args.entry.now tree c.in-Some-Some.spot spots own there in
     let told = c.in-Ok.ensures.same form states tree it.other honest here are it.there.0 it.there.1 own.there in
     let isnt : c.in-Ok.same ≡ false = search rules in
-    differs all tree it.other c.args.entry.now.source it.is (sym own.source) (λ same. false≢true (sym isnt ∙ told.1 same))
+    differs form states all tree it.other c.args.entry.now.source c.in-Some-Some.spot it.there it.is (sym own.source) (λ same. false≢true (sym isnt ∙ told.1 same))

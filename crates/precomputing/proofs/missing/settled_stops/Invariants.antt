@@ -1,8 +1,5 @@
 use Rattle.std.proofs.Common.{◌<◌, All}
 use Rattle.precomputing.proofs.missing.settled_stops.Given as goal
 
-abbrev pub invariant-loop-stop : goal.invariant-loop-stop
-invariant-loop-stop l = All (λ s. s < l.stops) l.settled.items
-
 abbrev pub invariant-loop-number : goal.invariant-loop-number
 invariant-loop-number l = All (λ s. s < l.stops) l.settled.items

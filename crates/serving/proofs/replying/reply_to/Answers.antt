@@ -1,4 +1,4 @@
-use Rattle.std.proofs.Common.{List, All, Result, IfOk, MatchResult, subst, sym}
+use Rattle.std.proofs.Common.{List, All, Result, IfOk, MatchResult, inl, subst, sym}
 use Rattle.pattern_query.specs.Answer.{PointData}
 use Rattle.planner.specs.Asking.{AreBestBetween, IsAnswered, IsUnanswered, held_by}
 use Rattle.planner.specs.declared.fault.AskFault.{AskFault}
@@ -19,7 +19,7 @@ returns c = λ line is.
     let question = c.args.question.now in
     let depart = c.unwrap_or-depart.result in
     let asked : IsAsked basis.cover line question depart =
-    record { is = is; moment = c.moment.result; of_day = c.moment.ensures; leaves = c.unwrap_or-depart.ensures } in
+    record { is = is; alone = c.requires.alone; moment = c.moment.result; of_day = c.moment.ensures; leaves = c.unwrap_or-depart.ensures } in
     let Gives = λ (r : Result (List PointData) AskFault). MatchResult r (IsAnswered p old new question.from.now question.to.now depart)
     (IsUnanswered p old new question.from.now question.to.now depart) in
     let Exact = λ (r : Result (List PointData) AskFault). IfOk r (AreBestBetween p question.from.now question.to.now depart) in
@@ -30,12 +30,12 @@ returns c = λ line is.
           (λ right. subst Exact w.in-Ok.is (c.ask-reader.ensures.exact right)) w.answer_of-reply.result
           (subst (λ (journeys : List PointData). IsTold basis depart legs journeys w.answer_of-reply.result) w.points.ensures w.answer_of-reply.ensures))
       | in-Err w ↦
-          subst (IsReply p basis legs line old new) (sym w.reply-is) (record {
+          subst (IsReply p basis legs line old new) (sym w.reply-is) (inl (record {
             question = question;
             depart = depart;
             asked = asked;
             unanswered = subst Gives w.in-Err.is c.ask-reader.ensures.answer;
-          })
+          }))
     ]
 
 pub answer_of-reply-requires-clause-known : goal.answer_of-reply-requires-clause-known

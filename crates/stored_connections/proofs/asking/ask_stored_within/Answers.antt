@@ -28,8 +28,7 @@ returns-clause-answered g c = λ honest.
     let basis = c.args.basis.now in
     let k = c.args.rides in
     let question = c.args.question.now in
-    let moment = c.args.times.moment in
-    let until = c.args.times.until in
+    let times = c.args.times in
     let old = g.D.Disk.state c.args.disk in
     let new = g.D.Disk.state c.into_disk.result in
     let excerpt = c.in-Ok.excerpt in
@@ -49,14 +48,14 @@ returns-clause-answered g c = λ honest.
     } in
     elim c.match-network.branch [
       | in-Ok-network w ↦ rw w.answer-is (either w.ask_within-answer.result
-          (IsAskedWithin basis (tree_at excerpt.board) c.args.legs moment until question)
-          (IsStoredWindow basis k moment until question c.args.legs old new)
-          (IsUnaskedWithin basis (tree_at excerpt.board) moment until question)
-          (IsStoredRefusalWithin basis k moment until question old new)
-          (λ shown right. stored_window basis k old new question excerpt.stored excerpt.board is moment until c.args.legs shown c.whole_is_complete.ensures right)
-          (λ fault refused. inr (unasked_from basis k old new question excerpt.stored excerpt.board is moment until fault refused))
+          (IsAskedWithin basis (tree_at excerpt.board) c.args.legs times question)
+          (IsStoredWindow basis k times question c.args.legs old new)
+          (IsUnaskedWithin basis (tree_at excerpt.board) times question)
+          (IsStoredRefusalWithin basis k times question old new)
+          (λ shown right. stored_window basis k old new question excerpt.stored excerpt.board is times c.args.legs shown c.whole_is_complete.ensures right)
+          (λ fault refused. inr (unasked_from basis k old new question excerpt.stored excerpt.board is times fault refused))
           w.ask_within-answer.ensures.answer w.ask_within-answer.ensures.refusal)
-      | in-Err-network w ↦ rw w.answer-is (inr (unasked_from basis k old new question excerpt.stored excerpt.board is moment until faults.Memory (inl tt)))
+      | in-Err-network w ↦ rw w.answer-is (inr (unasked_from basis k old new question excerpt.stored excerpt.board is times faults.Memory (inl tt)))
     ]
 
 pub returns-in-Err-clause-device : goal.returns-in-Err-clause-device
@@ -67,13 +66,12 @@ pub returns-clause-device : goal.returns-clause-device
 returns-clause-device g c =
     let basis = c.args.basis.now in
     let board = c.in-Ok.excerpt.board in
-    let moment = c.args.times.moment in
-    let until = c.args.times.until in
+    let times = c.args.times in
     let question = c.args.question.now in
     elim c.match-network.branch [
-      | in-Ok-network w ↦ rw w.answer-is (of_refusal w.ask_within-answer.result (IsUnaskedWithin basis (tree_at board) moment until question)
+      | in-Ok-network w ↦ rw w.answer-is (of_refusal w.ask_within-answer.result (IsUnaskedWithin basis (tree_at board) times question)
           (OnlyFailing (g.D.Disk.failures c.args.disk) (g.D.Disk.failures c.into_disk.result))
-          (λ fault. unasked_fails basis board moment until question fault
+          (λ fault. unasked_fails basis board times question fault
           (g.D.Disk.failures c.args.disk) (g.D.Disk.failures c.into_disk.result)) w.ask_within-answer.ensures.refusal)
       | in-Err-network w ↦ rw w.answer-is (memory_fails (g.D.Disk.failures c.args.disk) (g.D.Disk.failures c.into_disk.result))
     ]

@@ -21,7 +21,7 @@ returns-in-Err-compare-clause-added g c = λ states all has honest.
     let each = entries_still form s t c.in-Ok.entries.items c.deref-in-Ok.result.now listing.trees listing.alone c.deref-in-Ok.ensures.value listing.are in
     let spots = subst (λ (l : List (Option Spot)). AreSpots form states l all) (sym c.deref.ensures.value) has.are_spots in
     let unlike = c.in-Err-compare.ensures.agree form states all listing.trees has.honest there has.states_are spots each in (
-      unlike_why form s.read all listing.trees listing.stands c.in-Err-compare.fault unlike,
+      unlike_why form s.read states all listing.trees listing.stands c.in-Err-compare.fault unlike,
       subst (IsLeftAlone s) (sym (did.still.1 there)) listing.alone,
       still_held g.D.Disk.honest state form c.args.self.now.disks.items c.compare.new.disks.items c.args.self.now.spots.items states all did.honest.0 did.still.0 has,
     )

@@ -1,0 +1,76 @@
+//! The stops that one reaches, in formats. Each call fails only if memory runs out.
+
+use crate::texts::line;
+use answer_lines::{Reach, ReachedStop};
+use command_line::Format;
+use feed_texts::{ReachText, ReachedText, reach_geojson, reach_json};
+use std::alloc::{AllocError, Global};
+use told_names::{NameSheets, Names};
+use zone_clock::Clock;
+
+// The ids of the stop that one leaves and of those that one reaches.
+fn ids_of<'r>(alloc: Global, reach: &Reach<'r>) -> Result<Vec<&'r str>, AllocError> {
+    let mut ids = Vec::with_capacity(alloc, reach.stops.len())?;
+    ids.push(reach.from)?;
+    for reached in &reach.stops {
+        ids.push(reached.stop)?;
+    }
+    Ok(ids)
+}
+
+// A stop that one reaches, as the clock and the names tell it.
+fn reached_of(
+    alloc: Global,
+    clock: Clock,
+    names: &Names,
+    reached: &ReachedStop<'_>,
+) -> Result<ReachedText, AllocError> {
+    Ok(ReachedText {
+        place: names.place(alloc, reached.stop)?,
+        arrival: clock.time(reached.arrives),
+        rides: reached.rides,
+        seconds: reached.seconds,
+    })
+}
+
+// All of them.
+fn all_of(
+    alloc: Global,
+    clock: Clock,
+    names: &Names,
+    stops: &[ReachedStop<'_>],
+) -> Result<Vec<ReachedText>, AllocError> {
+    let mut all = Vec::with_capacity(alloc, stops.len())?;
+    for reached in stops {
+        all.push(reached_of(alloc, clock, names, reached)?)?;
+    }
+    Ok(all)
+}
+
+// The text in a format. The format for people has no form of its own here, so it is JSON.
+fn text_of(alloc: Global, format: Format, told: &ReachText<'_>) -> Result<String, AllocError> {
+    match format {
+        Format::GeoJson => line(reach_geojson(alloc, told)?),
+        Format::Names | Format::Json => line(reach_json(alloc, told)?),
+    }
+}
+
+/// The stops that one reaches in a format, with what the sheets have of them.
+pub(crate) fn reach_text(
+    alloc: Global,
+    format: Format,
+    command: &str,
+    clock: Clock,
+    sheets: &NameSheets,
+    reach: &Reach<'_>,
+) -> Result<String, AllocError> {
+    let ids = ids_of(alloc, reach)?;
+    let names = Names::of(alloc, sheets, &ids, &[])?;
+    let told = ReachText {
+        command,
+        from: names.place(alloc, reach.from)?,
+        departure: clock.time(reach.departs),
+        stops: all_of(alloc, clock, &names, &reach.stops)?,
+    };
+    text_of(alloc, format, &told)
+}

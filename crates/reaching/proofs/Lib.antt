@@ -1,0 +1,3 @@
+mod SoonestFacts
+mod SortFacts
+mod ListFacts

@@ -1,0 +1,7 @@
+use Rattle.reaching.proofs.ListFacts.{all_reached}
+use Rattle.reaching.proofs.reaching.reach.Goals as goal
+
+pub returns : goal.returns
+returns c =
+    all_reached c.args.table.now c.args.rides c.args.from c.args.depart c.args.last c.in_ok-list.list.items c.sort_stops.new.list.items
+    c.in_ok-list.ensures c.sort_stops.ensures.kept (c.in_ok-sort_stops.ensures.sorted c.in_ok-list.ensures.rising)
