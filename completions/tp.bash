@@ -26,7 +26,12 @@ _tp() {
             fi
             return
             ;;
-        --format) choices="lines json geojson" ;;
+        --format)
+            choices="lines json geojson"
+            if [[ $command = reach ]]; then
+                choices+=" csv"
+            fi
+            ;;
         --days) choices="1 2 3 4 5 6 7 8 9 10 11 12 13 14" ;;
         --rides) choices="1 2 3 4 5 6 7 8" ;;
         --date | --on | --from | --at | --until | --until-on | --next | --within | --zone | --default-walk | --workers | --part) return ;;
@@ -36,7 +41,10 @@ _tp() {
                 check) choices="--feed --date --all --format --help" ;;
                 stops) choices="--feed --all --header --format --help" ;;
                 direct) choices="--feed --date --from --to --at --format --days --zone --rides --default-walk --help" ;;
-                reach) choices="--feed --date --from --at --on --within --format --days --zone --rides --default-walk --help" ;;
+                reach)
+                    choices="--feed --date --from --at --on --until --until-on --within --format"
+                    choices+=" --days --zone --rides --default-walk --help"
+                    ;;
                 scan)
                     choices="--feed --date --from --to --at --until --until-on --next --legs --names --format"
                     choices+=" --days --zone --rides --default-walk --help"

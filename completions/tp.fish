@@ -29,8 +29,8 @@ complete -c tp -n '__fish_seen_subcommand_from direct scan ask' -l to -x -d 'The
 complete -c tp -n '__fish_seen_subcommand_from migrate' -l to -rF -d 'The new file'
 complete -c tp -n '__fish_seen_subcommand_from merge' -F
 complete -c tp -n '__fish_seen_subcommand_from direct scan reach ask' -l at -x -d 'The time to leave at, HH:MM:SS'
-complete -c tp -n '__fish_seen_subcommand_from scan ask' -l until -x -d 'Print the connections that leave until then, HH:MM:SS'
-complete -c tp -n '__fish_seen_subcommand_from scan ask' -l until-on -x -d 'The covered day of --until, YYYYMMDD'
+complete -c tp -n '__fish_seen_subcommand_from scan reach ask' -l until -x -d 'The last time to leave at, HH:MM:SS'
+complete -c tp -n '__fish_seen_subcommand_from scan reach ask' -l until-on -x -d 'The covered day of --until, YYYYMMDD'
 complete -c tp -n '__fish_seen_subcommand_from scan ask' -l next -x -d 'Print the first N connections'
 complete -c tp -n '__fish_seen_subcommand_from reach ask' -l on -x -d 'The covered day to leave on, YYYYMMDD'
 complete -c tp -n '__fish_seen_subcommand_from direct scan reach build list ask serve audit migrate merge' -l days -xa '(seq 14)' -d 'The number of covered days'
@@ -44,5 +44,6 @@ complete -c tp -n '__fish_seen_subcommand_from reach' -l within -x -d 'Print the
 complete -c tp -n '__fish_seen_subcommand_from scan ask' -l legs -d 'Print rides and walks'
 complete -c tp -n '__fish_seen_subcommand_from scan ask' -l names -d 'Print names, for people'
 complete -c tp -n '__fish_seen_subcommand_from check stops direct scan reach build list ask serve' -l format -xa 'lines json geojson' -d 'The format of the answer'
+complete -c tp -n '__fish_seen_subcommand_from reach' -l format -xa csv -d 'The format of the answer'
 complete -c tp -n '__fish_seen_subcommand_from stops' -l header -d 'Print the names of the fields first'
 complete -c tp -n '__fish_seen_subcommand_from check stops audit' -l all -d 'List all faults, print all stops, or audit all trees'

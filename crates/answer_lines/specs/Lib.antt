@@ -4,3 +4,4 @@ pub mod Printed
 pub mod Printing
 pub mod Reaches
 pub mod Reports
+pub mod Timed

@@ -5,6 +5,7 @@ use Rattle.std.specs.List.{flat_map}
 use Rattle.shown_ids.specs.Shown.{shown}
 use Rattle.answer_lines.specs.Audits.{audit_line, audit_status, audits_status}
 use Rattle.answer_lines.specs.Reaches.{reach_text}
+use Rattle.answer_lines.specs.Timed.{times_text}
 use Rattle.answer_lines.specs.declared.report.Built.{Built}
 use Rattle.answer_lines.specs.declared.report.Report.{Report}
 use Rattle.answer_lines.specs.declared.report.Report.TheVariants as reports
@@ -30,6 +31,7 @@ report_text (reports.Audited audit) = audit_line audit
 report_text (reports.AuditedAll audits) = flat_map audit_line audits.items
 report_text (reports.Migrated count) = migrated_line count
 report_text (reports.Reached reach) = reach_text reach
+report_text (reports.Timed times) = times_text times
 
 -- 3 if some stop has no tree
 abbrev pub status_by : {X : Type 0} → List X → ℕ
@@ -46,3 +48,4 @@ report_status (reports.Audited audit) = audit_status audit
 report_status (reports.AuditedAll audits) = audits_status audits.items
 report_status (reports.Migrated count) = 0
 report_status (reports.Reached reach) = 0
+report_status (reports.Timed times) = 0

@@ -8,6 +8,7 @@ mod printing;
 mod reach;
 mod report;
 mod stage;
+mod timed;
 
 pub use answer::{Answer, Point};
 pub use audit::{Audit, Differing};
@@ -16,3 +17,4 @@ pub use printing::{PrintFault, print, print_bytes};
 pub use reach::{Reach, ReachedStop};
 pub use report::{Built, Report};
 pub use stage::Stage;
+pub use timed::{TimedStop, TimedStops};

@@ -8,6 +8,7 @@ ghost use Rattle.answer_lines.specs.Reports.{built_status, id_line, report_statu
 
 use crate::audit::Audit;
 use crate::reach::Reach;
+use crate::timed::TimedStops;
 use shown_ids::Shown;
 use std::fmt;
 
@@ -40,6 +41,8 @@ pub enum Report<'a> {
     },
     /// The stops that one reaches: one a line.
     Reached(Reach<'a>),
+    /// How long one is on the way to stops: one a line.
+    Timed(TimedStops<'a>),
 }
 
 impl Built<'_> {
@@ -60,7 +63,8 @@ impl<'a> Report<'a> {
             Report::Audited(_)
             | Report::AuditedAll(_)
             | Report::Migrated { .. }
-            | Report::Reached(_) => &[],
+            | Report::Reached(_)
+            | Report::Timed(_) => &[],
         }
     }
 
@@ -73,7 +77,7 @@ impl<'a> Report<'a> {
             Report::Built(built) => built.status(),
             Report::Audited(audit) => audit.status(),
             Report::AuditedAll(audits) => { if has_difference(audits) { 5 } else { 0 } }
-            Report::Migrated { .. } | Report::Reached(_) => 0,
+            Report::Migrated { .. } | Report::Reached(_) | Report::Timed(_) => 0,
         }
     }
 }
@@ -98,6 +102,7 @@ impl fmt::Display for Report<'_> {
             Report::AuditedAll(audits) => write_audits(f, audits),
             Report::Migrated { count } => writeln!(f, "migrated {count} of {count}"),
             Report::Reached(reach) => write!(f, "{reach}"),
+            Report::Timed(times) => write!(f, "{times}"),
         }
     }
 }

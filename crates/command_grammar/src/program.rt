@@ -7,7 +7,7 @@ ghost use Rattle.clap.specs.declared.builder.command.Command.TheViews.{out-Comma
 ghost use Rattle.command_grammar.specs.CommandLine.{ask_app, audit_app, build_app, building_app, check_app, faults_app, journey_app};
 ghost use Rattle.command_grammar.specs.CommandLine.{list_app, merge_app, migrate_app, needs_subcommand, program_app, ranged_rule, reach_app};
 ghost use Rattle.command_grammar.specs.CommandLine.{scan_app, serve_app, stops_app, store_app, tells_version, text_rule, texts_rule};
-ghost use Rattle.command_grammar.specs.CommandLine.{window_app};
+ghost use Rattle.command_grammar.specs.CommandLine.{until_app, window_app};
 ghost use Rattle.command_grammar.specs.Made.{IsMade, IsProgram};
 
 use crate::texts::{
@@ -15,9 +15,9 @@ use crate::texts::{
     AUDIT_USAGE, AUDITED, AUDITORS, BUILD, BUILD_MORE, CHECK, CHECK_ALL, CHECK_MORE, DIRECT,
     DIRECT_MORE, FAULT_TABLE, FAULTS, FEED, FORMAT, FROM, HEADER, LEGS, LIST, LIST_MORE, MERGE,
     MERGE_MORE, MERGE_PROGRESS, MERGED_STORE, MIGRATE, MIGRATE_MORE, MIGRATE_PROGRESS, MORE, NAMES,
-    NEW_STORE, NEXT, OLD_STORE, ON, PART, PART_FILES, PLAIN_FORMAT, PROGRESS, REACH, REACH_FROM,
-    REACH_MORE, SCAN, SCAN_MORE, SERVE, SERVE_MORE, STOPS, STOPS_MORE, STORE, TEXT, TO, UNTIL,
-    UNTIL_ON, VERSION, WEEK, WITHIN, WORKERS,
+    NEW_STORE, NEXT, OLD_STORE, ON, PART, PART_FILES, PLAIN_FORMAT, PROGRESS, REACH, REACH_FORMAT,
+    REACH_FROM, REACH_MORE, REACH_UNTIL, SCAN, SCAN_MORE, SERVE, SERVE_MORE, STOPS, STOPS_MORE,
+    STORE, TEXT, TO, UNTIL, UNTIL_ON, VERSION, WEEK, WITHIN, WORKERS,
 };
 use clap::builder::ValueParser;
 use clap::{Arg, ArgMatches, Command, Error};
@@ -103,12 +103,23 @@ fn journey<'a>(
     ending(command, more)
 }
 
+// A command that may have a last time to leave at.
+fn until<'a>(
+    alloc: Global,
+    command: Result<Command<'a>, Error>,
+    help: &'a str,
+) -> Result<Command<'a>, Error>
+    ensures { (app : App) → IsMade app command.entry → IsMade (until_app app) result }
+{
+    let command = with(command, optional(alloc, "until", "HH:MM:SS", help));
+    with(command, optional(alloc, "until-on", "YYYYMMDD", UNTIL_ON))
+}
+
 // A command that may answer with connections.
 fn windowed<'a>(alloc: Global, command: Result<Command<'a>, Error>) -> Result<Command<'a>, Error>
     ensures { (app : App) → IsMade app command.entry → IsMade (window_app app) result }
 {
-    let command = with(command, optional(alloc, "until", "HH:MM:SS", UNTIL));
-    let command = with(command, optional(alloc, "until-on", "YYYYMMDD", UNTIL_ON));
+    let command = until(alloc, command, UNTIL);
     with(command, ranged(alloc, "next", "N", 1, 1_000, NEXT))
 }
 
@@ -129,11 +140,12 @@ fn reach<'a>(alloc: Global) -> Result<Command<'a>, Error>
     let command = with(command, required(alloc, "from", "STOP", REACH_FROM));
     let command = with(command, required(alloc, "at", "HH:MM:SS", AT));
     let command = with(command, optional(alloc, "on", "YYYYMMDD", ON));
+    let command = until(alloc, command, REACH_UNTIL);
     let command = with(
         command,
         ranged(alloc, "within", "MINUTES", 0, 20_160, WITHIN),
     );
-    let command = with(command, optional(alloc, "format", "FORMAT", FORMAT));
+    let command = with(command, optional(alloc, "format", "FORMAT", REACH_FORMAT));
     ending(command, REACH_MORE)
 }
 

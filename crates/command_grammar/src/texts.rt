@@ -9,7 +9,7 @@ Example: tp scan --feed demo/feed-m --date 20240102 --from A --to D --at 08:00:0
 
 An answer is lines of ids. With --names, scan and ask print rides and walks with names, for people.
 With --format json, all commands but audit, migrate and merge print JSON. With --format geojson, stops,
-scan, reach, build, list, ask and serve print GeoJSON for a map.
+scan, reach, build, list, ask and serve print GeoJSON for a map. With --format csv, reach prints a table.
 
 A fault is a line on standard error. `tp help faults` lists the faults and the statuses.";
 
@@ -108,7 +108,17 @@ It prints a line for each stop that one reaches, `ID arrive DATE TIME rides N`: 
 the fewest rides with which one arrives then; by arrival, then in the order of stops.txt. The first is
 the stop itself, with no ride. With --within it prints only the stops that one reaches in that time.
 
+With --until it prints how long one is on the way, over all seconds from --at until then at which one may
+leave: `ID least S median S greatest S`, in seconds, in the order of stops.txt. It is `none` if one
+doesn't get there at half of the seconds, or at each of them. A stop is within a time if its least is.
+
 Example: tp reach --feed demo/feed-m --date 20240102 --from A --at 08:00:00 --within 30";
+
+pub(crate) const REACH_UNTIL: &str =
+    "Print how long one is on the way who leaves from --at until this time of the day";
+
+pub(crate) const REACH_FORMAT: &str =
+    "lines, json for machines, geojson for a map, or csv for a table";
 
 pub(crate) const REACH_FROM: &str = "The id of the stop to leave from";
 

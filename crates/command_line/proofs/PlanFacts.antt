@@ -20,7 +20,7 @@ use Rattle.command_line.proofs.DayFacts.{some_day}
 
 -- `first` is the first covered day, if the settings' text is one
 module _ (name : Text) (rows : List Row) (settings : Settings) (style : Style) (first : Option Date)
-    (has : HasSettings rows settings) (told : IsStyle rows style) (value : option_map ymd first ≡ date_of settings.date.now) where
+    (has : HasSettings rows settings) (told : IsStyle name rows style) (value : option_map ymd first ≡ date_of settings.date.now) where
   abbrev pub planned : Command → Plan
   planned named = record { settings = settings; first = some_day; command = named; style = style }
 

@@ -30,4 +30,4 @@ pub record HasSearchedStops (rows : List Row) (search : StopSearch) : Type 0 whe
   pub text : option_map (λ text. text.now) search.text ≡ first_of (codes "text") rows
   pub all : IsTrue search.all ↔ HasFlag rows (codes "all")
   pub header : IsTrue search.header ↔ HasFlag rows (codes "header")
-  pub style : IsStyle rows search.style
+  pub style : IsStyle (codes "stops") rows search.style

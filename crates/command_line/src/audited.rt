@@ -11,7 +11,7 @@ use clap::ArgMatches;
 use options::{flag_of, text_of};
 
 /// Which stored trees are audited.
-#[derive(Clone, Copy, Debug, PartialEq, Eq)]
+#[derive(Clone, Copy)]
 pub enum Audited<'a> {
     /// The tree of a stop, by the stop's id.
     Stop(&'a str),

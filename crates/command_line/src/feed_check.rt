@@ -13,7 +13,7 @@ use jiff::civil::Date;
 use options::{flag_of, text_of};
 
 /// A check of a feed as a whole.
-#[derive(Clone, Copy, Debug, PartialEq, Eq)]
+#[derive(Clone, Copy)]
 pub struct FeedCheck<'a> {
     /// The folder of the feed.
     pub feed: &'a str,

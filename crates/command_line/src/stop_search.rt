@@ -10,7 +10,7 @@ use clap::ArgMatches;
 use options::{flag_of, text_of};
 
 /// Which stops and stations are listed, and how.
-#[derive(Clone, Copy, Debug, PartialEq, Eq)]
+#[derive(Clone, Copy)]
 pub struct StopSearch<'a> {
     /// The folder of the feed.
     pub feed: &'a str,
@@ -33,6 +33,6 @@ pub(crate) fn stops_of<'m, 'a>(found: &'m ArgMatches<'a>) -> Option<StopSearch<'
         text: text_of(found, "text"),
         all: flag_of(found, "all"),
         header: flag_of(found, "header"),
-        style: style_of(found)?,
+        style: style_of("stops", found)?,
     })
 }

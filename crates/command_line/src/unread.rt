@@ -9,7 +9,7 @@ use jiff::civil::Date;
 use options::text_of;
 
 /// An option and the text that the words have for it.
-#[derive(Clone, Copy, Debug, PartialEq, Eq)]
+#[derive(Clone, Copy)]
 pub struct Word<'a> {
     /// The name of the option, without dashes.
     pub option: &'static str,
@@ -17,7 +17,7 @@ pub struct Word<'a> {
 }
 
 /// Why words give no job.
-#[derive(Clone, Copy, Debug, PartialEq, Eq)]
+#[derive(Clone, Copy)]
 pub enum Unread<'a> {
     /// What is to be shown was written, and goes with this status.
     Shown(u8),
@@ -28,7 +28,7 @@ pub enum Unread<'a> {
 }
 
 /// Why the words of a command give none.
-#[derive(Clone, Copy, Debug, PartialEq, Eq)]
+#[derive(Clone, Copy)]
 pub(crate) enum WordFault {
     /// No command has the name, or a word isn't there.
     NoJob,

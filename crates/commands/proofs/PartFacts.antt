@@ -1,6 +1,5 @@
 -- The parts of a merge: one more is taken, and a fault of a part doesn't say that a call on the merge's file failed.
-use Rattle.std.proofs.Common.{◌≡◌, ◌∙◌, ℕ, ◌<◌, ◌+◌, List, [], ◌∷◌, ◌++◌, All, Option, length, map, take, get_or, refl, sym, ap, subst, arith, inl, inr, append-nil, length-append}
-use Rattle.std.specs.List.{AllZip, flat_map}
+use Rattle.std.proofs.Common.{◌≡◌, ◌∙◌, ℕ, ◌<◌, ◌+◌, List, [], ◌∷◌, ◌++◌, All, Option, length, map, take, get_or, sym, ap, subst, arith, inl, inr, append-nil, length-append}
 use Rattle.std.proofs.Math.Seq.{get_or-append_seam}
 use Rattle.std.proofs.lemmas.List.{get_or_append_left, map-append, take_more}
 use Rattle.std.proofs.lemmas.List.Concat.{flat_map-append}

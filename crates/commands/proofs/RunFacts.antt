@@ -1,5 +1,5 @@
 -- What a run leaves, by its steps.
-use Rattle.std.proofs.Common.{◌≡◌, ◌↔◌, ℕ, Bool, ◌&&◌, List, Some, Result, IfErr, MatchResult, refl, subst}
+use Rattle.std.proofs.Common.{◌↔◌, ℕ, Bool, ◌&&◌, List, Some, Result, IfErr, MatchResult, refl, subst}
 use Rattle.std.specs.Io.KnownBytes.{Keeps}
 use Rattle.command_line.specs.declared.format.Style.{Style}
 use Rattle.command_line.specs.Jobs.{only_reads}

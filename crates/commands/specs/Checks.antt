@@ -1,5 +1,5 @@
 -- What a check prints, and which stops are listed.
-use Rattle.std.specs.Prelude.{◌≡◌, ◌⊎◌, ◌<◌, ℕ, Bool, true, false, List, Option, None, Result, Ok, Err, MatchResult, String, string_bytes, vec_len}
+use Rattle.std.specs.Prelude.{◌≡◌, ◌⊎◌, ◌<◌, ℕ, Bool, true, false, List, None, Result, Ok, Err, MatchResult, String, string_bytes, vec_len}
 use Rattle.std.specs.Global.{Global}
 use Rattle.command_line.specs.declared.feed_check.FeedCheck.{FeedCheck}
 use Rattle.command_line.specs.declared.format.Style.{Style}

@@ -1,5 +1,5 @@
 -- What each command may find, or which fault it has.
-use Rattle.std.specs.Prelude.{◌≡◌, ◌↔◌, ◌⊎◌, ℕ, Bool, List, Option, None, Some, Result, Err, IfErr, MatchResult, map, option_map}
+use Rattle.std.specs.Prelude.{◌≡◌, ◌↔◌, ◌⊎◌, ℕ, Bool, List, Option, None, Some, Result, Err, IfErr, MatchResult, map}
 use Rattle.disk_model.specs.Disk.{State, Grew}
 use Rattle.disk_model.specs.Image.{IsOutcome}
 use Rattle.disk_model.specs.Moments.{LeavesOnly}
@@ -16,6 +16,7 @@ use Rattle.answering.specs.Answers.{ArePoints, IsAnswered}
 use Rattle.answering.specs.Refusals.{IsUnanswered, NoneMissing}
 use Rattle.connection_lines.specs.declared.connections.Connections.{Connections}
 use Rattle.told_reach.specs.Reaches.{IsReach, IsUnreached, ReportsReach}
+use Rattle.told_reach.specs.Times.{AreTimes, IsUntimed, ReportsTimes}
 use Rattle.told_connections.specs.Times.{AreTimesOf}
 use Rattle.told_connections.specs.Windows.{IsAnsweredWithin, IsUnansweredWithin}
 use Rattle.told_connections.specs.declared.times.Times.{Times}
@@ -34,7 +35,6 @@ use Rattle.store_terms.specs.Stores.{IsUntold, form_over}
 use Rattle.command_line.specs.declared.audited.Audited.{Audited}
 use Rattle.command_line.specs.declared.audited.Audited.TheVariants as audits
 use Rattle.command_line.specs.declared.format.Style.{Style}
-use Rattle.command_line.specs.declared.minutes.Minutes.{Minutes}
 use Rattle.command_line.specs.declared.job.Task.{Task}
 use Rattle.command_line.specs.declared.job.Task.TheVariants as tasks
 use Rattle.commands.specs.Files.{IsKeptOut, IsReady}
@@ -76,12 +76,17 @@ abbrev pub IsScanned : BasisData → ℕ → Bool → Question → Option Within
 IsScanned basis k wanted question None found = IsStopAnswer basis question (ArePoints basis k wanted) found
 IsScanned basis k wanted question (Some within) found = IsWindowAnswer basis k wanted question within found
 
--- where one can be: the stops that one reaches from the question's first place, which take no store
-abbrev pub IsReachFound : BasisData → ℕ → Question → Option Minutes → Result Found Fault → Type 0
-IsReachFound basis k question minutes found =
+-- where one can be: the stops that one reaches from the question's first place; or how long one is on the way to them, if the question asks
+-- for a window
+abbrev pub IsReachFound : BasisData → ℕ → Question → Option ℕ → Option Within → Result Found Fault → Type 0
+IsReachFound basis k question minutes None found =
     (moment : Option ℕ) × IsMoment basis.cover question.day question.seconds moment
-    × MatchResult found (FindsReport (ReportsReach (IsReach basis k question.from.now moment (option_map (λ m. m.number) minutes))))
+    × MatchResult found (FindsReport (ReportsReach (IsReach basis k question.from.now moment minutes)))
     (IsUnreached basis question.from.now moment)
+IsReachFound basis k question minutes (Some within) found =
+    (times : Times) × AreTimesOf basis question within times
+    × MatchResult found (FindsReport (ReportsTimes (AreTimes basis k question.from.now times.moment times.until minutes)))
+    (IsUntimed basis question.from.now times.moment times.until)
 
 -- what an audit of a stored tree, or of all of them, may find
 abbrev pub IsAuditDone : BasisData → ℕ → Audited → State → State → Result Found Fault → Type 0

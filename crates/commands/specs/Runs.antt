@@ -1,5 +1,5 @@
 -- What a run of a plan leaves.
-use Rattle.std.specs.Prelude.{◌≡◌, ◌⊎◌, ℕ, false, List, Option, None, Result}
+use Rattle.std.specs.Prelude.{◌≡◌, ◌⊎◌, ℕ, false, List, Option, None, Result, option_map}
 use Rattle.gtfs_tables.specs.Feed.{Feed}
 use Rattle.command_line.specs.declared.format.Style.{Style}
 use Rattle.command_line.specs.declared.job.Command.{Command}
@@ -36,7 +36,7 @@ IsSearchFound v style basis k (searches.Direct question) found disk old new =
 IsSearchFound v style basis k (searches.Scan question legs) found disk old new =
     IsScanned basis k (tells_legs style legs) question question.within found × (disk ≡ None) × (new ≡ old)
 IsSearchFound v style basis k (searches.Reach question minutes) found disk old new =
-    IsReachFound basis k question minutes found × (disk ≡ None) × (new ≡ old)
+    IsReachFound basis k question (option_map (λ m. m.number) minutes) question.within found × (disk ≡ None) × (new ≡ old)
 IsSearchFound v style basis k (searches.Stored store task) found disk old new =
     IsOverStore v style basis k store.now task found disk old new
 

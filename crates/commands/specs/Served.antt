@@ -1,5 +1,5 @@
 -- What comes of replying to the questions of an input, while trees are built.
-use Rattle.std.specs.Prelude.{◌≡◌, ◌↔◌, ◌⊎◌, ℕ, Bool, true, false, List, [], ◌∷◌, ◌++◌, MatchBool, Option, None, Some, Result, Ok, Err, IfErr, MatchResult, codes}
+use Rattle.std.specs.Prelude.{◌≡◌, ◌↔◌, ◌⊎◌, ℕ, Bool, true, false, List, [], ◌++◌, MatchBool, Option, None, Some, Result, Ok, Err, IfErr, MatchResult}
 use Rattle.std.specs.Io.KnownBytes.{Keeps}
 use Rattle.answer_lines.specs.Reports.{built_status as of_built, count_line}
 use Rattle.answer_lines.specs.declared.report.Built.{Built}

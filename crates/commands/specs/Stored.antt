@@ -1,5 +1,5 @@
 -- What is done over the file of a store.
-use Rattle.std.specs.Prelude.{◌≡◌, ◌↔◌, ◌⊎◌, ℕ, List, Bool, true, false, ◌&&◌, MatchBool, Option, Some, Result, Ok, Err, IfErr}
+use Rattle.std.specs.Prelude.{◌≡◌, ◌↔◌, ◌⊎◌, ℕ, List, Bool, ◌&&◌, MatchBool, Option, Some, Result, Ok, Err, IfErr}
 use Rattle.section_store.specs.Beginnings.{CanBegin}
 use Rattle.section_store.specs.Sections.{Form, IsFresh}
 use Rattle.command_line.specs.declared.format.Style.{Style}

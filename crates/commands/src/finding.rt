@@ -1,7 +1,7 @@
 //! What a command finds: at the timetable, or over the file of a store.
 
 ghost use Rattle.std.specs.Prelude.{◌≡◌, option_map};
-ghost use Rattle.commands.specs.Rules.{IsScanned};
+ghost use Rattle.commands.specs.Rules.{IsReachFound, IsScanned};
 ghost use Rattle.commands.specs.Runs.{IsSearchFound};
 ghost use Rattle.commands.specs.World.{view_of};
 
@@ -20,7 +20,7 @@ use streams::Stream;
 use tellers::tells_legs;
 use timetable::Rides;
 use told_connections::{scan_within, times_of};
-use told_reach::reach_from;
+use told_reach::{reach_from, times_from};
 
 // What the rounds find: the best arrivals, or the connections if the question asks for them.
 fn scanned<'a>(
@@ -56,6 +56,31 @@ fn number_of(minutes: Option<Minutes>) -> Option<u16>
     }
 }
 
+// Where one can be, or how long one is on the way if the question asks for a window.
+fn reached<'a>(
+    alloc: Global,
+    basis: &'a Basis,
+    rides: Rides,
+    question: &Question<'a>,
+    minutes: Option<u16>,
+) -> Result<Found<'a>, Fault<'a>>
+    ensures { IsReachFound basis.now rides question.now minutes question.now.within result }
+{
+    match question.within {
+        None => {
+            let moment = basis.moment(question.day, question.seconds);
+            let reached = reach_from(alloc, basis, question.from, moment, minutes, rides);
+            found_report(reached)
+        }
+        Some(within) => {
+            let times = times_of(basis, question, within);
+            let (moment, until) = (times.moment, times.until);
+            let timed = times_from(alloc, basis, question.from, moment, until, minutes, rides);
+            found_report(timed)
+        }
+    }
+}
+
 /// Finds what a command searches for, to be told in the style: at the timetable, or over the file of a store. The disk of the store comes
 /// back if it was opened. Standard error says if a new store is begun.
 pub fn find<'a, S: System, E: Write + Drop>(
@@ -82,10 +107,8 @@ pub fn find<'a, S: System, E: Write + Drop>(
             (scanned(alloc, basis, rides, question, legs), None)
         }
         Search::Reach { question, minutes } => {
-            let moment = basis.moment(question.day, question.seconds);
             let minutes = number_of(*minutes);
-            let reached = reach_from(alloc, basis, question.from, moment, minutes, rides);
-            (found_report(reached), None)
+            (reached(alloc, basis, rides, question, minutes), None)
         }
         Search::Stored { store, task } => {
             let file = StoreFile {

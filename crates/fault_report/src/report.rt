@@ -9,7 +9,7 @@ use gtfs_rows::FeedFault;
 use std::fmt;
 
 /// A fault of a feed, and the lines that are added to its own: what the feed has at its place.
-#[derive(Debug, Drop)]
+#[derive(Drop)]
 pub struct ListedFault {
     pub fault: FeedFault,
     /// Each line has its end; none if there is nothing to add.
@@ -18,7 +18,7 @@ pub struct ListedFault {
 
 /// Faults of a feed, shown as the program prints them: of each the lines that standard error has of one fault, and `more N` if there are
 /// N more.
-#[derive(Debug, Drop)]
+#[derive(Drop)]
 pub struct FaultReport {
     pub faults: Vec<ListedFault>,
     pub more: usize,

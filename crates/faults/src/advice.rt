@@ -10,9 +10,10 @@ use pattern_query::Refusal;
 use recovery::RecoverFault;
 use service_days::DayFault;
 
-pub const BAD_DATE: &str = "--date and --on take a day of the calendar, YYYYMMDD, as 20240102.";
+pub const BAD_DATE: &str =
+    "--date, --on and --until-on take a day of the calendar, YYYYMMDD, as 20240102.";
 
-pub const BAD_TIME: &str = "--at takes a time up to 167:59:59, HH:MM:SS, as 08:00:00.";
+pub const BAD_TIME: &str = "--at and --until take a time up to 167:59:59, HH:MM:SS, as 08:00:00.";
 
 pub const BAD_RANGE: &str =
     "--days is 1 to 14, and the covered days lie from 1900-01-01 to 9998-12-31.";

@@ -1,8 +1,8 @@
 //! The stops that one reaches, as JSON and as GeoJSON (RFC 7946).
 
-use crate::stop_map::write_spot;
+use crate::stop_map::{begin_stop, end_stop};
 use itinerary_texts::{
-    Place, Time, begin_feature, begin_features, end_features, write_iso, write_place, write_time,
+    Place, Time, begin_features, end_features, write_iso, write_place, write_time,
 };
 use json_writer::JsonWriter;
 use std::alloc::{AllocError, Global};
@@ -64,19 +64,11 @@ pub fn reach_json(alloc: Global, reach: &ReachText<'_>) -> Result<String, AllocE
 
 // Writes a stop that one reaches as a feature. Its minutes are rounded up.
 fn write_feature(out: &mut JsonWriter, reached: &ReachedText) {
-    let place = &reached.place;
-    begin_feature(out);
-    write_spot(out, place);
-    out.name("properties");
-    out.begin_object();
-    out.member("id", &place.id);
-    out.member("name", &place.name);
-    out.member("platform", &place.platform);
+    begin_stop(out, &reached.place);
     write_iso(out, "arrival", &reached.arrival);
     out.member("rides", &reached.rides);
     out.member("minutes", &reached.seconds.div_ceil(60));
-    out.end_object();
-    out.end_object();
+    end_stop(out);
 }
 
 /// The stops that one reaches as GeoJSON, on one line, without a line's end: a feature for each, in their order. It fails only if memory

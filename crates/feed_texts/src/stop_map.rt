@@ -5,8 +5,8 @@ use itinerary_texts::{Place, begin_feature, begin_features, end_features, positi
 use json_writer::JsonWriter;
 use std::alloc::{AllocError, Global};
 
-/// Writes where a stop is (RFC 7946, section 3.1.2): nowhere if the feed has no position of it.
-pub(crate) fn write_spot(out: &mut JsonWriter, place: &Place) {
+// Writes where a stop is (RFC 7946, section 3.1.2): nowhere if the feed has no position of it.
+fn write_spot(out: &mut JsonWriter, place: &Place) {
     let Some(position) = position_of(place) else {
         out.null();
         return;
@@ -17,8 +17,8 @@ pub(crate) fn write_spot(out: &mut JsonWriter, place: &Place) {
     out.end_object();
 }
 
-// Writes a stop.
-fn write_stop(out: &mut JsonWriter, place: &Place) {
+/// Begins the feature of a stop: its point, and its id and names, which are the first of its properties.
+pub(crate) fn begin_stop(out: &mut JsonWriter, place: &Place) {
     begin_feature(out);
     write_spot(out, place);
     out.name("properties");
@@ -26,6 +26,10 @@ fn write_stop(out: &mut JsonWriter, place: &Place) {
     out.member("id", &place.id);
     out.member("name", &place.name);
     out.member("platform", &place.platform);
+}
+
+/// Ends the properties of a stop, and its feature.
+pub(crate) fn end_stop(out: &mut JsonWriter) {
     out.end_object();
     out.end_object();
 }
@@ -34,7 +38,8 @@ fn write_stop(out: &mut JsonWriter, place: &Place) {
 fn write_stops(out: &mut JsonWriter, stops: &[ListedStop]) {
     begin_features(out);
     for stop in stops {
-        write_stop(out, &stop.place);
+        begin_stop(out, &stop.place);
+        end_stop(out);
     }
     end_features(out);
 }

@@ -6,6 +6,7 @@ mod reached;
 mod replies;
 mod teller;
 mod texts;
+mod timed;
 
 pub use fault_places::FaultParts;
 pub use replies::Lookup;

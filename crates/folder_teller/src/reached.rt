@@ -3,7 +3,7 @@
 use crate::texts::line;
 use answer_lines::{Reach, ReachedStop};
 use command_line::Format;
-use feed_texts::{ReachText, ReachedText, reach_geojson, reach_json};
+use feed_texts::{ReachText, ReachedText, reach_csv, reach_geojson, reach_json};
 use std::alloc::{AllocError, Global};
 use told_names::{NameSheets, Names};
 use zone_clock::Clock;
@@ -51,6 +51,7 @@ fn all_of(
 fn text_of(alloc: Global, format: Format, told: &ReachText<'_>) -> Result<String, AllocError> {
     match format {
         Format::GeoJson => line(reach_geojson(alloc, told)?),
+        Format::Csv => reach_csv(alloc, told),
         Format::Names | Format::Json => line(reach_json(alloc, told)?),
     }
 }

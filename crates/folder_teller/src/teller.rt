@@ -6,7 +6,8 @@ use crate::found::{feed_text, found_text, listed_by_ids};
 use crate::reached::reach_text;
 use crate::replies::{Lookup, MEMORY_REFUSED, reply_text};
 use crate::texts::{asked_by, line, stops_text, told_text};
-use answer_lines::{Answer, Reach, Report};
+use crate::timed::times_text;
+use answer_lines::{Answer, Reach, Report, TimedStops};
 use command_line::{Format, Plan, StopSearch};
 use connection_lines::Connections;
 use fault_places::{FaultParts, fault_json, hint, hint_at, list_json, parts_of_all};
@@ -108,6 +109,20 @@ impl<'r> FolderTeller<'r> {
         reach_text(alloc, format, command, clock, &sheets, reach)
     }
 
+    // The text of the travel times to stops, with the names that the folder has.
+    fn timed(
+        &self,
+        alloc: Global,
+        format: Format,
+        command: &str,
+        settings: &Settings<'_>,
+        times: &TimedStops<'_>,
+    ) -> Result<String, AllocError> {
+        let sheets = self.sheets(alloc, settings.feed)?;
+        let clock = Clock::of(settings.zone);
+        times_text(alloc, format, command, clock, &sheets, times)
+    }
+
     // The stops and stations that are searched for, as they are printed: none if there is no sheet of stops.
     fn found(&self, alloc: Global, search: &StopSearch<'_>) -> Result<Option<String>, AllocError> {
         let sheets = NameSheets {
@@ -165,6 +180,7 @@ impl Teller for FolderTeller<'_> {
     ) -> Result<String, AllocError> {
         let built = match report {
             Report::Reached(reach) => return self.reach(alloc, format, command, settings, reach),
+            Report::Timed(times) => return self.timed(alloc, format, command, settings, times),
             Report::Built(built) => Some(BuildCount {
                 stored: built.stored,
                 of: built.of,

@@ -39,7 +39,7 @@ pub(crate) fn line(text: String) -> Result<String, AllocError> {
     Ok(text)
 }
 
-// The text of an itinerary in a format.
+// The text of an itinerary in a format. No command that answers with one takes CSV, so that is JSON here.
 fn itinerary_text(
     alloc: Global,
     format: Format,
@@ -47,7 +47,7 @@ fn itinerary_text(
 ) -> Result<String, AllocError> {
     match format {
         Format::Names => people_text(alloc, itinerary),
-        Format::Json => line(itinerary_json(alloc, itinerary)?),
+        Format::Json | Format::Csv => line(itinerary_json(alloc, itinerary)?),
         Format::GeoJson => line(geojson(alloc, itinerary)?),
     }
 }
@@ -61,7 +61,7 @@ pub(crate) fn told_text(
     itinerary_text(alloc, format, &itinerary)
 }
 
-/// A list of stops in a format: for people as JSON too.
+/// A list of stops in a format: for people as JSON too, and as CSV, which no command asks for.
 pub(crate) fn stops_text(
     alloc: Global,
     format: Format,
@@ -69,6 +69,6 @@ pub(crate) fn stops_text(
 ) -> Result<String, AllocError> {
     match format {
         Format::GeoJson => line(stop_list_geojson(alloc, list)?),
-        Format::Names | Format::Json => line(stop_list_json(alloc, list)?),
+        Format::Names | Format::Json | Format::Csv => line(stop_list_json(alloc, list)?),
     }
 }

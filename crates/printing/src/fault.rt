@@ -15,7 +15,7 @@ use streams::Stream;
 use tellers::{Given, Teller};
 
 /// In which style a command reports what it came to, and what its words say that a fault may be about.
-#[derive(Clone, Copy, Debug)]
+#[derive(Clone, Copy)]
 pub struct Voice<'a> {
     pub style: Style,
     pub given: Given<'a>,

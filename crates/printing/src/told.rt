@@ -11,7 +11,7 @@ use feed_report::FeedReport;
 use std::fmt;
 
 /// What a command tells on standard output, shown as its lines, each with its end.
-#[derive(Debug, Drop)]
+#[derive(Drop)]
 pub enum Told<'a> {
     /// What a feed has.
     Feed(FeedReport),

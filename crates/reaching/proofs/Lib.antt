@@ -1,3 +1,9 @@
 mod SoonestFacts
 mod SortFacts
 mod ListFacts
+mod TallyFacts
+mod SecondFacts
+mod StepFacts
+mod WindowFacts
+mod EventFacts
+mod TimesFacts

@@ -1,5 +1,5 @@
 -- The list of the stops that are reached, as one more stop is looked at.
-use Rattle.std.proofs.Common.{Option, ◌≡◌, ℕ, ◌+◌, ◌<◌, ◌≤◌, ◌⊎◌, List, [], ◌∷◌, ◌++◌, length, get_or, Contains, arith, refl, sym, ◌∙◌, ap, ap₂, subst, inl, inr, IsPermutation}
+use Rattle.std.proofs.Common.{Option, ◌≡◌, ℕ, ◌+◌, ◌<◌, List, [], ◌∷◌, ◌++◌, arith, sym, ap₂, subst, inl, inr, IsPermutation}
 use Rattle.std.specs.List.{All, AllPairs}
 use Rattle.std.proofs.lemmas.Bool.{cases_lt}
 use Rattle.std.proofs.lemmas.List.Elements.{All-push, Contains-append_left, Contains-push}
@@ -9,7 +9,7 @@ use Rattle.timetable.specs.declared.parts.Numbers.{Numbers}
 use Rattle.timetable.specs.Table.{Table, stops_of}
 use Rattle.timetable.specs.Journeys.{Reaches}
 use Rattle.reaching.specs.Listed.{AreListed}
-use Rattle.reaching.specs.Reached.{AreAllReached, AreReached, IsBefore, IsBy, IsReached, IsSoonest, numbers}
+use Rattle.reaching.specs.Reached.{AreReached, IsBefore, IsBy, IsReached, IsSoonest, numbers}
 use Rattle.reaching.specs.declared.reached.Reached.{Reached}
 
 -- a set has one soonest numbers

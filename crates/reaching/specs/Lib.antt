@@ -1,2 +1,4 @@
 pub mod Listed
 pub mod Reached
+pub mod Steps
+pub mod TravelTimes

@@ -25,7 +25,7 @@ use std::thread::Threads;
 use stop_parts::Part;
 
 /// What came of the questions of an input, and of the build beside them.
-#[derive(Debug, Drop)]
+#[derive(Drop)]
 pub struct Served<'a> {
     /// How the replies came to their end.
     pub end: End,

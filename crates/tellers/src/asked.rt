@@ -6,7 +6,7 @@ use options::Settings;
 use question_lines::Question;
 
 /// What an answer is an answer to.
-#[derive(Clone, Copy, Debug, PartialEq, Eq)]
+#[derive(Clone, Copy)]
 pub struct Asked<'p, 'a> {
     pub settings: Settings<'p>,
     /// The name of the command.

@@ -7,14 +7,14 @@ use command_line::{Command, Plan, Search, Task, Word};
 use question_lines::Question;
 
 /// The places of a question, by their ids.
-#[derive(Clone, Copy, Debug, PartialEq, Eq)]
+#[derive(Clone, Copy)]
 pub struct Places<'a> {
     pub from: &'a str,
     pub to: &'a str,
 }
 
 /// What the words say that a fault may be about.
-#[derive(Clone, Copy, Debug, PartialEq, Eq)]
+#[derive(Clone, Copy)]
 pub struct Given<'a> {
     /// The folder of the feed; none for a fault of the words.
     pub feed: Option<&'a str>,

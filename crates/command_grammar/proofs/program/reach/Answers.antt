@@ -10,11 +10,13 @@ returns c =
     c.ending.ensures _ (
     c.with-command-5.ensures _ _ (
     c.with-command-4.ensures _ _ (
+    c.until-command.ensures _ (
     c.with-command-3.ensures _ _ (
     c.with-command-2.ensures _ _ (
     c.with-command.ensures _ _ made c.required.ensures.rule c.required.ensures.local
     ) c.required-2.ensures.rule c.required-2.ensures.local
     ) c.optional.ensures.rule c.optional.ensures.local
+    )
     ) c.ranged.ensures.rule c.ranged.ensures.local
     ) c.optional-2.ensures.rule c.optional-2.ensures.local
     )

@@ -1,9 +1,4 @@
 use Rattle.command_grammar.proofs.program.windowed.Goals as goal
 
 pub returns : goal.returns
-returns c = λ app made.
-    c.with.ensures _ _ (
-    c.with-command-2.ensures _ _ (
-    c.with-command.ensures _ _ made c.optional.ensures.rule c.optional.ensures.local
-    ) c.optional-2.ensures.rule c.optional-2.ensures.local
-    ) c.ranged.ensures.rule c.ranged.ensures.local
+returns c = λ app made. c.with.ensures _ _ (c.until-command.ensures _ made) c.ranged.ensures.rule c.ranged.ensures.local

@@ -1,5 +1,5 @@
 use Rattle.std.proofs.Common.{◌≡◌, ◌∙◌, List, map, None, Some, Bor, option_map, codes, sym, ap}
-use Rattle.clap.specs.Words.{Text, all_of, first_of, rows_of, found_of}
+use Rattle.clap.specs.Words.{Text, all_of, rows_of, found_of}
 use Rattle.clap.proofs.WalkLemmas.{raw_values-rows}
 use Rattle.command_line.specs.MergeWords.{PutsTogether}
 use Rattle.command_line.proofs.MergeFacts.{among, if_none, no_store, none_named, others}

@@ -1,9 +1,8 @@
-use Rattle.std.proofs.Common.{ℕ, Option, IfOk, option_map, refl, subst}
+use Rattle.std.proofs.Common.{refl}
 use Rattle.answering.specs.Answers.{IsAnswered, IsDirect}
 use Rattle.answering.specs.Refusals.{IsUnanswered, NoneMissing}
 use Rattle.feed_basis.specs.Ids.{stop_alone}
-use Rattle.told_reach.specs.Reaches.{IsReach, IsUnreached, ReportsReach}
-use Rattle.commands.proofs.FoundFacts.{answer_found, matched, report_found}
+use Rattle.commands.proofs.FoundFacts.{answer_found, matched}
 use Rattle.commands.proofs.finding.find.Goals as goal
 
 pub returns-in-Direct : goal.returns-in-Direct
@@ -21,15 +20,4 @@ pub returns-in-Scan : goal.returns-in-Scan
 returns-in-Scan g c = rw (c.in-Scan.is, ← c.tells_legs-legs.ensures) (c.scanned.ensures, refl, refl)
 
 pub returns-in-Reach : goal.returns-in-Reach
-returns-in-Reach g c =
-    let basis = c.args.basis.now in
-    let moment = c.moment-moment-in-Reach.result in
-    let question = c.in-Reach.question in
-    let reached = c.reach_from-reached.result in
-    let right = ReportsReach (IsReach basis c.args.rides question.from.now moment (option_map (λ m. m.number) c.in-Reach.minutes)) in
-    let wrong = IsUnreached basis question.from.now moment in
-    let is = subst (λ (minutes : Option ℕ). IfOk reached (ReportsReach (IsReach basis c.args.rides question.from.now moment minutes)))
-    c.number_of-minutes.ensures c.reach_from-reached.ensures.reach in
-    let found = report_found reached c.found_report.result right wrong c.found_report.ensures
-    (matched reached right wrong is c.reach_from-reached.ensures.refusal) in
-    rw c.in-Reach.is ((moment, c.moment-moment-in-Reach.ensures, found), refl, refl)
+returns-in-Reach g c = rw (c.in-Reach.is, ← c.number_of-minutes.ensures) (c.reached.ensures, refl, refl)

@@ -1,5 +1,4 @@
-use Rattle.std.proofs.Common.{◌≡◌, ℕ, List, IfErr, map, refl, subst, inl, inr}
-use Rattle.disk_model.specs.Disk.{State}
+use Rattle.std.proofs.Common.{ℕ, List, IfErr, map, refl, subst, inl, inr}
 use Rattle.faults.specs.declared.fault.Fault.{Fault}
 use Rattle.store_building.specs.Builds.{ReportsBuilt}
 use Rattle.store_merging.specs.Merges.{IsMerged, OnlyFailing as PartsOnlyFailing}

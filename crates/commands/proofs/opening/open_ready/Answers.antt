@@ -1,4 +1,4 @@
-use Rattle.std.proofs.Common.{◌≡◌, refl, inl, inr, subst}
+use Rattle.std.proofs.Common.{refl, inl, inr, subst}
 use Rattle.timetable.specs.Table.{Table}
 use Rattle.section_store.specs.Sections.{form_of}
 use Rattle.recovery.specs.Kinds.{IsOfKind}

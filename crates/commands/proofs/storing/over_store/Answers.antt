@@ -1,4 +1,4 @@
-use Rattle.std.proofs.Common.{◌≡◌, ◌∙◌, ◌&&◌, Bool, true, false, sym, subst, inr}
+use Rattle.std.proofs.Common.{◌≡◌, ◌∙◌, ◌&&◌, Bool, sym, subst, inr}
 use Rattle.commands.specs.Files.{IsNoticed}
 use Rattle.command_line.specs.Jobs.{only_reads}
 use Rattle.commands.specs.World.{view_of}

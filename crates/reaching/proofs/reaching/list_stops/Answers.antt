@@ -1,4 +1,4 @@
-use Rattle.std.proofs.Common.{Option, ◌≡◌, ◌≤◌, ◌<◌, ℕ, List, [], ◌+◌, arith, sym, ◌∙◌, subst, MatchOption}
+use Rattle.std.proofs.Common.{Option, ◌≡◌, ℕ, List, ◌+◌, sym, ◌∙◌, subst, MatchOption}
 use Rattle.std.proofs.lemmas.Bool.{false≢true}
 use Rattle.timetable.specs.declared.parts.Numbers.{Numbers}
 use Rattle.timetable.specs.Front.{AreFront}

@@ -1,0 +1,67 @@
+//! How long one is on the way, in formats. Each call fails only if memory runs out.
+
+use crate::texts::line;
+use answer_lines::{TimedStop, TimedStops};
+use command_line::Format;
+use feed_texts::{TimedText, TimesText, times_csv, times_geojson, times_json};
+use std::alloc::{AllocError, Global};
+use told_names::{NameSheets, Names};
+use zone_clock::Clock;
+
+// The ids of the stop that one leaves and of those that one goes to.
+fn ids_of<'r>(alloc: Global, times: &TimedStops<'r>) -> Result<Vec<&'r str>, AllocError> {
+    let mut ids = Vec::with_capacity(alloc, times.stops.len())?;
+    ids.push(times.from)?;
+    for timed in &times.stops {
+        ids.push(timed.stop)?;
+    }
+    Ok(ids)
+}
+
+// The stops with their names.
+fn all_of(
+    alloc: Global,
+    names: &Names,
+    stops: &[TimedStop<'_>],
+) -> Result<Vec<TimedText>, AllocError> {
+    let mut all = Vec::with_capacity(alloc, stops.len())?;
+    for timed in stops {
+        all.push(TimedText {
+            place: names.place(alloc, timed.stop)?,
+            least: timed.least,
+            median: timed.median,
+            greatest: timed.greatest,
+        })?;
+    }
+    Ok(all)
+}
+
+// The text in a format. The format for people has no form of its own here, so it is JSON.
+fn text_of(alloc: Global, format: Format, told: &TimesText<'_>) -> Result<String, AllocError> {
+    match format {
+        Format::GeoJson => line(times_geojson(alloc, told)?),
+        Format::Csv => times_csv(alloc, told),
+        Format::Names | Format::Json => line(times_json(alloc, told)?),
+    }
+}
+
+/// The travel times to stops in a format, with what the sheets have of these.
+pub(crate) fn times_text(
+    alloc: Global,
+    format: Format,
+    command: &str,
+    clock: Clock,
+    sheets: &NameSheets,
+    times: &TimedStops<'_>,
+) -> Result<String, AllocError> {
+    let ids = ids_of(alloc, times)?;
+    let names = Names::of(alloc, sheets, &ids, &[])?;
+    let told = TimesText {
+        command,
+        from: names.place(alloc, times.from)?,
+        first: clock.time(times.first),
+        last: clock.time(times.last),
+        stops: all_of(alloc, &names, &times.stops)?,
+    };
+    text_of(alloc, format, &told)
+}
