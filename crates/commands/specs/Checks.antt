@@ -7,8 +7,8 @@ use Rattle.command_line.specs.declared.format.Style.TheVariants as styles
 use Rattle.command_line.specs.declared.stop_search.StopSearch.{StopSearch}
 use Rattle.faults.specs.declared.fault.Fault.{Fault}
 use Rattle.faults.specs.declared.fault.Fault.TheVariants as faults
-use Rattle.fault_report.specs.Listed.{IsReportOf}
-use Rattle.fault_report.specs.declared.report.FaultReport.{FaultReport}
+use Rattle.printing.specs.Listed.{IsReportOf}
+use Rattle.printing.specs.declared.report.FaultReport.{FaultReport}
 use Rattle.feed_faults.specs.Files.{faults_of}
 use Rattle.feed_faults.specs.Lists.{Lists}
 use Rattle.file_faults.specs.declared.list.FaultList.{FaultList}
@@ -19,8 +19,8 @@ use Rattle.gtfs_rows.specs.Faults.{Explains}
 use Rattle.gtfs_tables.specs.Feed.{Feed}
 use Rattle.printing.specs.declared.told.Told.{Told}
 use Rattle.printing.specs.declared.told.Told.TheVariants as tolds
-use Rattle.tellers.specs.Given.{folder_given}
-use Rattle.tellers.specs.Tellings.{IsStopsFault, Telling}
+use Rattle.printing.specs.Given.{folder_given}
+use Rattle.printing.specs.Tellings.{IsStopsFault, Telling}
 use Rattle.commands.specs.World.{World}
 use denote.Ref.{Bor}
 

@@ -12,7 +12,7 @@ use Rattle.printing.specs.declared.told.Told.{Told}
 use Rattle.printing.specs.declared.told.Told.TheVariants as tolds
 use Rattle.faults.specs.declared.fault.Fault.{Fault}
 use Rattle.faults.specs.declared.fault.Fault.TheVariants as faults
-use Rattle.tellers.specs.Tellings.{Telling}
+use Rattle.printing.specs.Tellings.{Telling}
 use Rattle.commands.specs.declared.found.Found.{Found}
 use Rattle.commands.specs.declared.found.Found.TheVariants as founds
 

@@ -21,12 +21,13 @@ use Rattle.told_connections.specs.Times.{AreTimesOf}
 use Rattle.told_connections.specs.Windows.{IsAnsweredWithin, IsUnansweredWithin}
 use Rattle.told_connections.specs.declared.times.Times.{Times}
 use Rattle.store_answers.specs.Asked.{IsStoredAnswer, IsStoredRefusal}
-use Rattle.stored_connections.specs.Stored.{IsStoredRefusalWithin, IsStoredWindow}
+use Rattle.store_answers.specs.Windowed.{IsStoredRefusalWithin, IsStoredWindow}
 use Rattle.store_answers.specs.Audited.{IsAllAudited, IsAudited, IsUnaudited}
-use Rattle.store_building.specs.Builds.{IsBuilt, IsUnbuilt, ReportsBuilt}
+use Rattle.store_building.specs.Builds.{IsBuilt, IsUnbuilt}
+use Rattle.store_terms.specs.Counts.{ReportsBuilt}
 use Rattle.store_answers.specs.Listings.{IsListed}
 use Rattle.service_days.specs.Answers.{IsMoment}
-use Rattle.tellers.specs.Tellings.{tells_legs}
+use Rattle.printing.specs.Tellings.{tells_legs}
 use Rattle.store_merging.specs.Merges.{IsMerged, OnlyFailing as PartsOnlyFailing}
 use Rattle.store_merging.specs.Telling.{IsOfMerge, IsToldUnmerged}
 use Rattle.store_merging.specs.declared.fault.UnmergedFault.{UnmergedFault}

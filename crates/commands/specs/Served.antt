@@ -22,7 +22,7 @@ use Rattle.store_building.specs.Replies.{IsServing}
 use Rattle.store_terms.specs.Stores.{IsUnopened, OnlyFailing, form_over}
 use Rattle.store_building.specs.declared.served.Served.{Served}
 use Rattle.streams.specs.Streams.{IsSaid, StreamData}
-use Rattle.tellers.specs.Tellings.{Telling}
+use Rattle.printing.specs.Tellings.{Telling}
 use Rattle.commands.specs.Files.{IsKeptOut, IsNoticed}
 use Rattle.commands.specs.World.{SystemView}
 use Rattle.commands.specs.declared.served.TheConstants.{UNREAD}

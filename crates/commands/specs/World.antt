@@ -4,7 +4,7 @@ use Rattle.disk_model.specs.Disk.{State}
 use Rattle.disk_model.specs.declared.fault.FileFault.{FileFault}
 use Rattle.feed_report.specs.Reports.{Names}
 use Rattle.gtfs_tables.specs.Feed.{Feed}
-use Rattle.tellers.specs.Tellings.{Telling}
+use Rattle.printing.specs.Tellings.{Telling}
 
 -- Which feed a folder holds, if its bytes are known, and which names; whether there are hash keys to look ids up with; and what opening the
 -- file of a store may give.

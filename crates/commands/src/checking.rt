@@ -8,15 +8,13 @@ ghost use Rattle.commands.specs.Checks.{AreStops, IsChecked, IsFeedTold, IsFolde
 
 use crate::system::System;
 use command_line::{FeedCheck, StopSearch, Style};
-use fault_report::fault_report;
 use faults::Fault;
 use feed_faults::laws::first_is_reported;
 use feed_faults::{FaultList, list_faults};
 use feed_report::{FeedReport, counts_of};
 use gtfs_tables::{FeedFault, Files};
-use printing::Told;
+use printing::{Given, Teller, Told, fault_report};
 use std::alloc::Global;
-use tellers::{Given, Teller};
 
 // What the feed in a folder has, in the style.
 fn told_feed<T: Teller>(

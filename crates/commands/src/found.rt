@@ -9,11 +9,10 @@ use command_line::{Format, Plan, Style};
 use connection_lines::Connections;
 use faults::Fault;
 use feed_basis::Basis;
-use printing::{Streams, Told, Voice, finish};
+use printing::{Asked, Streams, Teller, Told, Voice, copy_of, finish};
 use question_lines::Question;
 use std::alloc::Global;
 use std::io::Write;
-use tellers::{Asked, Teller, copy_of};
 
 /// What a command finds.
 #[derive(Drop)]

@@ -15,10 +15,11 @@ use command_grammar::matches_of;
 use command_line::{Job, Style, Unread, Word, read_words};
 use disk_model::Disk;
 use faults::Fault;
-use printing::{Streams, Told, Voice, finish, print, say_no_memory, show, tell_fault};
+use printing::{
+    Given, Streams, Teller, Told, Voice, finish, print, say_no_memory, show, tell_fault,
+};
 use std::alloc::Global;
 use std::io::{BufRead, Write};
-use tellers::{Given, Teller};
 
 // Ends with what is told, or its fault, without a store.
 fn ended<S: System, O: Write + Drop, E: Write + Drop>(

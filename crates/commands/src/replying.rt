@@ -13,12 +13,11 @@ use crate::served::tell_serving;
 use crate::system::System;
 use command_line::{Plan, Style, Workers};
 use faults::Fault;
-use printing::{Streams, Voice, tell_fault};
+use printing::{Streams, Teller, Voice, tell_fault};
 use serving::{Lines, ReplyTeller};
 use std::alloc::Global;
 use std::io::{BufRead, Write};
 use store_building::{Building, serve};
-use tellers::Teller;
 
 /// A store that is served: its file, and how many workers build what it lacks.
 #[derive(Clone, Copy)]

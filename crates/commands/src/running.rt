@@ -16,10 +16,9 @@ use command_line::{Command, Plan, Search};
 use disk_model::Disk;
 use feed_basis::{Basis, basis_of};
 use gtfs_tables::Files;
-use printing::{Streams, Voice, tell_fault};
+use printing::{Streams, Voice, given_by, tell_fault};
 use std::alloc::Global;
 use std::io::{BufRead, Write};
-use tellers::given_by;
 use timetable::Rides;
 
 /// What a run of the program leaves: the status to end with, the disk of the store if it was opened, and both streams.

@@ -6,13 +6,12 @@ ghost use Rattle.streams.specs.Streams.{IsSaid};
 
 use answer_lines::Built;
 use faults::Fault;
-use printing::{NO_MEMORY, UNWRITTEN, Voice, tell_fault};
+use printing::{NO_MEMORY, Teller, UNWRITTEN, Voice, tell_fault};
 use serving::End;
 use std::alloc::Global;
 use std::io::Write;
 use store_building::Served;
 use streams::Stream;
-use tellers::Teller;
 
 const UNREAD: &str = "tp: standard input can't be read\n";
 

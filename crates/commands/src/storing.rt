@@ -13,15 +13,14 @@ use crate::system::System;
 use command_line::{Audited, Style, Task};
 use disk_model::Disk;
 use faults::{Fault, Side, in_migration};
+use printing::tells_legs;
 use question_lines::Question;
 use std::alloc::Global;
 use std::io::Write;
-use store_answers::{ask_stored, audit, audit_all, list};
+use store_answers::{ask_stored, ask_stored_within, audit, audit_all, list};
 use store_building::{Building, build};
 use store_migration::take_over;
-use stored_connections::ask_stored_within;
 use streams::Stream;
-use tellers::tells_legs;
 use told_connections::times_of;
 
 // Answers a question from the trees that the disk of the file has, or with the connections if it asks for them; the disk comes back.

@@ -9,6 +9,7 @@ use gtfs_tables::Files;
 use merging::MergeProgress;
 use migration::MigrationProgress;
 use precomputing::Progress;
+use printing::Teller;
 use std::alloc::Global;
 use std::hash::RandomState;
 use std::io;
@@ -16,7 +17,6 @@ use std::io::Read;
 use std::sync::Wait;
 use std::thread::Threads;
 use store_audit::AuditProgress;
-use tellers::Teller;
 
 /// What the program finds on its system: folders of feeds, files of stores, threads and randomness. It also has who makes texts in formats,
 /// and who reports the progress of a build, of the audits of all trees, of a migration or of a merge. A call is made at its turn, or not at

@@ -7,11 +7,11 @@ use feed_names::open_names;
 use feed_texts::{FaultText, GivenText, NamedStop, fault_text_json};
 use gtfs_text::Sheet;
 use pattern_query::Refusal;
+use printing::{Given, Places};
 use question_lines::Question;
 use std::alloc::{AllocError, Global};
 use std::format;
 use stop_search::StopRow;
-use tellers::{Given, Places};
 
 // A text up to its first space.
 fn first_word(text: &str) -> &str {

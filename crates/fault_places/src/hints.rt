@@ -7,13 +7,13 @@ use feed_names::open_names;
 use gtfs_tables::FaultKind;
 use gtfs_text::Sheet;
 use pattern_query::Refusal;
+use printing::Given;
 use service_days::DayFault;
 use shown_ids::Shown;
 use std::alloc::{AllocError, Global};
 use std::io::ErrorKind;
 use std::{fmt, format, fs};
 use stop_search::StopRow;
-use tellers::Given;
 
 /// How many stops of a station are printed.
 const MOST: usize = 20;

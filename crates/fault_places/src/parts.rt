@@ -5,13 +5,13 @@ use faults::{Fault, file_name};
 use faulty_fields::{Field, fields_at, missing_columns};
 use feed_texts::GivenText;
 use gtfs_tables::{FaultKind, FeedFault, FeedFile};
+use printing::Given;
 use service_days::DayFault;
 use shown_ids::Shown;
 use std::alloc::{AllocError, Global};
 use std::fs::File;
 use std::io::ErrorKind;
 use std::{fmt, format, fs};
-use tellers::Given;
 
 /// An option or a column that a fault is about.
 #[derive(Drop)]

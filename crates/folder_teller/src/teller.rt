@@ -1,6 +1,6 @@
 //! Answers, reports and faults in formats beside lines, with the names that the feed's folder has.
 
-ghost use Rattle.tellers.specs.Tellings.{any_text};
+ghost use Rattle.printing.specs.Tellings.{any_text};
 
 use crate::found::{feed_text, found_text, listed_by_ids};
 use crate::reached::reach_text;
@@ -21,11 +21,11 @@ use gtfs_tables::{FaultKind, FeedFault, FeedFile};
 use itineraries::{Asked as AskedFor, connections_of, itinerary_of};
 use itinerary_texts::Itinerary;
 use options::Settings;
+use printing::{Asked, Given, Teller};
 use question_lines::Question;
 use serving::Reply;
 use std::alloc::{AllocError, Global};
 use std::slice;
-use tellers::{Asked, Given, Teller};
 use told_names::{NameSheets, Names};
 use zone_clock::Clock;
 

@@ -8,7 +8,7 @@ use Rattle.printing.specs.declared.fault.Voice.{Voice}
 use Rattle.printing.specs.declared.finishing.TheConstants.{NO_MEMORY, UNWRITTEN}
 use Rattle.printing.specs.declared.told.Told.{Told}
 use Rattle.streams.specs.Streams.{HasBeginning, HasWhole, IsSaid, StreamData}
-use Rattle.tellers.specs.Tellings.{Telling}
+use Rattle.printing.specs.Tellings.{Telling}
 
 -- standard output and standard error
 pub record StreamsData : Type 0 where

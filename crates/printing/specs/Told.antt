@@ -4,7 +4,7 @@ use Rattle.answer_lines.specs.Printed.{answer_text}
 use Rattle.answer_lines.specs.Reports.{report_status, report_text}
 use Rattle.command_grammar.specs.declared.texts.TheConstants.{FAULT_TABLE}
 use Rattle.connection_lines.specs.Printed.{connections_text}
-use Rattle.fault_report.specs.Reports.{report_text as faults_text}
+use Rattle.printing.specs.Reports.{report_text as faults_text}
 use Rattle.feed_report.specs.Reports.{report_text as feed_text}
 use Rattle.printing.specs.declared.told.Told.{Told}
 use Rattle.printing.specs.declared.told.Told.TheVariants as tolds

@@ -5,6 +5,8 @@ ghost use Rattle.faults.specs.Faults.{status_of};
 ghost use Rattle.printing.specs.Faults.{AreFaultLines, IsFaultSaid, IsFormatText, IsHint, has_hint};
 ghost use Rattle.streams.specs.Streams.{IsSaid};
 
+use crate::given::Given;
+use crate::teller::Teller;
 use command_line::Style;
 use faults::{Fault, FaultLines};
 use pattern_query::Refusal;
@@ -12,7 +14,6 @@ use service_days::DayFault;
 use std::alloc::Global;
 use std::io::Write;
 use streams::Stream;
-use tellers::{Given, Teller};
 
 /// In which style a command reports what it came to, and what its words say that a fault may be about.
 #[derive(Clone, Copy)]

@@ -5,12 +5,12 @@ ghost use Rattle.printing.specs.Finished.{IsFinished, IsNoMemory, IsShown, IsUnw
 
 use crate::fault::{Voice, tell_fault};
 use crate::output::Streams;
+use crate::teller::Teller;
 use crate::told::Told;
 use faults::Fault;
 use std::alloc::Global;
 use std::io::Write;
 use streams::{PrintFault, Stream};
-use tellers::Teller;
 
 /// What standard error says if memory ran out.
 pub const NO_MEMORY: &str = "tp: Memory\n";

@@ -3,10 +3,10 @@
 ghost use Rattle.std.specs.Prelude.{◌≡◌, Some};
 ghost use Rattle.printing.specs.Told.{told_status, told_text};
 
+use crate::report::FaultReport;
 use answer_lines::{Answer, Report};
 use command_grammar::FAULT_TABLE;
 use connection_lines::Connections;
-use fault_report::FaultReport;
 use feed_report::FeedReport;
 use std::fmt;
 

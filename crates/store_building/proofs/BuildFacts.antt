@@ -26,7 +26,8 @@ use Rattle.faults.specs.declared.fault.Fault.TheVariants as faults
 use Rattle.answer_lines.specs.declared.report.Built.{Built}
 use Rattle.answer_lines.specs.declared.report.Report.{Report}
 use Rattle.feed_basis.specs.Basis.{BasisData}
-use Rattle.store_building.specs.Builds.{AddsOf, CountsLeft, CountsStored, IsBuilding, IsBuilt, IsEndOf, IsReportOf, IsStopped, IsWhole, ReportsBuilt}
+use Rattle.store_building.specs.Builds.{AddsOf, CountsLeft, IsBuilding, IsBuilt, IsEndOf, IsReportOf, IsStopped, IsWhole}
+use Rattle.store_terms.specs.Counts.{CountsStored, ReportsBuilt}
 use Rattle.store_terms.specs.Stores.{OnlyFailing, form_over}
 use Rattle.store_terms.proofs.OpeningFacts.{memory_fails}
 

@@ -1,4 +1,3 @@
 pub mod OpenedFacts
-pub mod MissingFacts
 pub mod BuildFacts
 pub mod ServedFacts

@@ -1,9 +1,8 @@
 -- What a build does to a store, and what the program tells of it.
-use Rattle.std.specs.Prelude.{◌≡◌, ◌⊎◌, ◌≤◌, ◌+◌, ◌++◌, ℕ, List, [], Result, Ok, Err, count_by, length, map}
-use Rattle.std.specs.List.{All, range_with_len}
+use Rattle.std.specs.Prelude.{◌≡◌, ◌⊎◌, ◌≤◌, ◌+◌, ◌++◌, ℕ, List, [], Result, Ok, Err, length}
+use Rattle.std.specs.List.{All}
 use Rattle.disk_model.specs.Disk.{State}
-use Rattle.timetable.specs.Table.{stops_of}
-use Rattle.stop_parts.specs.Parts.{IsOf, Share, is_of}
+use Rattle.stop_parts.specs.Parts.{IsOf, Share}
 use mathlib.Core.List.{IsPrefix}
 use Rattle.section_store.specs.Going.{HoldsAll}
 use Rattle.section_store.specs.Lasting.{LosesNothing, StaysTrusted}
@@ -19,13 +18,8 @@ use Rattle.answer_lines.specs.declared.report.Report.TheVariants as reports
 use Rattle.feed_basis.specs.Basis.{BasisData}
 use Rattle.faults.specs.declared.fault.Fault.{Fault}
 use Rattle.faults.specs.declared.fault.Fault.TheVariants as faults
-use Rattle.store_terms.specs.Stores.{IsUnopened, form_over, ids_of}
-
--- it is said how many stops of the part are stored, of how many, and the ids of those that aren't, in the order of their numbers
-pub record CountsStored (basis : BasisData) (part : Share) (list : List ℕ) (built : Built) : Type 0 where
-  pub stored : built.stored ≡ count_by (is_of part) list
-  pub of : built.of ≡ count_by (is_of part) (range_with_len 0 (stops_of basis.timetable))
-  pub missing : map (λ id. id.now) built.missing.items ≡ ids_of basis.names (missing_of part (stops_of basis.timetable) list)
+use Rattle.store_terms.specs.Counts.{CountsStored}
+use Rattle.store_terms.specs.Stores.{IsUnopened, form_over}
 
 -- the new list is the old one, and stops of the part after it
 pub record AddsOf (part : Share) (old new : List ℕ) : Type 0 where
@@ -56,10 +50,6 @@ pub record IsBuilt (basis : BasisData) (part : Share) (k : ℕ) (old new : State
   pub building : IsBuilding part (form_over basis k) old new before list list
   pub stands : StandsForSources (form_over basis k) list new.read
   pub told : CountsStored basis part list built
-
--- the report is that of a build, of which this is right
-abbrev pub ReportsBuilt : (Built → Type 0) → Report → Type 0
-ReportsBuilt Right report = (built : Built) × (report ≡ reports.Built built) × Right built
 
 -- what came of a build, as a report or the same fault
 abbrev pub IsReportOf : Result Built Fault → Result Report Fault → Type 0

@@ -3,7 +3,8 @@
 ghost use Rattle.std.specs.Prelude.{◌≡◌, ◌↔◌, MatchResult, IfOk, IfErr, OnOk};
 ghost use Rattle.precomputing.specs.Missing.{missing_of};
 ghost use Rattle.timetable.specs.Table.{stops_of};
-ghost use Rattle.store_building.specs.Builds.{CountsLeft, CountsStored, IsBuilt, IsEndOf, IsReportOf, IsUnbuilt, IsWhole, ReportsBuilt};
+ghost use Rattle.store_building.specs.Builds.{CountsLeft, IsBuilt, IsEndOf, IsReportOf, IsUnbuilt, IsWhole};
+ghost use Rattle.store_terms.specs.Counts.{CountsStored, ReportsBuilt};
 ghost use Rattle.store_terms.specs.Stores.{OnlyFailing};
 
 use crate::opening::open_unshown;

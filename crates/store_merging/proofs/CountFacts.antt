@@ -1,6 +1,6 @@
 -- Which stops are missing.
-use Rattle.std.proofs.Common.{◌≡◌, ◌&&◌, Bool, true, ℕ, not, sym, ◌∙◌, ap, List}
-use Rattle.stop_parts.specs.Parts.{IsOf, is_of, whole}
+use Rattle.std.proofs.Common.{◌≡◌, ◌&&◌, Bool, ℕ, not, sym, ◌∙◌, ap, List}
+use Rattle.stop_parts.specs.Parts.{IsOf, whole}
 use Rattle.section_store.specs.Sources.{is_among}
 use Rattle.precomputing.specs.Missing.{is_missing}
 

@@ -1,6 +1,6 @@
 -- What the program says of a merge, from what the merge did.
-use Rattle.std.proofs.Common.{◌≡◌, ◌≢◌, ◌⊎◌, inl, inr, ℕ, List, All, Result, Ok, Err, IfErr, MatchResult, refl, sym, ◌∙◌, ap, subst}
-use Rattle.disk_model.specs.Disk.{Grew, State}
+use Rattle.std.proofs.Common.{◌≡◌, ◌≢◌, ◌⊎◌, inr, ℕ, List, refl, sym, subst}
+use Rattle.disk_model.specs.Disk.{State}
 use Rattle.disk_model.specs.Image.{Image}
 use Rattle.disk_model.specs.Moments.{Leaves}
 use Rattle.disk_model.proofs.Moments.{settled_leaves}
@@ -8,11 +8,9 @@ use Rattle.timetable.specs.Table.{Table, stops_of}
 use Rattle.pattern_tree.specs.Content.{Content}
 use Rattle.stop_parts.specs.Parts.{whole}
 use Rattle.section_store.specs.GoingLaws.{TrustInTurn}
-use Rattle.section_store.specs.Lasting.{IsExact}
 use Rattle.section_store.specs.Laws.{LosesNothingInTurn}
 use Rattle.section_store.specs.Sections.{Form, Stands, form_of, sources}
 use Rattle.section_store.specs.Store.{Holds}
-use Rattle.section_store.specs.declared.fault.PutFault.{PutFault}
 use Rattle.section_store.specs.declared.fault.PutFault.TheVariants as puts
 use Rattle.recovery.specs.Opening.{IsOpening}
 use Rattle.recovery.specs.Recovery.{CauseOf, IsLeftAlone, IsOutside, StandsForNoList}
@@ -24,10 +22,9 @@ use Rattle.merging.specs.declared.fault.MergeFault.TheVariants as merges
 use Rattle.merging.specs.Reads.{IfOfShelf, IsSteady}
 use Rattle.answer_lines.specs.declared.report.Built.{Built}
 use Rattle.feed_basis.specs.Basis.{BasisData}
-use Rattle.store_building.specs.Builds.{CountsStored}
+use Rattle.store_terms.specs.Counts.{CountsStored}
 use Rattle.store_terms.specs.Stores.{form_over}
-use Rattle.store_merging.specs.Merges.{CauseOfStop, HoldsList, IsMerged, IsMerging, IsUnmerged, IsUnopened}
-use Rattle.store_merging.specs.declared.fault.UnmergedFault.TheVariants as faults
+use Rattle.store_merging.specs.Merges.{CauseOfStop, HoldsList, IsMerged, IsMerging, IsUnopened}
 
 -- a file that holds trees at rest stands for them, and so does whatever a crash leaves of it
 holds_stands : (form : Form) (trees : List Content) (place : ℕ) (list : List ℕ) (disk : State) → Holds form trees place list disk → Stands form disk.read trees

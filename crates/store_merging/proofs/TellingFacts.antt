@@ -16,7 +16,7 @@ use Rattle.faults.specs.declared.migrating.StoreFault.TheVariants as files
 use Rattle.store_migration.specs.Migrations.{of_put}
 use Rattle.store_terms.specs.Stores.{OnlyFailing}
 use Rattle.store_merging.specs.Merges.{TellsOut}
-use Rattle.store_merging.specs.Telling.{IsOfMerge, IsOfPart, IsOfShelf}
+use Rattle.store_merging.specs.Telling.{IsOfMerge, IsOfShelf}
 use Rattle.store_merging.specs.declared.fault.UnmergedFault.{UnmergedFault}
 use Rattle.store_merging.specs.declared.fault.UnmergedFault.TheVariants as unmerged
 use denote.Ref.{Bor}

@@ -22,7 +22,7 @@ use Rattle.merging.specs.Reads as reads
 use Rattle.merging.specs.Reads.{IfOfShelf, IsSteady}
 use Rattle.answer_lines.specs.declared.report.Built.{Built}
 use Rattle.feed_basis.specs.Basis.{BasisData}
-use Rattle.store_building.specs.Builds.{CountsStored}
+use Rattle.store_terms.specs.Counts.{CountsStored}
 use Rattle.store_terms.specs.Stores.{form_over}
 use Rattle.store_merging.specs.declared.fault.UnmergedFault.{UnmergedFault}
 use Rattle.store_merging.specs.declared.fault.UnmergedFault.TheVariants as faults

@@ -4,7 +4,7 @@ ghost use Rattle.std.specs.Prelude.{◌≡◌, ◌<◌, IfOk};
 ghost use Rattle.precomputing.specs.Missing.{is_missing, missing_of};
 ghost use Rattle.stop_parts.specs.Parts.{whole};
 ghost use Rattle.timetable.specs.Table.{stops_of};
-ghost use Rattle.store_building.specs.Builds.{CountsStored};
+ghost use Rattle.store_terms.specs.Counts.{CountsStored};
 
 use answer_lines::Built;
 use disk_model::Disk;

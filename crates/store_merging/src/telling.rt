@@ -5,7 +5,7 @@ ghost use Rattle.disk_model.specs.Disk.{State};
 ghost use Rattle.timetable.specs.Table.{stops_of};
 ghost use Rattle.pattern_tree.specs.Content.{Content};
 ghost use Rattle.part_shelf.specs.Shelves.{Has, form_for};
-ghost use Rattle.store_building.specs.Builds.{ReportsBuilt};
+ghost use Rattle.store_terms.specs.Counts.{ReportsBuilt};
 ghost use Rattle.store_terms.specs.Stores.{OnlyFailing, form_over};
 ghost use Rattle.store_merging.specs.Merges.{IsMerged, OnlyFailing as PartsOnlyFailing};
 ghost use Rattle.store_merging.specs.Telling.{IsOfMerge, IsOfPart, IsOfRefusal, IsOfShelf, IsPathOf, IsToldUnmerged};

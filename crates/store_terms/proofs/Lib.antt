@@ -1,1 +1,2 @@
 pub mod OpeningFacts
+pub mod MissingFacts

@@ -1,6 +1,6 @@
 use Rattle.std.proofs.Common.{refl, inl, subst}
-use Rattle.fault_report.specs.Listed.{IsReportOf}
-use Rattle.tellers.specs.declared.given.Given.{Given}
+use Rattle.printing.specs.Listed.{IsReportOf}
+use Rattle.printing.specs.declared.given.Given.{Given}
 use Rattle.commands.proofs.checking.told_faults.Goals as goal
 
 pub returns-in-Ok : goal.returns-in-Ok

@@ -1,6 +1,6 @@
 use Rattle.std.proofs.Common.{ℕ, List, IfErr, map, refl, subst, inl, inr}
 use Rattle.faults.specs.declared.fault.Fault.{Fault}
-use Rattle.store_building.specs.Builds.{ReportsBuilt}
+use Rattle.store_terms.specs.Counts.{ReportsBuilt}
 use Rattle.store_merging.specs.Merges.{IsMerged, OnlyFailing as PartsOnlyFailing}
 use Rattle.store_merging.specs.Telling.{IsOfMerge, IsToldUnmerged}
 use Rattle.store_merging.specs.declared.fault.UnmergedFault.{UnmergedFault}

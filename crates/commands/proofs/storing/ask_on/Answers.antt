@@ -1,5 +1,5 @@
 use Rattle.store_answers.specs.Asked.{IsStoredAnswer, IsStoredRefusal}
-use Rattle.stored_connections.specs.Stored.{IsStoredRefusalWithin, IsStoredWindow}
+use Rattle.store_answers.specs.Windowed.{IsStoredRefusalWithin, IsStoredWindow}
 use Rattle.commands.proofs.FoundFacts.{answer_found, connections_found}
 use Rattle.commands.proofs.storing.ask_on.Goals as goal
 

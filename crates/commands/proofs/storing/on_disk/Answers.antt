@@ -1,4 +1,5 @@
-use Rattle.store_building.specs.Builds.{IsBuilt, IsUnbuilt, ReportsBuilt}
+use Rattle.store_building.specs.Builds.{IsBuilt, IsUnbuilt}
+use Rattle.store_terms.specs.Counts.{ReportsBuilt}
 use Rattle.store_answers.specs.Listings.{IsListed}
 use Rattle.store_terms.specs.Stores.{IsUntold}
 use Rattle.commands.proofs.FoundFacts.{report_found}

@@ -1,6 +1,7 @@
 use Rattle.std.proofs.Common.{◌↔◌, List, ℕ, sym, subst, inl, inr, IfOk, IfErr, MatchResult}
 use Rattle.timetable.specs.Table.{stops_of}
-use Rattle.store_building.specs.Builds.{CountsLeft, CountsStored, IsBuilt, IsEndOf, IsStopped, IsUnbuilt}
+use Rattle.store_building.specs.Builds.{CountsLeft, IsBuilt, IsEndOf, IsStopped, IsUnbuilt}
+use Rattle.store_terms.specs.Counts.{CountsStored}
 use Rattle.store_terms.specs.Stores.{OnlyFailing, form_over}
 use Rattle.store_building.proofs.BuildFacts.{Laws, Opens, came, end_fails, left_of, refused, reported, stays_honest, weaker}
 use Rattle.store_terms.proofs.OpeningFacts.{of_refusal, unopened_over, unopened_fails}

@@ -1,7 +1,7 @@
 use Rattle.std.proofs.Common.{◌<◌, List, ℕ, subst, sym}
 use Rattle.std.specs.List.{All}
 use Rattle.timetable.specs.Table.{stops_of}
-use Rattle.store_building.proofs.MissingFacts.{missing_known}
+use Rattle.store_terms.proofs.MissingFacts.{missing_known}
 use Rattle.store_building.proofs.built.counted.Goals as goal
 
 pub ids-requires : goal.ids-requires

@@ -1,7 +1,8 @@
 use Rattle.std.proofs.Common.{◌↔◌, List, ℕ, sym, subst, IfOk, IfErr, MatchResult}
 use Rattle.timetable.specs.Table.{stops_of}
 use Rattle.stop_parts.specs.Parts.{Share, whole}
-use Rattle.store_building.specs.Builds.{CountsLeft, CountsStored, IsBuilt, IsEndOf, IsStopped}
+use Rattle.store_building.specs.Builds.{CountsLeft, IsBuilt, IsEndOf, IsStopped}
+use Rattle.store_terms.specs.Counts.{CountsStored}
 use Rattle.store_terms.specs.Stores.{OnlyFailing, form_over}
 use Rattle.store_building.proofs.BuildFacts.{Laws, Opens, came, end_fails, left_of, stays_honest}
 use Rattle.store_terms.proofs.OpeningFacts.{of_refusal, unopened_over, unopened_fails}

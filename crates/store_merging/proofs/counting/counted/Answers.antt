@@ -3,7 +3,7 @@ use Rattle.std.specs.List.{All}
 use Rattle.stop_parts.specs.Parts.{whole}
 use Rattle.timetable.specs.Table.{Table, stops_of}
 use Rattle.precomputing.specs.Missing.{missing_of}
-use Rattle.store_building.proofs.MissingFacts.{missing_known}
+use Rattle.store_terms.proofs.MissingFacts.{missing_known}
 use Rattle.store_merging.proofs.counting.counted.Goals as goal
 
 pub ids-requires : goal.ids-requires

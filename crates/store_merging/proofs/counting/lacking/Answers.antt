@@ -1,4 +1,4 @@
-use Rattle.std.proofs.Common.{rules, ◌≡◌, ◌+◌, ◌<◌, ◌++◌, [], ◌∷◌, Bool, true, false, ℕ, List, sym, ◌∙◌, ap, arith}
+use Rattle.std.proofs.Common.{rules, ◌≡◌, ◌++◌, [], ◌∷◌, ℕ, sym, ◌∙◌, ap}
 use Rattle.stop_parts.specs.Parts.{whole}
 use Rattle.precomputing.specs.Missing.{is_missing, missing_of}
 use Rattle.precomputing.proofs.MissingFacts.{missing_more, missing_same}

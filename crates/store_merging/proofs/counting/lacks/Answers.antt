@@ -1,5 +1,5 @@
 use Rattle.store_merging.proofs.CountFacts.{lacks_is}
-use Rattle.std.proofs.Common.{rules, ◌≡◌, not}
+use Rattle.std.proofs.Common.{rules}
 use Rattle.store_merging.proofs.counting.lacks.Goals as goal
 
 pub returns : goal.returns

@@ -1,17 +1,13 @@
-use Rattle.std.proofs.Common.{rules, ◌≡◌, ◌≢◌, ℕ, List, Ok, Err, MatchResult, sym, ◌∙◌, ap, subst}
+use Rattle.std.proofs.Common.{◌≡◌, MatchResult, sym, ◌∙◌, ap, subst}
 use Rattle.std.specs.Arc.{arc_value}
-use Rattle.disk_model.specs.Disk.{State}
 use Rattle.timetable.specs.Table.{Table, stops_of}
-use Rattle.pattern_tree.specs.Content.{Content}
 use Rattle.section_store.specs.Sections.{Form, Stands, form_of}
 use Rattle.section_store.specs.Store.{Holds}
 use Rattle.recovery.specs.Opening.{IsOpening}
 use Rattle.migration.specs.Migration.{OneIsTooLarge}
 use Rattle.merging.specs.Merging.{Merges, merged}
-use Rattle.merging.specs.declared.fault.MergeFault.TheVariants as merges
-use Rattle.section_store.specs.declared.fault.PutFault.TheVariants.{TooLarge}
 use Rattle.store_terms.specs.Stores.{form_over}
-use Rattle.store_merging.specs.Merges.{HoldsList, IsMerged, IsMerging, IsUnmerged}
+use Rattle.store_merging.specs.Merges.{IsMerged, IsMerging, IsUnmerged}
 use Rattle.store_merging.proofs.MergingFacts.{counts, holds_list, merging, stops, unopened}
 use Rattle.store_merging.proofs.merged.merge_parts.Goals as goal
 use Rattle.store_merging.proofs.merged.merge_parts.Goals.{in-Err-merged, in-Ok-merged+in-Ok-counted, in-Ok-merged+in-Err-counted}

@@ -1,4 +1,4 @@
-use Rattle.std.proofs.Common.{◌≡◌, Ok, Err, refl}
+use Rattle.std.proofs.Common.{refl}
 use Rattle.store_merging.proofs.TellingFacts.{told_fails}
 use Rattle.store_merging.proofs.telling.put_together.Goals as goal
 

@@ -8,14 +8,14 @@ use Rattle.store_excerpt.specs.Board.{ShowsAmong}
 use Rattle.recovery.specs.Opening.{IsOpening, StandsForSources}
 use Rattle.store_excerpt.specs.Excerpt.{ShowsWhole}
 use Rattle.told_connections.specs.Windows.{IsAskedWithin, IsUnaskedWithin}
-use Rattle.stored_connections.specs.Stored.{IsStoredWindow, IsStoredRefusalWithin}
+use Rattle.store_answers.specs.Windowed.{IsStoredWindow, IsStoredRefusalWithin}
 use Rattle.store_terms.specs.Stores.{OnlyFailing, form_over}
 use Rattle.store_answers.proofs.AskedFacts.{Shows}
-use Rattle.stored_connections.proofs.WindowFacts.{stored_window, unasked_fails, unasked_from}
+use Rattle.store_answers.proofs.WindowFacts.{stored_window, unasked_fails, unasked_from}
 use Rattle.store_terms.proofs.OpeningFacts.{either, memory_fails, of_refusal, over_basis, unopened, unopened_fails}
 use Rattle.faults.specs.declared.fault.Fault.TheVariants as faults
-use Rattle.stored_connections.proofs.asking.ask_stored_within.Goals.{in-Ok-network, in-Err-network}
-use Rattle.stored_connections.proofs.asking.ask_stored_within.Goals as goal
+use Rattle.store_answers.proofs.windowed.ask_stored_within.Goals.{in-Ok-network, in-Err-network}
+use Rattle.store_answers.proofs.windowed.ask_stored_within.Goals as goal
 
 pub returns-in-Err-clause-answered : goal.returns-in-Err-clause-answered
 returns-in-Err-clause-answered g c = λ honest.

@@ -4,7 +4,7 @@ ghost use Rattle.std.specs.Prelude.{◌≡◌, Option, IfOk, IfErr, IfSome, stri
 ghost use Rattle.feed_basis.specs.Basis.{BasisData};
 ghost use Rattle.question_lines.specs.declared.question.Question.{Question};
 ghost use Rattle.serving.specs.Printed.{no_memory};
-ghost use Rattle.tellers.specs.Tellings.{IsStopsFault, Telling, tells_legs};
+ghost use Rattle.printing.specs.Tellings.{IsStopsFault, Telling, tells_legs};
 
 use crate::asked::Asked;
 use crate::given::Given;

@@ -2,7 +2,7 @@
 
 ghost use Rattle.std.specs.Prelude.{◌↔◌, IfErr, MatchResult};
 ghost use Rattle.store_terms.specs.Stores.{OnlyFailing};
-ghost use Rattle.stored_connections.specs.Stored.{IsStoredWindow, IsStoredRefusalWithin};
+ghost use Rattle.store_answers.specs.Windowed.{IsStoredWindow, IsStoredRefusalWithin};
 
 use connection_lines::Connections;
 use disk_model::Disk;

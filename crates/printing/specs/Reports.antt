@@ -4,8 +4,8 @@ use Rattle.std.specs.Global.{Global}
 use Rattle.std.specs.Fmt.{decimal}
 use Rattle.faults.specs.Lines.{fault_lines}
 use Rattle.faults.specs.declared.fault.Fault.TheVariants as faults
-use Rattle.fault_report.specs.declared.report.FaultReport.{FaultReport}
-use Rattle.fault_report.specs.declared.report.ListedFault.{ListedFault}
+use Rattle.printing.specs.declared.report.FaultReport.{FaultReport}
+use Rattle.printing.specs.declared.report.ListedFault.{ListedFault}
 
 -- lines that are added, if there are any
 abbrev pub beneath_text : Option (String Global) → List ℕ

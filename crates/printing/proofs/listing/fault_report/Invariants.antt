@@ -1,7 +1,7 @@
 use Rattle.std.proofs.Common.{◌≡◌, map, take}
 use Rattle.std.specs.List.{All}
-use Rattle.fault_report.specs.Listed.{IsHinted}
-use Rattle.fault_report.proofs.listing.fault_report.Given as goal
+use Rattle.printing.specs.Listed.{IsHinted}
+use Rattle.printing.proofs.listing.fault_report.Given as goal
 
 abbrev pub invariant-loop-at : goal.invariant-loop-at
 invariant-loop-at g l = record {

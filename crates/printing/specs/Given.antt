@@ -10,8 +10,8 @@ use Rattle.command_line.specs.declared.job.Search.TheVariants as searches
 use Rattle.command_line.specs.declared.job.Task.{Task}
 use Rattle.command_line.specs.declared.job.Task.TheVariants as tasks
 use Rattle.command_line.specs.declared.unread.Word.{Word}
-use Rattle.tellers.specs.declared.given.Given.{Given}
-use Rattle.tellers.specs.declared.given.Places.{Places}
+use Rattle.printing.specs.declared.given.Given.{Given}
+use Rattle.printing.specs.declared.given.Places.{Places}
 
 -- the places of a question
 abbrev pub places_of : Question → Places

@@ -1,13 +1,14 @@
 //! From a list of faults to what is printed of them.
 
 ghost use Rattle.std.specs.Prelude.{IfOk};
-ghost use Rattle.fault_report.specs.Listed.{IsReportOf};
+ghost use Rattle.printing.specs.Listed.{IsReportOf};
 
+use crate::given::Given;
 use crate::report::{FaultReport, ListedFault};
+use crate::teller::Teller;
 use faults::Fault;
 use file_faults::FaultList;
 use std::alloc::{AllocError, Global};
-use tellers::{Given, Teller};
 
 /// The faults of a list, in its order, with the lines that the teller adds to those of each. What the words say is the folder of the feed,
 /// whose files are looked into once for all faults. It fails only if memory runs out.

@@ -2,7 +2,7 @@
 
 ghost use Rattle.std.specs.Prelude.{◌≡◌, Some, flat_map};
 ghost use Rattle.std.specs.Fmt.{WritesOnOk};
-ghost use Rattle.fault_report.specs.Reports.{listed_text, more_text, report_text};
+ghost use Rattle.printing.specs.Reports.{listed_text, more_text, report_text};
 
 use faults::{Fault, FaultLines};
 use gtfs_rows::FeedFault;

@@ -4,10 +4,10 @@ use Rattle.std.specs.Option.{IfSome}
 use Rattle.std.specs.List.{All}
 use Rattle.faults.specs.declared.fault.Fault.TheVariants as faults
 use Rattle.file_faults.specs.declared.list.FaultList.{FaultList}
-use Rattle.tellers.specs.Tellings.{Telling}
-use Rattle.tellers.specs.declared.given.Given.{Given}
-use Rattle.fault_report.specs.declared.report.FaultReport.{FaultReport}
-use Rattle.fault_report.specs.declared.report.ListedFault.{ListedFault}
+use Rattle.printing.specs.Tellings.{Telling}
+use Rattle.printing.specs.declared.given.Given.{Given}
+use Rattle.printing.specs.declared.report.FaultReport.{FaultReport}
+use Rattle.printing.specs.declared.report.ListedFault.{ListedFault}
 
 -- the lines that are added to a fault's own are ones that the teller may add to those of that fault
 abbrev pub IsHinted : Telling → Given → ListedFault → Type 0

@@ -1,8 +1,8 @@
 use Rattle.std.proofs.Common.{take}
 use Rattle.std.specs.List.{flat_map}
 use Rattle.std.specs.Fmt.{HasWritten, IsPlainFormatter}
-use Rattle.fault_report.specs.Reports.{listed_text}
-use Rattle.fault_report.proofs.report.write_faults.Given as goal
+use Rattle.printing.specs.Reports.{listed_text}
+use Rattle.printing.proofs.report.write_faults.Given as goal
 
 abbrev pub invariant-loop-listed : goal.invariant-loop-listed
 invariant-loop-listed g l =

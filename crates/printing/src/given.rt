@@ -1,7 +1,7 @@
 //! What the words say that a fault may be about.
 
 ghost use Rattle.std.specs.Prelude.{◌≡◌};
-ghost use Rattle.tellers.specs.Given.{command_places, folder_given, given_by, places_of, search_places, task_places, word_given};
+ghost use Rattle.printing.specs.Given.{command_places, folder_given, given_by, places_of, search_places, task_places, word_given};
 
 use command_line::{Command, Plan, Search, Task, Word};
 use question_lines::Question;

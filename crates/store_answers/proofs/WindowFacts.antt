@@ -24,7 +24,7 @@ use Rattle.told_connections.specs.Next.{AreChosen, AreNext}
 use Rattle.told_connections.specs.Windows.{IsAskedWithin, IsUnaskedWithin}
 use Rattle.told_connections.specs.declared.choosing.TheConstants.{ENOUGH}
 use Rattle.told_connections.specs.declared.times.Times.{Times}
-use Rattle.stored_connections.specs.Stored.{IsStoredPoint, IsStoredWindow, IsUnansweredFromWithin}
+use Rattle.store_answers.specs.Windowed.{IsStoredPoint, IsStoredWindow, IsUnansweredFromWithin}
 
 -- sets with the same numbers have the same connections
 module _ (P Q : ℕ → Numbers → Type 0) (to : (d : ℕ) (n : Numbers) → P d n → Q d n) (from : (d : ℕ) (n : Numbers) → Q d n → P d n) where
