@@ -1,4 +1,4 @@
--- A window has so many seconds that are so exactly if as many pass a test of that.
+-- A window has at least j seconds that are so exactly if at least j of its seconds pass a test of that.
 use Rattle.std.proofs.Common.{◌≡◌, ℕ, zero, suc, ◌+◌, ◌-◌, ◌<◌, ◌≤◌, Bool, true, List, [], ◌∷◌, length, get_or, arith, sym, ap, subst, inl, inr, le_refl}
 use Rattle.std.specs.List.{All, AllPairs}
 use Rattle.std.proofs.lemmas.Bool.{cases_Bool, cases_lt}

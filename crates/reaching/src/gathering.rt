@@ -15,7 +15,7 @@ use rounds::{RoundView, Scratch};
 use std::alloc::{AllocError, Global};
 use timetable::{LATEST_MOMENT, StopId, Timetable};
 
-// No steps, at so many stops.
+// No steps at each of the stops.
 fn no_steps(alloc: Global, stops: usize) -> Result<Vec<Steps>, AllocError>
     ensures count { IfOk result (λ all. length all.items ≡ stops) }
     ensures none { IfOk result (λ all. (t : ℕ) → steps_at all.items t ≡ []) }

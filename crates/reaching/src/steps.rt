@@ -71,7 +71,7 @@ impl Steps {
         Ok(())
     }
 
-    // At how many seconds from `first` to `last` one is there by rides within so many seconds.
+    // At how many seconds from `first` to `last` one is there by rides within `seconds`.
     fn ridden_within(&self, first: u32, last: u32, seconds: u32) -> u64
         requires some { first ≤ last }
         requires steps { AreSteps first last self.now }
@@ -89,7 +89,7 @@ impl Steps {
         total + seconds_by(arrival, seconds, u64::from(first), end)
     }
 
-    // At how many seconds from `first` to `last` one is there within so many seconds, by rides or by a walk of `walk` seconds.
+    // At how many seconds from `first` to `last` one is there within `seconds`, by rides or by a walk of `walk` seconds.
     fn count_within(&self, walk: Option<u32>, first: u32, last: u32, seconds: u32) -> u64
         requires some { first ≤ last }
         requires steps { AreSteps first last self.now }

@@ -9,7 +9,7 @@ pub struct TravelTimes {
     pub stop: StopId,
     /// At the best second of the window.
     pub least: u32,
-    /// One is there within so many seconds at half of the window's seconds or more. None: one gets there at fewer.
+    /// The least time within which one is there at half of the window's seconds or more. None: one gets there at fewer.
     pub median: Option<u32>,
     /// At the worst second of the window. None: at some second one doesn't get there.
     pub greatest: Option<u32>,

@@ -18,7 +18,7 @@ use Rattle.reaching.specs.Reached.{AreReached}
 use Rattle.reaching.specs.declared.reached.Reached.{Reached}
 use Rattle.told_journeys.specs.Stages.{stop_id}
 
--- the last moment within so many minutes of d, if any are given
+-- the last moment within m minutes of d, if any are given
 abbrev pub last_of : ℕ → Option ℕ → Option ℕ
 last_of d minutes = option_map (λ m. d + m * 60) minutes
 
@@ -29,7 +29,7 @@ pub record TellsStop (basis : BasisData) (d : ℕ) (r : Reached) (shown : Reache
   pub rides : shown.rides ≡ r.rides
   pub seconds : shown.seconds ≡ r.arrival - d
 
--- The stops are told at which one can be within so many minutes, if any are given, who leaves the stop of the id at the moment, which is
+-- The stops are told at which one can be within the minutes, if any are given, who leaves the stop of the id at the moment, which is
 -- covered, with at most k rides.
 pub record IsReach (basis : BasisData) (k : ℕ) (from : List ℕ) (moment minutes : Option ℕ) (reach : Reach) : Type 0 where
   pub s : ℕ

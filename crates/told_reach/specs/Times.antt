@@ -27,7 +27,7 @@ is_within None t = true
 is_within (Some minutes) t = nat_le t.least (minutes * 60)
 
 -- The travel times are told of one who leaves the stop of the id from the moment to the last one, both covered, with at most k rides: of
--- the stops where one is within so many minutes, if any are given.
+-- the stops where one is within the minutes, if any are given.
 pub record AreTimes (basis : BasisData) (k : ℕ) (from : List ℕ) (moment until minutes : Option ℕ) (times : TimedStops) : Type 0 where
   pub s : ℕ
   pub first : ℕ

@@ -16,7 +16,7 @@ use std::alloc::{AllocError, Global};
 use std::slice;
 use timetable::{LATEST_MOMENT, Rides};
 
-// The last moment within so many minutes, if any are given.
+// The last moment within the minutes, if any are given.
 fn last_of(depart: u32, minutes: Option<u16>) -> Option<u32>
     requires { depart ≤ LATEST_MOMENT }
     ensures { result ≡ last_of depart minutes }
@@ -87,7 +87,7 @@ fn found_reach<'a>(
     })
 }
 
-/// The stops at which one can be who leaves the stop of an id at the moment, with at most `rides` rides; those within so many minutes, if
+/// The stops at which one can be who leaves the stop of an id at the moment, with at most `rides` rides; those within `minutes`, if
 /// any are given. A station is no stop.
 pub fn reach_from<'a>(
     alloc: Global,

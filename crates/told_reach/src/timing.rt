@@ -18,7 +18,7 @@ use std::alloc::{AllocError, Global};
 use std::slice;
 use timetable::{Rides, StopId};
 
-// Whether one is at a stop within so many minutes at some second, if any are given.
+// Whether one is at a stop within the minutes at some second, if any are given.
 fn is_within(minutes: Option<u16>, times: &TravelTimes) -> bool
     ensures { result ≡ is_within minutes times.now }
 {
@@ -28,7 +28,7 @@ fn is_within(minutes: Option<u16>, times: &TravelTimes) -> bool
     }
 }
 
-// The stops that are within so many minutes, if any are given.
+// Keeps the stops that are within the minutes, if any are given.
 fn keep_within(list: &mut Vec<TravelTimes>, minutes: Option<u16>)
     ensures { list.new.items ≡ filter (is_within minutes) list.old.items }
 {
@@ -116,7 +116,7 @@ fn found_times<'a>(
 }
 
 /// How long one is on the way who leaves the stop of an id at a second from `moment` to `until`, with at most `rides` rides: for each stop
-/// the least, the median and the greatest number of seconds. Those of the stops where one is within so many minutes, if any are given. A
+/// the least, the median and the greatest number of seconds. Those of the stops where one is within `minutes`, if any are given. A
 /// station is no stop.
 pub fn times_from<'a>(
     alloc: Global,
