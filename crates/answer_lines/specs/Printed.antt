@@ -33,7 +33,7 @@ abbrev pub stage_text : Stage → List ℕ
 stage_text (stages.Ride leg trip board leaves alight comes) =
     codes "  ride " ++ (shown trip
     ++ (32 ∷ shown board ++ (32 ∷ day_time_text leaves ++ (32 ∷ shown alight ++ (32 ∷ day_time_text comes)))))
-stage_text (stages.Walk leaves reaches comes) = codes "  walk " ++ (shown leaves ++ (32 ∷ shown reaches ++ (32 ∷ day_time_text comes)))
+stage_text (stages.Walk leaves begins reaches comes) = codes "  walk " ++ (shown leaves ++ (32 ∷ shown reaches ++ (32 ∷ day_time_text comes)))
 
 -- a point, and a line for each of its stages
 abbrev pub point_text : Point → List ℕ

@@ -24,6 +24,8 @@ pub enum Stage {
     },
     Walk {
         from: Id,
+        /// When it begins. It isn't shown.
+        departs: DayTime,
         to: Id,
         arrives: DayTime,
     },
@@ -48,7 +50,9 @@ impl fmt::Display for Stage {
                 Shown(from.as_str()),
                 Shown(to.as_str())
             ),
-            Stage::Walk { from, to, arrives } => write!(
+            Stage::Walk {
+                from, to, arrives, ..
+            } => write!(
                 f,
                 "  walk {} {} {arrives}",
                 Shown(from.as_str()),

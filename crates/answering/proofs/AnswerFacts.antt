@@ -10,9 +10,9 @@ use Rattle.timetable.specs.Table.{Table}
 use Rattle.pattern_tree.specs.Content.{Content}
 use Rattle.pattern_query.specs.Answer.{PointData, numbers, IsJourney}
 use Rattle.pattern_query.specs.Questions.{IsAskedPoint, ReachesBetween}
-use Rattle.answering.specs.Answers.{Journeys, IsReached, IsRideBetween, TellsReached}
-use Rattle.answering.specs.Found.{IsHeldBetween, IsJourneyBetween}
-use Rattle.told_journeys.specs.Points.{TellsNumbers, Tells}
+use Rattle.answering.specs.Answers.{Journeys, IsReached, IsHeldJourney, IsRideBetween, Leaving, LeavesLast, TellsReached}
+use Rattle.answering.specs.Found.{IsHeldBetween, IsJourneyBetween, LeavesBetween}
+use Rattle.told_journeys.specs.Points.{TellsLeaving, TellsNumbers}
 use Rattle.answer_lines.specs.declared.answer.Point.{Point}
 use Rattle.feed_basis.specs.Basis.{BasisData}
 
@@ -47,19 +47,19 @@ module _ (table : Table) (k p q d : ℕ) where
   }
 
 -- the numbers alone are shown
-pub shown_numbers : (basis : BasisData) (Js : Journeys) (d : ℕ) (front : List Numbers) (points : List Point)
-    → AllZip (TellsNumbers basis) front points → AllZip (TellsReached basis Js d false) front points
-shown_numbers basis Js d [] [] h = tt
-shown_numbers basis Js d [] (point ∷ points) h = absurd h
-shown_numbers basis Js d (n ∷ front) [] h = absurd h
-shown_numbers basis Js d (n ∷ front) (point ∷ points) h = (
+pub shown_numbers : (basis : BasisData) (Ls : Leaving) (front : List Numbers) (points : List Point)
+    → AllZip (TellsNumbers basis) front points → AllZip (TellsReached basis Ls false) front points
+shown_numbers basis Ls [] [] h = tt
+shown_numbers basis Ls [] (point ∷ points) h = absurd h
+shown_numbers basis Ls (n ∷ front) [] h = absurd h
+shown_numbers basis Ls (n ∷ front) (point ∷ points) h = (
   record {
     rides = h.0.rides;
     at = h.0.at;
     told = λ e. absurd (true≢false (sym e));
     untold = λ e. h.0.untold;
   },
-  shown_numbers basis Js d front points h.1,
+  shown_numbers basis Ls front points h.1,
 )
 
 -- what holds of all holds of one that is among them
@@ -103,19 +103,35 @@ are_reached Js (p ∷ journeys) are =
     All-cons (IsReached Js) (numbers p) (map numbers journeys) (p.from, p.to, p.legs, are 0 p (omega arith))
     (are_reached Js journeys (All-tail (λ (x : PointData). Js (numbers x) x.from x.to x.legs) p journeys are))
 
+-- one leaves for each of them at its departure
+pub leaves_last : (table : Table) (Js : Journeys) (s t d : ℕ) (p : PointData) → IsJourney table s t d p → Js (numbers p) p.from p.to p.legs
+    → LeavesLast table Js d (numbers p) p.departure p.from p.to p.legs
+leaves_last table Js s t d p h is = record {
+  is = is;
+  after = h.after;
+  in_time = subst₂ (λ x y. Journey table x p.departure p.legs y p.arrival) (sym h.starts) (sym h.ends) h.in_time;
+  last = λ later at_later. h.just later (subst₂ (λ x y. Journey table x later p.legs y p.arrival) h.starts h.ends at_later);
+}
+
+-- so it does for a journey of the trees
+pub leaves_between : (table : Table) (held : ℕ → Option Content) (froms tos : List ℕ) (d : ℕ) (p : PointData)
+    → IsAskedPoint table held froms tos d p → LeavesBetween table held froms tos d p
+leaves_between table held froms tos d p h =
+    leaves_last table (IsHeldJourney table held froms tos d) h.0.source p.to d p h.2.is (held_between table held froms tos d p h)
+
 -- journeys between the stops are told
-pub shown_journeys : (basis : BasisData) (Js : Journeys) (d : ℕ) (wanted : Bool) (journeys : List PointData) (points : List Point)
-    → All (λ p. Js (numbers p) p.from p.to p.legs) journeys → AllZip (Tells basis d wanted) journeys points
-    → AllZip (TellsReached basis Js d wanted) (map numbers journeys) points
-shown_journeys basis Js d wanted [] [] are h = tt
-shown_journeys basis Js d wanted [] (point ∷ points) are h = absurd h
-shown_journeys basis Js d wanted (p ∷ journeys) [] are h = absurd h
-shown_journeys basis Js d wanted (p ∷ journeys) (point ∷ points) are h = (
+pub shown_journeys : (basis : BasisData) (Ls : Leaving) (wanted : Bool) (journeys : List PointData) (points : List Point)
+    → All (λ p. Ls (numbers p) p.departure p.from p.to p.legs) journeys → AllZip (TellsLeaving basis wanted) journeys points
+    → AllZip (TellsReached basis Ls wanted) (map numbers journeys) points
+shown_journeys basis Ls wanted [] [] are h = tt
+shown_journeys basis Ls wanted [] (point ∷ points) are h = absurd h
+shown_journeys basis Ls wanted (p ∷ journeys) [] are h = absurd h
+shown_journeys basis Ls wanted (p ∷ journeys) (point ∷ points) are h = (
   record {
     rides = h.0.rides;
     at = h.0.at;
-    told = λ e. record { from = p.from; to = p.to; legs = p.legs; is = are 0 p (omega arith); told = h.0.told e };
+    told = λ e. record { leave = p.departure; from = p.from; to = p.to; legs = p.legs; is = are 0 p (omega arith); told = h.0.told e };
     untold = h.0.untold;
   },
-  shown_journeys basis Js d wanted journeys points (All-tail (λ (x : PointData). Js (numbers x) x.from x.to x.legs) p journeys are) h.1,
+  shown_journeys basis Ls wanted journeys points (All-tail (λ (x : PointData). Ls (numbers x) x.departure x.from x.to x.legs) p journeys are) h.1,
 )

@@ -47,33 +47,46 @@ Journeys = Numbers → ℕ → ℕ → List Leg → Type 0
 abbrev pub IsReached : Journeys → Numbers → Type 0
 IsReached Js n = (from : ℕ) × (to : ℕ) × (legs : List Leg) × Js n from to legs
 
--- the stages are the rides and walks of a journey of the set that leaves at d, with these numbers
-pub record AreStagesOf (basis : BasisData) (Js : Numbers → ℕ → ℕ → List Leg → Type 0) (d : ℕ) (n : Numbers) (stages : List Stage) : Type 0 where
+-- a set of journeys with departures: of each its numbers, the moment at which one leaves, its first and its last stop, and its legs
+abbrev pub Leaving : Type 1
+Leaving = Numbers → ℕ → ℕ → ℕ → List Leg → Type 0
+
+-- one who leaves at this moment, which isn't before d, is in time for the journey of the set; one who leaves later isn't
+pub record LeavesLast (table : Table) (Js : Numbers → ℕ → ℕ → List Leg → Type 0) (d : ℕ) (n : Numbers) (leave from to : ℕ)
+    (legs : List Leg) : Type 0 where
+  pub is : Js n from to legs
+  pub after : d ≤ leave
+  pub in_time : Journey table from leave legs to n.arrival
+  pub last : (later : ℕ) → Journey table from later legs to n.arrival → later ≤ leave
+
+-- the stages are the rides and walks of a journey of the set with these numbers, by one who leaves at its departure
+pub record AreStagesOf (basis : BasisData) (Ls : Numbers → ℕ → ℕ → ℕ → List Leg → Type 0) (n : Numbers) (stages : List Stage) : Type 0 where
+  pub leave : ℕ
   pub from : ℕ
   pub to : ℕ
   pub legs : List Leg
-  pub is : Js n from to legs
-  pub told : AllZip (TellsStage basis) (stages_of basis.timetable from d legs to) stages
+  pub is : Ls n leave from to legs
+  pub told : AllZip (TellsStage basis) (stages_of basis.timetable from leave legs to) stages
 
 -- a point has the rides and the arrival of these numbers, and the stages of such a journey if they are wanted
-pub record TellsReached (basis : BasisData) (Js : Numbers → ℕ → ℕ → List Leg → Type 0) (d : ℕ) (wanted : Bool) (n : Numbers)
+pub record TellsReached (basis : BasisData) (Ls : Numbers → ℕ → ℕ → ℕ → List Leg → Type 0) (wanted : Bool) (n : Numbers)
     (point : Point) : Type 0 where
   pub rides : point.rides ≡ n.rides
   pub at : TellsMoment basis.cover n.arrival point.at
-  pub told : wanted ≡ true → AreStagesOf basis Js d n point.stages.items
+  pub told : wanted ≡ true → AreStagesOf basis Ls n point.stages.items
   pub untold : wanted ≡ false → point.stages.items ≡ []
 
 -- each point tells the numbers of this front at its index
-abbrev pub TellsFront : BasisData → Journeys → ℕ → Bool → List Numbers → Answer → Type 0
-TellsFront basis Js d wanted front answers.NoRide = ⊥
-TellsFront basis Js d wanted front (answers.Arrive time) = ⊥
-TellsFront basis Js d wanted front (answers.Points points) = AllZip (TellsReached basis Js d wanted) front points.items
+abbrev pub TellsFront : BasisData → Leaving → Bool → List Numbers → Answer → Type 0
+TellsFront basis Ls wanted front answers.NoRide = ⊥
+TellsFront basis Ls wanted front (answers.Arrive time) = ⊥
+TellsFront basis Ls wanted front (answers.Points points) = AllZip (TellsReached basis Ls wanted) front points.items
 
 -- the best numbers over journeys of at most k rides between these stops, by rising rides
 abbrev pub ArePoints : BasisData → ℕ → Bool → List ℕ → List ℕ → ℕ → Answer → Type 0
 ArePoints basis k wanted froms tos d answer =
     (front : List Numbers) × AreBest (ReachesBetween basis.timetable k froms tos d) front
-    × TellsFront basis (IsJourneyOf basis.timetable froms tos d) d wanted front answer
+    × TellsFront basis (LeavesLast basis.timetable (IsJourneyOf basis.timetable froms tos d) d) wanted front answer
 
 -- the legs are such a journey, and its pattern stands in the tree that is held of its first stop; or it is on foot
 pub record IsHeldJourney (table : Table) (held : Held) (froms tos : List ℕ) (d : ℕ) (n : Numbers) (from to : ℕ) (legs : List Leg) : Type 0 where
@@ -90,7 +103,7 @@ pub record AreTreePoints (basis : BasisData) (held : Held) (wanted : Bool) (from
   pub front : List Numbers
   pub journeys : All (IsReached (IsHeldJourney basis.timetable held froms tos d)) front
   pub best : AreBest (AskedReaches basis.timetable held froms tos d) front
-  pub shown : TellsFront basis (IsHeldJourney basis.timetable held froms tos d) d wanted front answer
+  pub shown : TellsFront basis (LeavesLast basis.timetable (IsHeldJourney basis.timetable held froms tos d) d) wanted front answer
   pub exact : (k : ℕ) → AreComplete basis.timetable held k froms → AreBest (ReachesBetween basis.timetable k froms tos d) front
 
 -- the question's ids stand for these stops, and its moment is this one, which is covered

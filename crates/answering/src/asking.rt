@@ -129,7 +129,7 @@ fn scan_with_legs(
 {
     let network = basis.network(alloc)?;
     let found = scan_journeys(alloc, &network, asked.from, asked.to, asked.depart, rides)?;
-    let points = told(alloc, basis, asked.depart, true, found.points())?;
+    let points = told(alloc, basis, true, found.points())?;
     Ok(Answer::Points(points))
 }
 
@@ -205,7 +205,7 @@ pub fn ask<'a, T: Trees>(
     ensures refusal { IfErr result (IsUnanswered (stops_at basis.now.names) (IsMissing basis.now (T.held trees.now) question.now)
         basis.now.timetable moment question.now) }
 {
-    let (found, depart) = journeys(basis, network, trees, question, moment)?;
-    let points = told(alloc, basis, depart, legs, found.points())?;
+    let (found, _) = journeys(basis, network, trees, question, moment)?;
+    let points = told(alloc, basis, legs, found.points())?;
     Ok(Answer::Points(points))
 }

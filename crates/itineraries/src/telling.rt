@@ -48,11 +48,10 @@ fn trip_of(stage: &Stage) -> Option<&str> {
     }
 }
 
-// When a ride departs, or a walk begins that follows on this time.
-fn departure_of(begins: DayTime, stage: &Stage) -> DayTime {
+// When a ride departs, or a walk begins.
+fn departure_of(stage: &Stage) -> DayTime {
     match stage {
-        Stage::Ride { departs, .. } => *departs,
-        Stage::Walk { .. } => begins,
+        Stage::Ride { departs, .. } | Stage::Walk { departs, .. } => *departs,
     }
 }
 
@@ -201,10 +200,10 @@ impl Teller<'_> {
         })
     }
 
-    // A ride or a walk, which begins at this time if it is a walk.
-    fn leg(&self, alloc: Global, begins: DayTime, stage: &Stage) -> Result<Leg, AllocError> {
+    // A ride or a walk.
+    fn leg(&self, alloc: Global, stage: &Stage) -> Result<Leg, AllocError> {
         let (from, to) = ends_of(stage);
-        let (departs, arrives) = (departure_of(begins, stage), arrival_of(stage));
+        let (departs, arrives) = (departure_of(stage), arrival_of(stage));
         Ok(Leg {
             kind: kind_of(stage),
             frequency: self.frequency(stage),
@@ -216,39 +215,27 @@ impl Teller<'_> {
         })
     }
 
-    // The rides and walks of one who is there at this time.
-    fn legs(
-        &self,
-        alloc: Global,
-        begins: DayTime,
-        stages: &[Stage],
-    ) -> Result<Vec<Leg>, AllocError> {
+    // Rides and walks.
+    fn legs(&self, alloc: Global, stages: &[Stage]) -> Result<Vec<Leg>, AllocError> {
         let mut legs = Vec::with_capacity(alloc, stages.len())?;
-        let mut at = begins;
         for stage in stages {
-            legs.push(self.leg(alloc, at, stage)?)?;
-            at = arrival_of(stage);
+            legs.push(self.leg(alloc, stage)?)?;
         }
         Ok(legs)
     }
 
-    /// A journey of one who is there at this time.
-    pub(crate) fn journey(
-        &self,
-        alloc: Global,
-        begins: DayTime,
-        point: &Point,
-    ) -> Result<Journey, AllocError> {
+    /// A journey. One who stays where one is arrives at once.
+    pub(crate) fn journey(&self, alloc: Global, point: &Point) -> Result<Journey, AllocError> {
         let departs = match point.stages.first() {
-            Some(stage) => departure_of(begins, stage),
-            None => begins,
+            Some(stage) => departure_of(stage),
+            None => point.at,
         };
         Ok(Journey {
             rides: point.rides,
             departure: Some(self.time(departs)),
             arrival: self.time(point.at),
             seconds: self.seconds(departs, point.at),
-            legs: Some(self.legs(alloc, begins, &point.stages)?),
+            legs: Some(self.legs(alloc, &point.stages)?),
         })
     }
 
@@ -268,7 +255,6 @@ impl Teller<'_> {
         &self,
         alloc: Global,
         journeys: &mut Vec<Journey>,
-        begins: DayTime,
         answer: &Answer,
     ) -> Result<(), AllocError> {
         match answer {
@@ -276,7 +262,7 @@ impl Teller<'_> {
             Answer::Arrive(at) => journeys.push(self.arrival(*at))?,
             Answer::Points(points) => {
                 for point in points {
-                    journeys.push(self.journey(alloc, begins, point)?)?;
+                    journeys.push(self.journey(alloc, point)?)?;
                 }
             }
         }
@@ -284,14 +270,9 @@ impl Teller<'_> {
     }
 
     // The journeys of an answer.
-    fn journeys(
-        &self,
-        alloc: Global,
-        begins: DayTime,
-        answer: &Answer,
-    ) -> Result<Vec<Journey>, AllocError> {
+    fn journeys(&self, alloc: Global, answer: &Answer) -> Result<Vec<Journey>, AllocError> {
         let mut journeys = Vec::new(alloc);
-        self.put_journeys(alloc, &mut journeys, begins, answer)?;
+        self.put_journeys(alloc, &mut journeys, answer)?;
         Ok(journeys)
     }
 }
@@ -330,7 +311,7 @@ pub fn itinerary_by<'a>(
         command: asked.command,
         departure: teller.time(asked.departs),
         window: None,
-        journeys: teller.journeys(alloc, asked.departs, answer)?,
+        journeys: teller.journeys(alloc, answer)?,
         from: names.place(alloc, asked.from)?,
         to: names.place(alloc, asked.to)?,
     })

@@ -49,7 +49,7 @@ fn window_of(teller: &Teller<'_>, asked: &Asked<'_>, connections: &Connections) 
     }
 }
 
-// The connections as journeys, each of one who leaves at its departure.
+// The connections as journeys.
 fn journeys_of(
     alloc: Global,
     teller: &Teller<'_>,
@@ -57,7 +57,7 @@ fn journeys_of(
 ) -> Result<Vec<Journey>, AllocError> {
     let mut journeys = Vec::new(alloc);
     for connection in &connections.list {
-        journeys.push(teller.journey(alloc, connection.departs, &connection.journey)?)?;
+        journeys.push(teller.journey(alloc, &connection.journey)?)?;
     }
     Ok(journeys)
 }

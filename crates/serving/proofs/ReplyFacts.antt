@@ -25,7 +25,7 @@ module _ (p : PlannerView) (basis : BasisData) (wanted : Bool) (line : List ℕ)
   pub told_reply : (question : Question) (depart : ℕ) (journeys : List PointData) → IsAsked basis.cover line question depart
       → IsAnswered p old new question.from.now question.to.now depart journeys
       → (All (IsExact p.form) old.origin.opened.list → AreBestBetween p question.from.now question.to.now depart journeys)
-      → (reply : Reply) → IsTold basis depart wanted journeys reply → IsReply p basis wanted line old new reply
+      → (reply : Reply) → IsTold basis wanted journeys reply → IsReply p basis wanted line old new reply
   told_reply question depart journeys is answered exact (replies.Answer answer) told = record {
     question = question;
     depart = depart;

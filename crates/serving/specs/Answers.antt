@@ -18,7 +18,7 @@ use Rattle.answer_lines.specs.declared.answer.Answer.{Answer}
 use Rattle.answer_lines.specs.declared.answer.Answer.TheVariants as answers
 use Rattle.connection_lines.specs.declared.connections.Connections.{Connections}
 use Rattle.feed_basis.specs.Basis.{BasisData}
-use Rattle.told_journeys.specs.Points.{Tells}
+use Rattle.told_journeys.specs.Points.{TellsLeaving}
 use Rattle.question_lines.specs.Questions.{IsQuestion, NotQuestion}
 use Rattle.question_lines.specs.declared.question.Question.{Question}
 use Rattle.question_lines.specs.declared.question.Within.{Within}
@@ -35,11 +35,11 @@ pub record IsOver (basis : BasisData) (p : PlannerView) : Type 0 where
   pub table : p.form.table ≡ basis.timetable
   pub names : p.names ≡ basis.names
 
--- the answer tells these journeys, which begin at d, with their rides and walks where they are wanted
-abbrev pub TellsJourneys : BasisData → ℕ → Bool → List PointData → Answer → Type 0
-TellsJourneys basis d wanted journeys answers.NoRide = ⊥
-TellsJourneys basis d wanted journeys (answers.Arrive time) = ⊥
-TellsJourneys basis d wanted journeys (answers.Points points) = AllZip (Tells basis d wanted) journeys points.items
+-- the answer tells these journeys, each from its departure, with their rides and walks if they are wanted
+abbrev pub TellsJourneys : BasisData → Bool → List PointData → Answer → Type 0
+TellsJourneys basis wanted journeys answers.NoRide = ⊥
+TellsJourneys basis wanted journeys (answers.Arrive time) = ⊥
+TellsJourneys basis wanted journeys (answers.Points points) = AllZip (TellsLeaving basis wanted) journeys points.items
 
 -- The moment to leave at. A time of a day that isn't covered stands for one that no timetable covers.
 abbrev pub depart_of : Option ℕ → ℕ
@@ -62,7 +62,7 @@ pub record IsRightAnswer (p : PlannerView) (basis : BasisData) (wanted : Bool) (
   pub journeys : List PointData
   pub answered : IsAnswered p old new question.from.now question.to.now depart journeys
   pub exact : All (IsExact p.form) old.origin.opened.list → AreBestBetween p question.from.now question.to.now depart journeys
-  pub told : TellsJourneys basis depart wanted journeys answer
+  pub told : TellsJourneys basis wanted journeys answer
 
 -- the line is a question, which has no answer from one look of the reader, for this cause
 pub record IsRightRefusal (p : PlannerView) (cover : CoverDays) (line : List ℕ) (old new : BoardPart) (fault : AskFault) : Type 0 where
@@ -117,10 +117,10 @@ IsReply p basis wanted line old new (replies.Connections shown) = AreRightConnec
 IsReply p basis wanted line old new (replies.Refused refusal) = IsRefused p basis line old new refusal
 
 -- the reply tells these journeys, or that memory was refused
-abbrev pub IsTold : BasisData → ℕ → Bool → List PointData → Reply → Type 0
-IsTold basis d wanted journeys (replies.Answer answer) = TellsJourneys basis d wanted journeys answer
-IsTold basis d wanted journeys (replies.Connections shown) = ⊥
-IsTold basis d wanted journeys (replies.Refused refusal) = refusal ≡ refusals.Memory
+abbrev pub IsTold : BasisData → Bool → List PointData → Reply → Type 0
+IsTold basis wanted journeys (replies.Answer answer) = TellsJourneys basis wanted journeys answer
+IsTold basis wanted journeys (replies.Connections shown) = ⊥
+IsTold basis wanted journeys (replies.Refused refusal) = refusal ≡ refusals.Memory
 
 -- the reply to a question for connections, by what was found
 abbrev pub reply_of : Result Connections Fault → Reply

@@ -18,19 +18,18 @@ use std::alloc::Global;
 use timetable::LATEST_MOMENT;
 use told_journeys::told;
 
-// The journeys, which begin at the moment, as they are told; where memory is refused, that is replied.
+// The journeys as they are told; if memory is refused, that is replied.
 fn answer_of(
     alloc: Global,
     basis: &Basis,
-    depart: u32,
     legs: bool,
     journeys: &[pattern_query::Point],
 ) -> Reply<'static>
-    requires early { depart ≤ LATEST_MOMENT }
-    requires known { All (IsKnownJourney basis.now depart) journeys.now }
-    ensures { IsTold basis.now depart legs journeys.now result }
+    requires early { All (λ p. p.departure ≤ LATEST_MOMENT) journeys.now }
+    requires known { All (λ p. IsKnownJourney basis.now p.departure p) journeys.now }
+    ensures { IsTold basis.now legs journeys.now result }
 {
-    match told(alloc, basis, depart, legs, journeys) {
+    match told(alloc, basis, legs, journeys) {
         Ok(points) => Reply::Answer(Answer::Points(points)),
         Err(_) => Reply::Refused(Refusal::Memory),
     }
@@ -58,7 +57,7 @@ fn reply_to<'a>(
         .unwrap_or(u32::MAX);
     let (reader, answer) = planner.ask(reader, question.from, question.to, depart);
     let reply = match answer {
-        Ok(answer) => answer_of(alloc, basis, depart, legs, answer.points()),
+        Ok(answer) => answer_of(alloc, basis, legs, answer.points()),
         Err(fault) => Reply::Refused(Refusal::Ask(fault)),
     };
     (reader, reply)

@@ -19,7 +19,7 @@ use Rattle.answer_lines.specs.declared.answer.Answer.{Answer}
 use Rattle.answer_lines.specs.declared.answer.Answer.TheVariants as answers
 use Rattle.answer_lines.specs.declared.answer.Point.{Point}
 use Rattle.feed_basis.specs.Basis.{BasisData}
-use Rattle.answering.specs.Answers.{IsHeldJourney, Journeys, TellsFront, TellsReached}
+use Rattle.answering.specs.Answers.{IsHeldJourney, Journeys, Leaving, LeavesLast, TellsFront, TellsReached}
 use Rattle.store_answers.specs.Asked.{IsStoredJourney, StoredReaches}
 
 one_in : {X : Type 0} (x a : X) → Contains (x ∷ []) a → a ≡ x
@@ -78,28 +78,40 @@ own_of : (s : ℕ) (slot : Option Content) (tree : Content) → IsSomeAnd slot (
 own_of s slot tree stored is = subst (λ (o : Option Content). IsSomeAnd o (λ t. t.source ≡ s)) is stored
 
 -- points of journeys of a set are points of journeys of a larger one
-points_weaker : (basis : BasisData) (Js Ks : Journeys) (d : ℕ) (legs : Bool) (front : List Numbers) (points : List Point)
-    → ((n : Numbers) (from to : ℕ) (l : List Leg) → Js n from to l → Ks n from to l)
-    → AllZip (TellsReached basis Js d legs) front points → AllZip (TellsReached basis Ks d legs) front points
-points_weaker basis Js Ks d legs [] [] f h = tt
-points_weaker basis Js Ks d legs [] (point ∷ points) f h = absurd h
-points_weaker basis Js Ks d legs (n ∷ front) [] f h = absurd h
-points_weaker basis Js Ks d legs (n ∷ front) (point ∷ points) f h = (
+points_weaker : (basis : BasisData) (Ls Ms : Leaving) (legs : Bool) (front : List Numbers) (points : List Point)
+    → ((n : Numbers) (leave from to : ℕ) (l : List Leg) → Ls n leave from to l → Ms n leave from to l)
+    → AllZip (TellsReached basis Ls legs) front points → AllZip (TellsReached basis Ms legs) front points
+points_weaker basis Ls Ms legs [] [] f h = tt
+points_weaker basis Ls Ms legs [] (point ∷ points) f h = absurd h
+points_weaker basis Ls Ms legs (n ∷ front) [] f h = absurd h
+points_weaker basis Ls Ms legs (n ∷ front) (point ∷ points) f h = (
   record {
     rides = h.0.rides;
     at = h.0.at;
-    told = λ e. let s = h.0.told e in record { from = s.from; to = s.to; legs = s.legs; is = f n s.from s.to s.legs s.is; told = s.told };
+    told = λ e. let s = h.0.told e in record {
+      leave = s.leave;
+      from = s.from;
+      to = s.to;
+      legs = s.legs;
+      is = f n s.leave s.from s.to s.legs s.is;
+      told = s.told;
+    };
     untold = h.0.untold;
   },
-  points_weaker basis Js Ks d legs front points f h.1,
+  points_weaker basis Ls Ms legs front points f h.1,
 )
 
-pub front_weaker : (basis : BasisData) (Js Ks : Journeys) (d : ℕ) (legs : Bool) (front : List Numbers) (answer : Answer)
-    → ((n : Numbers) (from to : ℕ) (l : List Leg) → Js n from to l → Ks n from to l)
-    → TellsFront basis Js d legs front answer → TellsFront basis Ks d legs front answer
-front_weaker basis Js Ks d legs front answers.NoRide f h = absurd h
-front_weaker basis Js Ks d legs front (answers.Arrive time) f h = absurd h
-front_weaker basis Js Ks d legs front (answers.Points points) f h = points_weaker basis Js Ks d legs front points.items f h
+pub front_weaker : (basis : BasisData) (Ls Ms : Leaving) (legs : Bool) (front : List Numbers) (answer : Answer)
+    → ((n : Numbers) (leave from to : ℕ) (l : List Leg) → Ls n leave from to l → Ms n leave from to l)
+    → TellsFront basis Ls legs front answer → TellsFront basis Ms legs front answer
+front_weaker basis Ls Ms legs front answers.NoRide f h = absurd h
+front_weaker basis Ls Ms legs front (answers.Arrive time) f h = absurd h
+front_weaker basis Ls Ms legs front (answers.Points points) f h = points_weaker basis Ls Ms legs front points.items f h
+
+-- the last moment to leave for a journey of a set is that of the same journey in another set
+pub leaves_in : (table : Table) (Js Ks : Journeys) (d : ℕ) (n : Numbers) (leave from to : ℕ) (legs : List Leg)
+    → (Js n from to legs → Ks n from to legs) → LeavesLast table Js d n leave from to legs → LeavesLast table Ks d n leave from to legs
+leaves_in table Js Ks d n leave from to legs f h = record { is = f h.is; after = h.after; in_time = h.in_time; last = h.last }
 
 module _ (table : Table) (trees : List Content) (board : List (Option Content)) (froms tos : List ℕ) (d : ℕ) (are : AreOf trees board)
     (stored : All (IsStored (tree_at board)) froms) where

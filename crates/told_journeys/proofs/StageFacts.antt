@@ -5,7 +5,8 @@ use Rattle.std.proofs.lemmas.Option.{slice_get-get_or}
 use Rattle.timetable.specs.declared.parts.Call.{Call}
 use Rattle.timetable.specs.declared.parts.Leg.{Leg}
 use Rattle.timetable.specs.Table.{Table, Run, IsTable, walk}
-use Rattle.timetable.specs.Journeys.{call_at, Ride, from, to, arrives, Journey, Onward}
+use Rattle.timetable.specs.declared.parts.TheConstants.{LATEST_MOMENT}
+use Rattle.timetable.specs.Journeys.{call_at, Ride, from, to, departs, arrives, foot, Journey, Onward}
 use Rattle.timetable.proofs.Legs.{calls_are, call_is, there, ride_within}
 use Rattle.timetable.proofs.Rows.{walk_short}
 use Rattle.feed_basis.specs.Basis.{BasisData, IsSound}
@@ -19,6 +20,28 @@ arrives_by table leg valid = go (call_at table leg.instance leg.alight) refl whe
   go : (o : Option Call) → call_at table leg.instance leg.alight ≡ o → unwrap_or (option_map (λ c. c.arrival) o) 0 ≤ 3_455_998
   go None e = omega arith
   go (Some c) e = let is = call_is (calls_are table leg.instance valid) leg.alight c e in le_trans is.waits is.early
+
+-- no leg departs later than it arrives
+departs_by : (table : Table) (leg : Leg) → IsTable table → Ride table leg → departs table leg ≤ 3_455_998
+departs_by table leg valid ride = go (call_at table leg.instance leg.board) refl where
+  go : (o : Option Call) → call_at table leg.instance leg.board ≡ o → unwrap_or (option_map (λ c. c.departure) o) 0 ≤ 3_455_998
+  go None e = omega arith
+  go (Some c) e = (call_is (calls_are table leg.instance valid) leg.board c e).early
+
+-- one who leaves later for the same arrival leaves early enough to be told of
+pub leaves_early : (table : Table) (s t d e z : ℕ) (legs : List Leg) → IsTable table → d ≤ LATEST_MOMENT → Journey table s d legs t z
+    → Journey table s e legs t z → e ≤ LATEST_MOMENT
+leaves_early table s t d e z [] valid early at_d at_e = go (foot table s t) at_d at_e where
+  go : (o : Option ℕ) → IsSomeAnd o (λ w. z ≡ d + w) → IsSomeAnd o (λ w. z ≡ e + w) → e ≤ LATEST_MOMENT
+  go None a b = absurd a
+  go (Some w) a b = omega (arith, a, b, early)
+leaves_early table s t d e z (leg ∷ legs) valid early at_d at_e = go (foot table s (from table leg)) at_e.1 where
+  by : departs table leg ≤ 3_455_998
+  by = departs_by table leg valid at_e.0
+
+  go : (o : Option ℕ) → IsSomeAnd o (λ w. e + w ≤ departs table leg) → e ≤ LATEST_MOMENT
+  go None a = absurd a
+  go (Some w) a = omega (arith, a, by)
 
 -- a walk takes a day at most
 pub walk_by : (table : Table) (p q : ℕ) → IsTable table → unwrap_or (walk table p q) 0 ≤ 86_400
@@ -58,9 +81,9 @@ module _ (basis : BasisData) (valid : IsTable basis.timetable) (sound : IsSound 
 
   walk_known : (p a q : ℕ) → p < length basis.names.stops → q < length basis.names.stops → All (IsKnownStage basis) (walk_stage basis.timetable p a q)
   walk_known p a q from_known to_known = go (p == q) where
-    go : (same : Bool) → All (IsKnownStage basis) (cond same [] (numbered.Walk p q (a + unwrap_or (walk basis.timetable p q) 0) ∷ []))
+    go : (same : Bool) → All (IsKnownStage basis) (cond same [] (numbered.Walk p q a (a + unwrap_or (walk basis.timetable p q) 0) ∷ []))
     go true = All-nil (IsKnownStage basis)
-    go false = All-cons (IsKnownStage basis) (numbered.Walk p q (a + unwrap_or (walk basis.timetable p q) 0)) [] (from_known, to_known) (All-nil (IsKnownStage basis))
+    go false = All-cons (IsKnownStage basis) (numbered.Walk p q a (a + unwrap_or (walk basis.timetable p q) 0)) [] (from_known, to_known) (All-nil (IsKnownStage basis))
 
   onward_known : (p a : ℕ) (legs : List Leg) (t z : ℕ) → p < length basis.names.stops → t < length basis.names.stops → Onward basis.timetable p a legs t z
       → All (IsKnownStage basis) (stages_of basis.timetable p a legs t)

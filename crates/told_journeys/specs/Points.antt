@@ -16,7 +16,7 @@ abbrev pub IsKnownStage : BasisData → NumberedStage → Type 0
 IsKnownStage basis (numbered.Ride leg) =
     (leg.instance < length basis.timetable.instances) × (trip_of basis.timetable leg.instance < length basis.names.trips)
     × (from basis.timetable leg < length basis.names.stops) × (to basis.timetable leg < length basis.names.stops)
-IsKnownStage basis (numbered.Walk p q z) = (p < length basis.names.stops) × (q < length basis.names.stops)
+IsKnownStage basis (numbered.Walk p q a z) = (p < length basis.names.stops) × (q < length basis.names.stops)
 
 -- the rides and walks of a journey that begins at d are known
 abbrev pub IsKnownJourney : BasisData → ℕ → PointData → Type 0
@@ -28,6 +28,10 @@ pub record Tells (basis : BasisData) (d : ℕ) (wanted : Bool) (p : PointData) (
   pub at : TellsMoment basis.cover p.arrival point.at
   pub told : wanted ≡ true → AllZip (TellsStage basis) (stages_of basis.timetable p.from d p.legs p.to) point.stages.items
   pub untold : wanted ≡ false → point.stages.items ≡ []
+
+-- so it does by one who leaves at the journey's departure
+abbrev pub TellsLeaving : BasisData → Bool → PointData → Point → Type 0
+TellsLeaving basis wanted p point = Tells basis p.departure wanted p point
 
 -- a point has these numbers, and nothing else is told of it
 pub record TellsNumbers (basis : BasisData) (n : Numbers) (point : Point) : Type 0 where

@@ -15,7 +15,7 @@ use Rattle.answer_lines.specs.declared.stage.Stage.TheVariants as stages
 
 -- the walk from p, begun at the moment a, to q: none where the two are one stop
 abbrev pub walk_stage : Table → ℕ → ℕ → ℕ → List NumberedStage
-walk_stage table p a q = if p == q then [] else (numbered.Walk p q (a + unwrap_or (walk table p q) 0) ∷ [])
+walk_stage table p a q = if p == q then [] else (numbered.Walk p q a (a + unwrap_or (walk table p q) 0) ∷ [])
 
 -- one who is at p at the moment a takes the legs, with the walks before, between and after them, to t
 abbrev pub stages_of : Table → ℕ → ℕ → List Leg → ℕ → List NumberedStage
@@ -33,13 +33,14 @@ trip_of table instance = unwrap_or (option_map (λ run. run.trip) (slice_get tab
 abbrev pub trip_id : Table → NameLists → ℕ → List ℕ
 trip_id table names instance = slice_index_or names.trips (trip_of table instance) []
 
--- a ride is told by its leg and trip, and the stop and time at which it boards and alights; a walk by its stops, and when it arrives
+-- a ride is told by its leg and trip, and the stop and time at which it boards and alights; a walk by its stops, and when it begins and arrives
 abbrev pub TellsStage : BasisData → NumberedStage → Stage → Type 0
 TellsStage basis (numbered.Ride leg) (stages.Ride ride trip board leaves alight comes) =
     (ride ≡ leg) × (trip ≡ trip_id basis.timetable basis.names leg.instance)
     × (board ≡ stop_id basis.names (from basis.timetable leg)) × TellsMoment basis.cover (departs basis.timetable leg) leaves
     × (alight ≡ stop_id basis.names (to basis.timetable leg)) × TellsMoment basis.cover (arrives basis.timetable leg) comes
-TellsStage basis (numbered.Walk p q z) (stages.Walk leaves reaches comes) =
-    (leaves ≡ stop_id basis.names p) × (reaches ≡ stop_id basis.names q) × TellsMoment basis.cover z comes
-TellsStage basis (numbered.Ride leg) (stages.Walk leaves reaches comes) = ⊥
-TellsStage basis (numbered.Walk p q z) (stages.Ride ride trip board leaves alight comes) = ⊥
+TellsStage basis (numbered.Walk p q a z) (stages.Walk leaves begins reaches comes) =
+    (leaves ≡ stop_id basis.names p) × TellsMoment basis.cover a begins
+    × (reaches ≡ stop_id basis.names q) × TellsMoment basis.cover z comes
+TellsStage basis (numbered.Ride leg) (stages.Walk leaves begins reaches comes) = ⊥
+TellsStage basis (numbered.Walk p q a z) (stages.Ride ride trip board leaves alight comes) = ⊥

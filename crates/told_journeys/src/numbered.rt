@@ -7,13 +7,14 @@ ghost use Rattle.told_journeys.specs.Stages.{stages_of, walk_stage};
 use std::alloc::{AllocError, Global};
 use timetable::{LATEST_MOMENT, Leg, StopId, Timetable};
 
-/// A stage of a journey by its numbers: a ride, or a walk to another stop with the moment at which it ends.
+/// A stage of a journey by its numbers: a ride, or a walk to another stop with the moments at which it begins and ends.
 #[derive(Clone, Copy, Debug, PartialEq, Eq)]
 pub enum NumberedStage {
     Ride(Leg),
     Walk {
         from: StopId,
         to: StopId,
+        departure: u32,
         arrival: u32,
     },
 }
@@ -34,6 +35,7 @@ fn push_walk(
         stages.push(NumberedStage::Walk {
             from,
             to,
+            departure: at,
             arrival: at + seconds,
         })?;
     }

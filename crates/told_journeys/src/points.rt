@@ -2,7 +2,7 @@
 
 ghost use Rattle.std.specs.Prelude.{◌≤◌, IfOk};
 ghost use Rattle.std.specs.List.{All, AllZip};
-ghost use Rattle.told_journeys.specs.Points.{IsKnownJourney, TellsNumbers, Tells};
+ghost use Rattle.told_journeys.specs.Points.{IsKnownJourney, TellsLeaving, TellsNumbers, Tells};
 
 use crate::numbered::numbered_stages;
 use crate::stages::stages_of;
@@ -58,22 +58,21 @@ pub fn tell(
     })
 }
 
-/// Each of these journeys, which begin at the moment, as a point, with its rides and walks where they are wanted. It fails only where
+/// Each of these journeys as a point, with its rides and walks if they are wanted, by one who leaves at its departure. It fails only if
 /// memory runs out.
 pub fn told(
     alloc: Global,
     basis: &Basis,
-    depart: u32,
     wanted: bool,
     journeys: &[pattern_query::Point],
 ) -> Result<Vec<Point>, AllocError>
-    requires early { depart ≤ LATEST_MOMENT }
-    requires known { All (IsKnownJourney basis.now depart) journeys.now }
-    ensures { IfOk result (λ points. AllZip (Tells basis.now depart wanted) journeys.now points.items) }
+    requires early { All (λ p. p.departure ≤ LATEST_MOMENT) journeys.now }
+    requires known { All (λ p. IsKnownJourney basis.now p.departure p) journeys.now }
+    ensures { IfOk result (λ points. AllZip (TellsLeaving basis.now wanted) journeys.now points.items) }
 {
     let mut points = Vec::with_capacity(alloc, journeys.len())?;
     for journey in journeys {
-        points.push(tell(alloc, basis, depart, wanted, journey)?)?;
+        points.push(tell(alloc, basis, journey.departure(), wanted, journey)?)?;
     }
     Ok(points)
 }

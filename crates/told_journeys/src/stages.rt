@@ -30,8 +30,14 @@ fn stage_of(alloc: Global, basis: &Basis, stage: NumberedStage) -> Result<Stage,
                 arrives: basis.day_time(timetable.arrival_of(leg)),
             }
         }
-        NumberedStage::Walk { from, to, arrival } => Stage::Walk {
+        NumberedStage::Walk {
+            from,
+            to,
+            departure,
+            arrival,
+        } => Stage::Walk {
             from: Id::new(alloc, names.stop(from))?,
+            departs: basis.day_time(departure),
             to: Id::new(alloc, names.stop(to))?,
             arrives: basis.day_time(arrival),
         },
