@@ -1,10 +1,10 @@
 //! The search of a source's patterns for the best journeys to a stop.
 
-ghost use Rattle.std.specs.Prelude.{◌≡◌, ◌+◌, ◌<◌, ◌≤◌, ◌++◌, ◌∷◌, [], length, IfSome, IfNone};
+ghost use Rattle.std.specs.Prelude.{◌≡◌, ℕ, ◌+◌, ◌<◌, ◌≤◌, ◌++◌, ◌∷◌, [], length, IfSome, IfNone};
 ghost use Rattle.timetable.specs.Table.{IsTable};
 ghost use Rattle.timetable.specs.Journeys.{arrives, pattern};
 ghost use Rattle.pattern_query.specs.Patterns.{paths_of};
-ghost use Rattle.pattern_query.specs.Way.{Earliest, Boards, Exactly, EmptyOrIn, HasFront, hop, is_some};
+ghost use Rattle.pattern_query.specs.Way.{Stands, Earliest, Boards, Exactly, EmptyOrIn, HasFront, hop, is_some, leaving};
 ghost use Rattle.pattern_query.specs.BestSoFar.{Searched, AreThere};
 
 use crate::answer::{Legs, Point};
@@ -78,6 +78,20 @@ impl Search<'_> {
         Some(leg)
     }
 
+    // When one leaves for the legs: so that the walk to the first ends just in time. Without legs one leaves when asked.
+    fn departure_of(&self, legs: &Legs) -> u32
+        requires { (p a : ℕ) × Stands self.now.network.now self.now.source self.now.depart legs.now.items p a }
+        ensures { result ≡ leaving self.now.network.now self.now.source self.now.depart legs.now.items }
+    {
+        let table = self.network.timetable();
+        let Some(leg) = legs.first() else {
+            return self.depart;
+        };
+        let board = table.boarding_stop(*leg);
+        let walk = hop(self.network, false, self.source, board).unwrap_or(0);
+        table.departure_of(*leg) - walk
+    }
+
     // Offers the journey of the legs and the walk from where they lead.
     fn arrive(&self, at: StopId, since: u32, legs: &Legs, points: &mut [Option<Point>])
         requires way { Earliest self.now.network.now self.now.source self.now.depart legs.now.items at since }
@@ -87,7 +101,8 @@ impl Search<'_> {
             (Exactly (pattern self.now.network.now legs.now.items)) points.old points.new }
     {
         if let Some(seconds) = hop(self.network, false, at, self.to) {
-            let point = Point::new(self.source, self.to, since + seconds, legs);
+            let departure = self.departure_of(legs);
+            let point = Point::new(self.source, self.to, departure, since + seconds, legs);
             offer(points, point);
         }
     }
