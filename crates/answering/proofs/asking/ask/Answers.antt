@@ -14,7 +14,7 @@ use Rattle.answering.proofs.asking.ask.Goals as goal
 pub told-requires-clause-early : goal.told-requires-clause-early
 told-requires-clause-early g c =
     let basis = c.args.basis.now in
-    let d = c.in_ok-found.field-1 in
+    let d = c.in_ok-found.field-0-1 in
     let found = c.in_ok-found.ensures.found in
     let held : ℕ → Option Content = g.T.Trees.held c.args.trees.now in
     subst (λ l. All (λ (x : PointData). x.departure ≤ LATEST_MOMENT) l) (sym c.points.ensures)
@@ -26,7 +26,7 @@ told-requires-clause-early g c =
 pub told-requires-clause-known : goal.told-requires-clause-known
 told-requires-clause-known g c =
     let basis = c.args.basis.now in
-    let d = c.in_ok-found.field-1 in
+    let d = c.in_ok-found.field-0-1 in
     let found = c.in_ok-found.ensures.found in
     let held : ℕ → Option Content = g.T.Trees.held c.args.trees.now in
     let sound = c.in_ok-found.ensures.sound in
@@ -43,7 +43,7 @@ told-requires-clause-known g c =
 pub returns-clause-answer : goal.returns-clause-answer
 returns-clause-answer g c =
     let basis = c.args.basis.now in
-    let d = c.in_ok-found.field-1 in
+    let d = c.in_ok-found.field-0-1 in
     let found = c.in_ok-found.ensures.found in
     let held : ℕ → Option Content = g.T.Trees.held c.args.trees.now in
     let moment = c.in_ok-found.ensures.moment in
