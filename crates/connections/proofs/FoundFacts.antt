@@ -40,7 +40,7 @@ numbers_in points p h =
 -- and each of these is of a point
 pub point_of : (points : List PointData) (n : Numbers) → Contains (map numbers points) n → (p : PointData) × Contains points p × (numbers p ≡ n)
 point_of points n h =
-    let some : PointData = record { from = 0; to = 0; arrival = 0; rides = 0; legs = [] } in
+    let some : PointData = record { from = 0; to = 0; departure = 0; arrival = 0; rides = 0; legs = [] } in
     let at = at_from_Contains (map numbers points) n h in
     let lt : at.0 < length points = (let l = at.1 in omega (arith, l, length-map {B = Numbers} points numbers)) in
     (get_or points at.0 some, Contains-get_or points at.0 some lt, sym (get_or-map numbers points at.0 some n lt) ∙ at.2 n)
