@@ -4,12 +4,12 @@ use Rattle.std.specs.Prelude.{◌≡◌, ℕ, ◌≤◌, Bool, true, false, List
 use Rattle.std.specs.List.{All, AllZip, Contains}
 use Rattle.timetable.specs.declared.parts.Leg.{Leg}
 use Rattle.timetable.specs.declared.parts.Numbers.{Numbers}
-use Rattle.timetable.specs.Journeys.{Journey, Serves, arrives}
+use Rattle.timetable.specs.Journeys.{Serves, arrives}
 use Rattle.timetable.specs.Table.{Table}
 use Rattle.timetable.specs.Front.{AreBest}
 use Rattle.pattern_tree.specs.Content.{Content}
-use Rattle.pattern_query.specs.Answer.{HasPattern}
-use Rattle.pattern_query.specs.Questions.{AreComplete, AskedReaches, Held, IsStored, ReachesBetween}
+use Rattle.pattern_query.specs.Answer.{PointData, numbers, IsJourney}
+use Rattle.pattern_query.specs.Questions.{AreComplete, AskedReaches, Held, IsAskedPoint, IsStored, ReachesBetween}
 use Rattle.answer_lines.specs.declared.answer.Answer.{Answer}
 use Rattle.answer_lines.specs.declared.answer.Answer.TheVariants as answers
 use Rattle.answer_lines.specs.declared.answer.Point.{Point}
@@ -32,68 +32,39 @@ IsDirect basis froms tos d (answers.Arrive time) =
     × TellsMoment basis.cover (arrives basis.timetable leg) time
 IsDirect basis froms tos d (answers.Points points) = ⊥
 
--- the legs are a journey from one of the first stops at d to one of the others, with these numbers
-pub record IsJourneyOf (table : Table) (froms tos : List ℕ) (d : ℕ) (n : Numbers) (from to : ℕ) (legs : List Leg) : Type 0 where
-  pub starts : Contains froms from
-  pub ends : Contains tos to
-  pub journey : Journey table from d legs to n.arrival
-  pub rides : length legs ≡ n.rides
+-- the point is a journey at d from one of the first stops to one of the others
+abbrev pub IsPointBetween : Table → List ℕ → List ℕ → ℕ → PointData → Type 0
+IsPointBetween table froms tos d p = (s : ℕ) × (t : ℕ) × Contains froms s × Contains tos t × IsJourney table s t d p
 
--- a set of journeys: of each its numbers, its first and its last stop, and its legs
-abbrev pub Journeys : Type 1
-Journeys = Numbers → ℕ → ℕ → List Leg → Type 0
+-- some point of the set has these numbers
+abbrev pub IsReached : (PointData → Type 0) → Numbers → Type 0
+IsReached Of n = (p : PointData) × Of p × (numbers p ≡ n)
 
--- some journey of the set has these numbers
-abbrev pub IsReached : Journeys → Numbers → Type 0
-IsReached Js n = (from : ℕ) × (to : ℕ) × (legs : List Leg) × Js n from to legs
+-- the stages are the rides and walks of a point of the set with these numbers, by one who leaves at its departure
+pub record AreStagesOf (basis : BasisData) (Of : PointData → Type 0) (n : Numbers) (stages : List Stage) : Type 0 where
+  pub point : PointData
+  pub is : Of point
+  pub reaches : numbers point ≡ n
+  pub told : AllZip (TellsStage basis) (stages_of basis.timetable point.from point.departure point.legs point.to) stages
 
--- a set of journeys with departures: of each its numbers, the moment at which one leaves, its first and its last stop, and its legs
-abbrev pub Leaving : Type 1
-Leaving = Numbers → ℕ → ℕ → ℕ → List Leg → Type 0
-
--- one who leaves at this moment, which isn't before d, is in time for the journey of the set; one who leaves later isn't
-pub record LeavesLast (table : Table) (Js : Numbers → ℕ → ℕ → List Leg → Type 0) (d : ℕ) (n : Numbers) (leave from to : ℕ)
-    (legs : List Leg) : Type 0 where
-  pub is : Js n from to legs
-  pub after : d ≤ leave
-  pub in_time : Journey table from leave legs to n.arrival
-  pub last : (later : ℕ) → Journey table from later legs to n.arrival → later ≤ leave
-
--- the stages are the rides and walks of a journey of the set with these numbers, by one who leaves at its departure
-pub record AreStagesOf (basis : BasisData) (Ls : Numbers → ℕ → ℕ → ℕ → List Leg → Type 0) (n : Numbers) (stages : List Stage) : Type 0 where
-  pub leave : ℕ
-  pub from : ℕ
-  pub to : ℕ
-  pub legs : List Leg
-  pub is : Ls n leave from to legs
-  pub told : AllZip (TellsStage basis) (stages_of basis.timetable from leave legs to) stages
-
--- a point has the rides and the arrival of these numbers, and the stages of such a journey if they are wanted
-pub record TellsReached (basis : BasisData) (Ls : Numbers → ℕ → ℕ → ℕ → List Leg → Type 0) (wanted : Bool) (n : Numbers)
-    (point : Point) : Type 0 where
-  pub rides : point.rides ≡ n.rides
-  pub at : TellsMoment basis.cover n.arrival point.at
-  pub told : wanted ≡ true → AreStagesOf basis Ls n point.stages.items
-  pub untold : wanted ≡ false → point.stages.items ≡ []
+-- what is told has the rides and the arrival of these numbers, and the stages of such a point if they are wanted
+pub record TellsReached (basis : BasisData) (Of : PointData → Type 0) (wanted : Bool) (n : Numbers) (told : Point) : Type 0 where
+  pub rides : told.rides ≡ n.rides
+  pub at : TellsMoment basis.cover n.arrival told.at
+  pub staged : wanted ≡ true → AreStagesOf basis Of n told.stages.items
+  pub unstaged : wanted ≡ false → told.stages.items ≡ []
 
 -- each point tells the numbers of this front at its index
-abbrev pub TellsFront : BasisData → Leaving → Bool → List Numbers → Answer → Type 0
-TellsFront basis Ls wanted front answers.NoRide = ⊥
-TellsFront basis Ls wanted front (answers.Arrive time) = ⊥
-TellsFront basis Ls wanted front (answers.Points points) = AllZip (TellsReached basis Ls wanted) front points.items
+abbrev pub TellsFront : BasisData → (PointData → Type 0) → Bool → List Numbers → Answer → Type 0
+TellsFront basis Of wanted front answers.NoRide = ⊥
+TellsFront basis Of wanted front (answers.Arrive time) = ⊥
+TellsFront basis Of wanted front (answers.Points points) = AllZip (TellsReached basis Of wanted) front points.items
 
 -- the best numbers over journeys of at most k rides between these stops, by rising rides
 abbrev pub ArePoints : BasisData → ℕ → Bool → List ℕ → List ℕ → ℕ → Answer → Type 0
 ArePoints basis k wanted froms tos d answer =
     (front : List Numbers) × AreBest (ReachesBetween basis.timetable k froms tos d) front
-    × TellsFront basis (LeavesLast basis.timetable (IsJourneyOf basis.timetable froms tos d) d) wanted front answer
-
--- the legs are such a journey, and its pattern stands in the tree that is held of its first stop; or it is on foot
-pub record IsHeldJourney (table : Table) (held : Held) (froms tos : List ℕ) (d : ℕ) (n : Numbers) (from to : ℕ) (legs : List Leg) : Type 0 where
-  pub is : IsJourneyOf table froms tos d n from to legs
-  pub tree : Content
-  pub holds : held from ≡ Some tree
-  pub has : HasPattern table tree to legs
+    × TellsFront basis (IsPointBetween basis.timetable froms tos d) wanted front answer
 
 -- The answer from the trees that are held: those of the first stops are among them, and each point is a journey of these trees with its
 -- numbers. The points are the best of all journeys of these trees; if the trees are complete, the best over all journeys of at most k
@@ -101,9 +72,9 @@ pub record IsHeldJourney (table : Table) (held : Held) (froms tos : List ℕ) (d
 pub record AreTreePoints (basis : BasisData) (held : Held) (wanted : Bool) (froms tos : List ℕ) (d : ℕ) (answer : Answer) : Type 0 where
   pub stored : All (IsStored held) froms
   pub front : List Numbers
-  pub journeys : All (IsReached (IsHeldJourney basis.timetable held froms tos d)) front
+  pub journeys : All (IsReached (IsAskedPoint basis.timetable held froms tos d)) front
   pub best : AreBest (AskedReaches basis.timetable held froms tos d) front
-  pub shown : TellsFront basis (LeavesLast basis.timetable (IsHeldJourney basis.timetable held froms tos d) d) wanted front answer
+  pub shown : TellsFront basis (IsAskedPoint basis.timetable held froms tos d) wanted front answer
   pub exact : (k : ℕ) → AreComplete basis.timetable held k froms → AreBest (ReachesBetween basis.timetable k froms tos d) front
 
 -- the question's ids stand for these stops, and its moment is this one, which is covered

@@ -1,26 +1,12 @@
 -- Journeys that were found. Only private clauses cite these words.
 use Rattle.std.specs.Prelude.{◌≡◌, ℕ, List, map, Some}
 use Rattle.std.specs.List.{All}
-use Rattle.timetable.specs.Table.{Table}
 use Rattle.timetable.specs.Front.{AreBest}
 use Rattle.pattern_query.specs.Answer.{PointData, numbers}
 use Rattle.feed_ids.specs.Names.{stops_at}
-use Rattle.pattern_query.specs.Questions.{AreComplete, AskedReaches, Held, IsStored, ReachesBetween}
+use Rattle.pattern_query.specs.Questions.{AreComplete, AskedReaches, Held, IsAskedPoint, IsStored, ReachesBetween}
 use Rattle.question_lines.specs.declared.question.Question.{Question}
 use Rattle.feed_basis.specs.Basis.{BasisData}
-use Rattle.answering.specs.Answers.{IsHeldJourney, IsJourneyOf, LeavesLast}
-
--- the point is a journey from one of the first stops at d to one of the others, with its numbers
-abbrev pub IsJourneyBetween : Table → List ℕ → List ℕ → ℕ → PointData → Type 0
-IsJourneyBetween table froms tos d p = IsJourneyOf table froms tos d (numbers p) p.from p.to p.legs
-
--- so it is, and it is a journey of the trees that are held
-abbrev pub IsHeldBetween : Table → Held → List ℕ → List ℕ → ℕ → PointData → Type 0
-IsHeldBetween table held froms tos d p = IsHeldJourney table held froms tos d (numbers p) p.from p.to p.legs
-
--- one leaves for it at its departure
-abbrev pub LeavesBetween : Table → Held → List ℕ → List ℕ → ℕ → PointData → Type 0
-LeavesBetween table held froms tos d p = LeavesLast table (IsHeldJourney table held froms tos d) d (numbers p) p.departure p.from p.to p.legs
 
 -- journeys between the stops of the question's ids at d, from the trees of the first; the best of all where these trees are complete
 pub record AreFound (basis : BasisData) (held : Held) (question : Question) (d : ℕ) (points : List PointData) : Type 0 where
@@ -29,8 +15,7 @@ pub record AreFound (basis : BasisData) (held : Held) (question : Question) (d :
   pub leaves : stops_at basis.names question.from.now ≡ Some froms
   pub reaches : stops_at basis.names question.to.now ≡ Some tos
   pub stored : All (IsStored held) froms
-  pub each : All (IsHeldBetween basis.timetable held froms tos d) points
-  pub leaving : All (LeavesBetween basis.timetable held froms tos d) points
+  pub each : All (IsAskedPoint basis.timetable held froms tos d) points
   pub best : AreBest (AskedReaches basis.timetable held froms tos d) (map numbers points)
   pub exact : (k : ℕ) → AreComplete basis.timetable held k froms
       → AreBest (ReachesBetween basis.timetable k froms tos d) (map numbers points)

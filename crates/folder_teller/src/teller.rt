@@ -18,8 +18,7 @@ use feed_report::FeedReport;
 use feed_texts::{BuildCount, ListedStop, StopList};
 use file_faults::FaultList;
 use gtfs_tables::{FaultKind, FeedFault, FeedFile};
-use itineraries::{Asked as AskedFor, connections_of, itinerary_of};
-use itinerary_texts::Itinerary;
+use itineraries::{Found, itinerary_of};
 use options::Settings;
 use printing::{Asked, Given, Teller};
 use question_lines::Question;
@@ -56,32 +55,20 @@ impl<'r> FolderTeller<'r> {
         Names::all(alloc, &sheets)
     }
 
-    // What is told of an answer.
-    fn itinerary<'a>(
+    // The text of what was found, with the names that the folder has.
+    fn itinerary(
         &self,
         alloc: Global,
-        settings: &Settings<'_>,
-        asked: &AskedFor<'a>,
+        format: Format,
+        asked: &Asked<'_, '_>,
         basis: &Basis,
-        answer: &Answer,
-    ) -> Result<Itinerary<'a>, AllocError> {
-        let sheets = self.sheets(alloc, settings.feed)?;
-        let clock = Clock::of(settings.zone);
-        itinerary_of(alloc, basis, clock, &sheets, asked, answer)
-    }
-
-    // The itinerary of the connections of a window, with the names that the folder has.
-    fn window<'a>(
-        &self,
-        alloc: Global,
-        settings: &Settings<'_>,
-        asked: &AskedFor<'a>,
-        basis: &Basis,
-        connections: &Connections,
-    ) -> Result<Itinerary<'a>, AllocError> {
-        let sheets = self.sheets(alloc, settings.feed)?;
-        let clock = Clock::of(settings.zone);
-        connections_of(alloc, basis, clock, &sheets, asked, connections)
+        found: Found<'_>,
+    ) -> Result<String, AllocError> {
+        let sheets = self.sheets(alloc, asked.settings.feed)?;
+        let clock = Clock::of(asked.settings.zone);
+        let asked = asked_by(asked.command, &asked.question, format);
+        let itinerary = itinerary_of(alloc, basis, clock, &sheets, &asked, &found)?;
+        told_text(alloc, format, itinerary)
     }
 
     // The stops of these ids, with the names that the folder has.
@@ -150,10 +137,7 @@ impl Teller for FolderTeller<'_> {
         basis: &Basis,
         answer: &Answer,
     ) -> Result<String, AllocError> {
-        let settings = &asked.settings;
-        let asked = asked_by(asked.command, &asked.question, format);
-        let itinerary = self.itinerary(alloc, settings, &asked, basis, answer)?;
-        told_text(alloc, format, itinerary)
+        self.itinerary(alloc, format, asked, basis, Found::Answer(answer))
     }
 
     fn connections(
@@ -164,10 +148,7 @@ impl Teller for FolderTeller<'_> {
         basis: &Basis,
         connections: &Connections,
     ) -> Result<String, AllocError> {
-        let settings = &asked.settings;
-        let asked = asked_by(asked.command, &asked.question, format);
-        let itinerary = self.window(alloc, settings, &asked, basis, connections)?;
-        told_text(alloc, format, itinerary)
+        self.itinerary(alloc, format, asked, basis, Found::Connections(connections))
     }
 
     fn report(

@@ -1,11 +1,11 @@
 //! What is told of an answer: its journeys with the names that the feed has. What is told is the answer that it is made of; names are
-//! looked up for display alone. The texts are made by `itinerary_texts`.
+//! looked up only for display. The texts are made by `itinerary_texts`.
 #![tactic(auto)]
 
 mod repeats;
+mod stages;
 mod telling;
 mod through;
-mod window;
+mod wanted;
 
-pub use telling::{Asked, itinerary_by, itinerary_of, places_of};
-pub use window::{connections_by, connections_of};
+pub use telling::{Asked, Found, itinerary_by, itinerary_of, places_of};

@@ -1,10 +1,13 @@
 //! From an answer to what is told of it.
 
 use crate::repeats::frequency_of;
+use crate::stages::{arrival_of, departure_of, ends_of, kind_of, trip_of};
 use crate::through::stops_between;
+use crate::wanted::names_for;
 use answer_lines::{Answer, DayTime, Point, Stage};
+use connection_lines::Connections;
 use feed_basis::Basis;
-use itinerary_texts::{Frequency, Itinerary, Journey, Kind, Leg, Place, Stay, Time, Trip};
+use itinerary_texts::{Frequency, Itinerary, Journey, Leg, Place, Stay, Time, Trip, Window};
 use std::alloc::{AllocError, Global};
 use told_names::{NameSheets, Names};
 use zone_clock::Clock;
@@ -25,138 +28,26 @@ pub struct Asked<'a> {
     pub through: bool,
 }
 
-// How one gets on by a ride or a walk.
-fn kind_of(stage: &Stage) -> Kind {
-    match stage {
-        Stage::Ride { .. } => Kind::Ride,
-        Stage::Walk { .. } => Kind::Walk,
-    }
-}
-
-// The ids of the stops at which a ride or a walk begins and ends.
-fn ends_of(stage: &Stage) -> (&str, &str) {
-    match stage {
-        Stage::Ride { from, to, .. } | Stage::Walk { from, to, .. } => (from.as_str(), to.as_str()),
-    }
-}
-
-// The trip of a ride.
-fn trip_of(stage: &Stage) -> Option<&str> {
-    match stage {
-        Stage::Ride { trip, .. } => Some(trip.as_str()),
-        Stage::Walk { .. } => None,
-    }
-}
-
-// When a ride departs, or a walk begins.
-fn departure_of(stage: &Stage) -> DayTime {
-    match stage {
-        Stage::Ride { departs, .. } | Stage::Walk { departs, .. } => *departs,
-    }
-}
-
-// When a ride or a walk arrives.
-fn arrival_of(stage: &Stage) -> DayTime {
-    match stage {
-        Stage::Ride { arrives, .. } | Stage::Walk { arrives, .. } => *arrives,
-    }
-}
-
-/// The stops and trips whose names are wanted.
-#[derive(Drop)]
-pub(crate) struct Wanted<'a> {
-    pub(crate) stops: Vec<&'a str>,
-    pub(crate) trips: Vec<&'a str>,
-}
-
-impl<'a> Wanted<'a> {
-    // Puts in those of a ride or a walk.
-    fn put(&mut self, stage: &'a Stage) -> Result<(), AllocError> {
-        let (from, to) = ends_of(stage);
-        self.stops.push(from)?;
-        self.stops.push(to)?;
-        if let Some(trip) = trip_of(stage) {
-            self.trips.push(trip)?;
-        }
-        Ok(())
-    }
-
-    // Puts in the stops that a ride calls at in between.
-    fn put_through(
-        &mut self,
-        alloc: Global,
-        basis: &'a Basis,
-        stage: &Stage,
-    ) -> Result<(), AllocError> {
-        self.stops
-            .extend_from_slice(&stops_between(alloc, basis, stage)?)
-    }
-
-    /// Puts in those of a journey.
-    pub(crate) fn put_point(
-        &mut self,
-        alloc: Global,
-        basis: &'a Basis,
-        through: bool,
-        point: &'a Point,
-    ) -> Result<(), AllocError> {
-        for stage in &point.stages {
-            self.put(stage)?;
-            if through {
-                self.put_through(alloc, basis, stage)?;
-            }
-        }
-        Ok(())
-    }
-
-    // Puts in those of an answer to what was asked.
-    fn put_answer(
-        &mut self,
-        alloc: Global,
-        basis: &'a Basis,
-        asked: &'a Asked<'_>,
-        answer: &'a Answer,
-    ) -> Result<(), AllocError> {
-        self.stops.push(asked.from)?;
-        self.stops.push(asked.to)?;
-        if let Answer::Points(points) = answer {
-            for point in points {
-                self.put_point(alloc, basis, asked.through, point)?;
-            }
-        }
-        Ok(())
-    }
-}
-
-// The names that are wanted to tell an answer to what was asked.
-fn names_for<'a>(
-    alloc: Global,
-    basis: &'a Basis,
-    sheets: &NameSheets,
-    asked: &'a Asked<'_>,
-    answer: &'a Answer,
-) -> Result<Names, AllocError> {
-    let mut wanted = Wanted {
-        stops: Vec::new(alloc),
-        trips: Vec::new(alloc),
-    };
-    wanted.put_answer(alloc, basis, asked, answer)?;
-    Names::of(alloc, sheets, &wanted.stops, &wanted.trips)
-}
-
-/// What itineraries are made with.
+/// What was found: an answer, or the connections of a window.
 #[derive(Clone, Copy)]
-pub(crate) struct Teller<'a> {
-    pub(crate) basis: &'a Basis,
-    pub(crate) clock: Clock,
-    pub(crate) names: &'a Names,
-    /// Whether rides have the stops between, at which they call.
-    pub(crate) through: bool,
+pub enum Found<'f> {
+    Answer(&'f Answer),
+    Connections(&'f Connections),
+}
+
+// What itineraries are made with.
+#[derive(Clone, Copy)]
+struct Teller<'a> {
+    basis: &'a Basis,
+    clock: Clock,
+    names: &'a Names,
+    // Whether rides have the stops between, at which they call.
+    through: bool,
 }
 
 impl Teller<'_> {
-    /// A time by the clock.
-    pub(crate) fn time(&self, at: DayTime) -> Time {
+    // A time by the clock.
+    fn time(&self, at: DayTime) -> Time {
         self.clock.time(at)
     }
 
@@ -224,8 +115,8 @@ impl Teller<'_> {
         Ok(legs)
     }
 
-    /// A journey. One who stays where one is arrives at once.
-    pub(crate) fn journey(&self, alloc: Global, point: &Point) -> Result<Journey, AllocError> {
+    // A journey. One who stays where one is arrives at once.
+    fn journey(&self, alloc: Global, point: &Point) -> Result<Journey, AllocError> {
         let departs = match point.stages.first() {
             Some(stage) => departure_of(stage),
             None => point.at,
@@ -250,56 +141,76 @@ impl Teller<'_> {
         }
     }
 
-    // Puts in the journeys of an answer.
+    // Puts in the journeys of what was found.
     fn put_journeys(
         &self,
         alloc: Global,
         journeys: &mut Vec<Journey>,
-        answer: &Answer,
+        found: &Found<'_>,
     ) -> Result<(), AllocError> {
-        match answer {
-            Answer::NoRide => {}
-            Answer::Arrive(at) => journeys.push(self.arrival(*at))?,
-            Answer::Points(points) => {
+        match found {
+            Found::Answer(Answer::NoRide) => {}
+            Found::Answer(Answer::Arrive(at)) => journeys.push(self.arrival(*at))?,
+            Found::Answer(Answer::Points(points)) => {
                 for point in points {
                     journeys.push(self.journey(alloc, point)?)?;
+                }
+            }
+            Found::Connections(connections) => {
+                for connection in &connections.list {
+                    journeys.push(self.journey(alloc, &connection.journey)?)?;
                 }
             }
         }
         Ok(())
     }
 
-    // The journeys of an answer.
-    fn journeys(&self, alloc: Global, answer: &Answer) -> Result<Vec<Journey>, AllocError> {
+    // The journeys of what was found.
+    fn journeys(&self, alloc: Global, found: &Found<'_>) -> Result<Vec<Journey>, AllocError> {
         let mut journeys = Vec::new(alloc);
-        self.put_journeys(alloc, &mut journeys, answer)?;
+        self.put_journeys(alloc, &mut journeys, found)?;
         Ok(journeys)
+    }
+
+    // What is told of the window beside its connections. If no last time to leave at is named, it is that of the last covered moment.
+    fn window(&self, until: Option<DayTime>, connections: &Connections) -> Window {
+        let last = match until {
+            Some(until) => until,
+            None => self.basis.day_time(self.basis.timetable().horizon()),
+        };
+        Window {
+            until: self.time(last),
+            walk_seconds: connections.walk,
+            next: match connections.next {
+                Some(next) => Some(self.time(next)),
+                None => None,
+            },
+        }
     }
 }
 
-/// What is told of an answer to what was asked over the basis. The answer has its rides and walks; times are by the clock, and names are
-/// those that the sheets have. It fails only if memory runs out.
+/// The itinerary of what was found for what was asked over the basis. What was found has its rides and walks. Times are by the clock, and
+/// names are those that the sheets have. It fails only if memory runs out.
 pub fn itinerary_of<'a>(
     alloc: Global,
     basis: &Basis,
     clock: Clock,
     sheets: &NameSheets,
     asked: &Asked<'a>,
-    answer: &Answer,
+    found: &Found<'_>,
 ) -> Result<Itinerary<'a>, AllocError> {
-    let names = names_for(alloc, basis, sheets, asked, answer)?;
-    itinerary_by(alloc, basis, clock, &names, asked, answer)
+    let names = names_for(alloc, basis, sheets, asked, found)?;
+    itinerary_by(alloc, basis, clock, &names, asked, found)
 }
 
-/// What is told of an answer to what was asked over the basis. The answer has its rides and walks; times are by the clock, and names are
-/// these. It fails only if memory runs out.
+/// The same by names that were looked up before.
 pub fn itinerary_by<'a>(
     alloc: Global,
     basis: &Basis,
     clock: Clock,
     names: &Names,
     asked: &Asked<'a>,
-    answer: &Answer,
+    found: &Found<'_>,
 ) -> Result<Itinerary<'a>, AllocError> {
     let teller = Teller {
         basis,
@@ -307,11 +218,15 @@ pub fn itinerary_by<'a>(
         names,
         through: asked.through,
     };
+    let window = match found {
+        Found::Answer(_) => None,
+        Found::Connections(connections) => Some(teller.window(asked.until, connections)),
+    };
     Ok(Itinerary {
         command: asked.command,
         departure: teller.time(asked.departs),
-        window: None,
-        journeys: teller.journeys(alloc, answer)?,
+        window,
+        journeys: teller.journeys(alloc, found)?,
         from: names.place(alloc, asked.from)?,
         to: names.place(alloc, asked.to)?,
     })

@@ -4,13 +4,13 @@ use Rattle.std.specs.List.{AllZip}
 use Rattle.std.specs.List.Sorted.{IsPermutation}
 use Rattle.std.proofs.lemmas.List.Elements.{All-contains, Contains-append_cases, Contains-append_left, Contains-push, at_from_Contains}
 use Rattle.std.proofs.lemmas.List.Sorted.{Contains-permutation, IsPermutation-sym}
-use Rattle.timetable.specs.declared.parts.Leg.{Leg}
 use Rattle.timetable.specs.declared.parts.Numbers.{Numbers}
 use Rattle.timetable.specs.Journeys.{pattern}
 use Rattle.timetable.specs.Table.{Table}
 use Rattle.pattern_tree.specs.Content.{Content}
 use Rattle.timetable.specs.Front.{AreBest}
-use Rattle.pattern_query.specs.Questions.{AskedReaches, IsStored, tree_at}
+use Rattle.pattern_query.specs.Answer.{PointData, IsJourney, IsPoint}
+use Rattle.pattern_query.specs.Questions.{AskedReaches, IsAskedPoint, IsStored, tree_at}
 use Rattle.section_store.specs.Sections.{AreApart, Form, Stands, sources}
 use Rattle.store_excerpt.specs.Board.{AreOf}
 use Rattle.store_audit.proofs.SameTrees.{reaches_same}
@@ -19,8 +19,8 @@ use Rattle.answer_lines.specs.declared.answer.Answer.{Answer}
 use Rattle.answer_lines.specs.declared.answer.Answer.TheVariants as answers
 use Rattle.answer_lines.specs.declared.answer.Point.{Point}
 use Rattle.feed_basis.specs.Basis.{BasisData}
-use Rattle.answering.specs.Answers.{IsHeldJourney, Journeys, Leaving, LeavesLast, TellsFront, TellsReached}
-use Rattle.store_answers.specs.Asked.{IsStoredJourney, StoredReaches}
+use Rattle.answering.specs.Answers.{TellsFront, TellsReached}
+use Rattle.store_answers.specs.Asked.{IsStoredPoint, StoredReaches}
 
 one_in : {X : Type 0} (x a : X) → Contains (x ∷ []) a → a ≡ x
 one_in x a (k, below, is) = let zero' : k ≡ 0 = omega (arith, below) in sym (subst (λ (i : ℕ). get_or (x ∷ []) i a ≡ a) zero' is)
@@ -77,74 +77,63 @@ held_tree s (Some tree) stored = (tree, refl, stored)
 own_of : (s : ℕ) (slot : Option Content) (tree : Content) → IsSomeAnd slot (λ t. t.source ≡ s) → slot ≡ Some tree → tree.source ≡ s
 own_of s slot tree stored is = subst (λ (o : Option Content). IsSomeAnd o (λ t. t.source ≡ s)) is stored
 
--- points of journeys of a set are points of journeys of a larger one
-points_weaker : (basis : BasisData) (Ls Ms : Leaving) (legs : Bool) (front : List Numbers) (points : List Point)
-    → ((n : Numbers) (leave from to : ℕ) (l : List Leg) → Ls n leave from to l → Ms n leave from to l)
-    → AllZip (TellsReached basis Ls legs) front points → AllZip (TellsReached basis Ms legs) front points
-points_weaker basis Ls Ms legs [] [] f h = tt
-points_weaker basis Ls Ms legs [] (point ∷ points) f h = absurd h
-points_weaker basis Ls Ms legs (n ∷ front) [] f h = absurd h
-points_weaker basis Ls Ms legs (n ∷ front) (point ∷ points) f h = (
+-- what tells points of a set tells points of a larger one
+points_weaker : (basis : BasisData) (Of As : PointData → Type 0) (legs : Bool) (front : List Numbers) (points : List Point)
+    → ((p : PointData) → Of p → As p) → AllZip (TellsReached basis Of legs) front points → AllZip (TellsReached basis As legs) front points
+points_weaker basis Of As legs [] [] f h = tt
+points_weaker basis Of As legs [] (point ∷ points) f h = absurd h
+points_weaker basis Of As legs (n ∷ front) [] f h = absurd h
+points_weaker basis Of As legs (n ∷ front) (point ∷ points) f h = (
   record {
     rides = h.0.rides;
     at = h.0.at;
-    told = λ e. let s = h.0.told e in record {
-      leave = s.leave;
-      from = s.from;
-      to = s.to;
-      legs = s.legs;
-      is = f n s.leave s.from s.to s.legs s.is;
-      told = s.told;
-    };
-    untold = h.0.untold;
+    staged = λ e. let s = h.0.staged e in record { point = s.point; is = f s.point s.is; reaches = s.reaches; told = s.told };
+    unstaged = h.0.unstaged;
   },
-  points_weaker basis Ls Ms legs front points f h.1,
+  points_weaker basis Of As legs front points f h.1,
 )
 
-pub front_weaker : (basis : BasisData) (Ls Ms : Leaving) (legs : Bool) (front : List Numbers) (answer : Answer)
-    → ((n : Numbers) (leave from to : ℕ) (l : List Leg) → Ls n leave from to l → Ms n leave from to l)
-    → TellsFront basis Ls legs front answer → TellsFront basis Ms legs front answer
-front_weaker basis Ls Ms legs front answers.NoRide f h = absurd h
-front_weaker basis Ls Ms legs front (answers.Arrive time) f h = absurd h
-front_weaker basis Ls Ms legs front (answers.Points points) f h = points_weaker basis Ls Ms legs front points.items f h
+pub front_weaker : (basis : BasisData) (Of As : PointData → Type 0) (legs : Bool) (front : List Numbers) (answer : Answer)
+    → ((p : PointData) → Of p → As p) → TellsFront basis Of legs front answer → TellsFront basis As legs front answer
+front_weaker basis Of As legs front answers.NoRide f h = absurd h
+front_weaker basis Of As legs front (answers.Arrive time) f h = absurd h
+front_weaker basis Of As legs front (answers.Points points) f h = points_weaker basis Of As legs front points.items f h
 
--- the last moment to leave for a journey of a set is that of the same journey in another set
-pub leaves_in : (table : Table) (Js Ks : Journeys) (d : ℕ) (n : Numbers) (leave from to : ℕ) (legs : List Leg)
-    → (Js n from to legs → Ks n from to legs) → LeavesLast table Js d n leave from to legs → LeavesLast table Ks d n leave from to legs
-leaves_in table Js Ks d n leave from to legs f h = record { is = f h.is; after = h.after; in_time = h.in_time; last = h.last }
+-- a point of a tree is one of a tree with the same source and the same pairs
+point_same : (table : Table) (a b : Content) (t d : ℕ) (p : PointData) → a.source ≡ b.source → IsPermutation a.pairs b.pairs
+    → IsPoint table a t d p → IsPoint table b t d p
+point_same table a b t d p source pairs h = record {
+  is = subst (λ (s : ℕ). IsJourney table s t d p) source h.is;
+  few = h.few;
+  has = elim h.has [
+    | inl on_foot ↦ inl on_foot
+    | inr has ↦ inr (Contains-permutation a.pairs b.pairs (pattern table p.legs, t) pairs has)
+  ];
+}
 
 module _ (table : Table) (trees : List Content) (board : List (Option Content)) (froms tos : List ℕ) (d : ℕ) (are : AreOf trees board)
     (stored : All (IsStored (tree_at board)) froms) where
   -- a journey of a tree that is shown is one of a tree of the file
-  pub in_trees : (n : Numbers) (from to : ℕ) (legs : List Leg) → IsHeldJourney table (tree_at board) froms tos d n from to legs
-      → IsStoredJourney table trees froms tos d n from to legs
-  in_trees n from to legs h =
-      let one = are from h.tree h.holds in record {
-        is = h.is;
-        tree = one.one;
-        among = one.among;
-        of = sym one.source ∙ own_of from (tree_at board from) h.tree (All-contains (IsStored (tree_at board)) froms from stored h.is.starts) h.holds;
-        has = elim h.has [
-          | inl on_foot ↦ inl on_foot
-          | inr has ↦ inr (Contains-permutation h.tree.pairs one.one.pairs (pattern table legs, to)
-              (IsPermutation-sym one.one.pairs h.tree.pairs one.pairs) has)
-        ];
-      }
+  pub in_trees : (p : PointData) → IsAskedPoint table (tree_at board) froms tos d p → IsStoredPoint table trees froms tos d p
+  in_trees p (tree, asked, is) =
+      let one = are tree.source tree asked.1 in (
+        one.one,
+        (one.among, subst (Contains froms) one.source asked.0, asked.2),
+        point_same table tree one.one p.to d p one.source (IsPermutation-sym one.one.pairs tree.pairs one.pairs) is,
+      )
 
   pub reaches_stored : (n : Numbers) → AskedReaches table (tree_at board) froms tos d n → StoredReaches table trees froms tos d n
   reaches_stored n (tree, t, asked, reaches) =
       let one = are tree.source tree asked.1 in (
         one.one,
         t,
-        one.among,
-        subst (Contains froms) one.source asked.0,
-        asked.2,
+        (one.among, subst (Contains froms) one.source asked.0, asked.2),
         reaches_same table tree one.one t d n one.source (IsPermutation-sym one.one.pairs tree.pairs one.pairs) reaches,
       )
 
   pub stored_reaches : (form : Form) (bytes : List ℕ) → Stands form bytes trees → (n : Numbers) → StoredReaches table trees froms tos d n
       → AskedReaches table (tree_at board) froms tos d n
-  stored_reaches form bytes stands n (tree, t, among, starts, ends, reaches) =
+  stored_reaches form bytes stands n (tree, t, (among, starts, ends), reaches) =
       let s = tree.source in
       let held = held_tree s (tree_at board s) (All-contains (IsStored (tree_at board)) froms s stored starts) in
       let there : Content = held.0 in

@@ -15,8 +15,7 @@ use Rattle.connections.specs.declared.connection.Connection.{Connection}
 use Rattle.connections.specs.declared.connection.Window.{Window}
 use Rattle.faults.specs.declared.fault.Fault.{Fault}
 use Rattle.feed_basis.specs.Basis.{BasisData}
-use Rattle.answering.proofs.AnswerFacts.{held_between}
-use Rattle.store_answers.specs.Asked.{StoredReaches}
+use Rattle.store_answers.specs.Asked.{IsStoredPoint, StoredReaches}
 use Rattle.store_answers.proofs.AskedFacts.{Shows, kept_of, known, stored_in, unanswered_fails, why}
 use Rattle.store_answers.proofs.StoredFacts.{in_trees, reaches_stored, stored_reaches}
 use Rattle.store_terms.specs.Stores.{OnlyFailing, form_over}
@@ -24,7 +23,7 @@ use Rattle.told_connections.specs.Next.{AreChosen, AreNext}
 use Rattle.told_connections.specs.Windows.{IsAskedWithin, IsUnaskedWithin}
 use Rattle.told_connections.specs.declared.choosing.TheConstants.{ENOUGH}
 use Rattle.told_connections.specs.declared.times.Times.{Times}
-use Rattle.store_answers.specs.Windowed.{IsStoredPoint, IsStoredWindow, IsUnansweredFromWithin}
+use Rattle.store_answers.specs.Windowed.{IsStoredWindow, IsUnansweredFromWithin}
 
 -- sets with the same numbers have the same connections
 module _ (P Q : ℕ → Numbers → Type 0) (to : (d : ℕ) (n : Numbers) → P d n → Q d n) (from : (d : ℕ) (n : Numbers) → Q d n → P d n) where
@@ -107,8 +106,7 @@ module _ (basis : BasisData) (k : ℕ) (old new : State) (question : Question) (
             next = right.next;
             journeys = All-weaker (λ (c : Connection). IsAskedPoint table (tree_at board) h.froms h.tos c.departure c.journey)
                 (λ (c : Connection). IsStoredPoint table trees h.froms h.tos c.departure c.journey)
-                (λ c p. in_trees table trees board h.froms h.tos c.departure is.whole.same right.stored (numbers c.journey) c.journey.from c.journey.to
-                c.journey.legs (held_between table (tree_at board) h.froms h.tos c.departure c.journey p))
+                (λ c p. in_trees table trees board h.froms h.tos c.departure is.whole.same right.stored c.journey p)
                 right.found right.journeys;
             right = chosen_same (AskedReaches table (tree_at board) h.froms h.tos) (StoredReaches table trees h.froms h.tos)
                 (λ d. reaches_stored table trees board h.froms h.tos d is.whole.same right.stored)

@@ -4,9 +4,7 @@ use Rattle.std.specs.Prelude.{◌⊎◌, ℕ, Bool, List, Option}
 use Rattle.std.specs.List.{All, AllZip, Contains}
 use Rattle.disk_model.specs.Disk.{State}
 use Rattle.timetable.specs.Journeys.{IsLeast}
-use Rattle.timetable.specs.Table.{Table}
 use Rattle.pattern_tree.specs.Content.{Content}
-use Rattle.pattern_query.specs.Answer.{PointData, numbers}
 use Rattle.pattern_query.specs.Questions.{ReachesBetween}
 use Rattle.feed_ids.specs.Names.{stops_at}
 use Rattle.section_store.specs.Lasting.{IsExact, IsTrusted}
@@ -18,15 +16,11 @@ use Rattle.connection_lines.specs.declared.connections.Connections.{Connections}
 use Rattle.connections.specs.declared.connection.Connection.{Connection}
 use Rattle.faults.specs.declared.fault.Fault.{Fault}
 use Rattle.feed_basis.specs.Basis.{BasisData}
-use Rattle.store_answers.specs.Asked.{IsStoredJourney, IsUnstored, StoredReaches}
+use Rattle.store_answers.specs.Asked.{IsStoredPoint, IsUnstored, StoredReaches}
 use Rattle.store_terms.specs.Stores.{IsUnopened, form_over}
 use Rattle.told_connections.specs.Windows.{IsRefusedWithin, IsRightWithin, IsWalk, TellsConnection, TellsNext, between}
 use Rattle.told_connections.specs.Next.{AreChosen}
 use Rattle.told_connections.specs.declared.times.Times.{Times}
-
--- the point is a journey of one of these trees, from one of the first stops at d to one of the others
-abbrev pub IsStoredPoint : Table → List Content → List ℕ → List ℕ → ℕ → PointData → Type 0
-IsStoredPoint table trees froms tos d p = IsStoredJourney table trees froms tos d (numbers p) p.from p.to p.legs
 
 -- The trees of the first stops are among these, and each connection is a journey of these trees. The connections are those of all journeys
 -- of these trees; if the trees of the first stops are complete, those of all journeys of at most k rides.

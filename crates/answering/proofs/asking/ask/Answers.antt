@@ -2,10 +2,10 @@ use Rattle.std.proofs.Common.{ℕ, Option, ◌<◌, ◌≤◌, length, All, map,
 use Rattle.std.specs.List.{AllZip}
 use Rattle.std.proofs.lemmas.List.Elements.{All-weaker}
 use Rattle.timetable.specs.declared.parts.TheConstants.{LATEST_MOMENT}
+use Rattle.timetable.specs.Journeys.{Journey}
 use Rattle.pattern_query.specs.Answer.{PointData, numbers}
+use Rattle.pattern_query.specs.Questions.{IsAskedPoint}
 use Rattle.pattern_tree.specs.Content.{Content}
-use Rattle.answering.specs.Answers.{Journeys, IsHeldJourney, LeavesLast}
-use Rattle.answering.specs.Found.{LeavesBetween}
 use Rattle.told_journeys.specs.Points.{IsKnownJourney, TellsLeaving}
 use Rattle.told_journeys.proofs.StageFacts.{journey_known, leaves_early}
 use Rattle.answering.proofs.AnswerFacts.{are_reached, one_of_all, shown_journeys}
@@ -18,10 +18,10 @@ told-requires-clause-early g c =
     let found = c.in_ok-found.ensures.found in
     let held : ℕ → Option Content = g.T.Trees.held c.args.trees.now in
     subst (λ l. All (λ (x : PointData). x.departure ≤ LATEST_MOMENT) l) (sym c.points.ensures)
-    (All-weaker (LeavesBetween basis.timetable held found.froms found.tos d) (λ (x : PointData). x.departure ≤ LATEST_MOMENT)
-    (λ x h. leaves_early basis.timetable x.from x.to d x.departure x.arrival x.legs c.in_ok-found.ensures.sound.valid c.in_ok-found.ensures.early
-    h.is.is.journey h.in_time)
-    c.in_ok-found.found found.leaving)
+    (All-weaker (IsAskedPoint basis.timetable held found.froms found.tos d) (λ (x : PointData). x.departure ≤ LATEST_MOMENT)
+    (λ x h. leaves_early basis.timetable h.0.source x.to d x.departure x.arrival x.legs c.in_ok-found.ensures.sound.valid
+    c.in_ok-found.ensures.early h.2.is.journey h.2.is.in_time)
+    c.in_ok-found.found found.each)
 
 pub told-requires-clause-known : goal.told-requires-clause-known
 told-requires-clause-known g c =
@@ -32,13 +32,15 @@ told-requires-clause-known g c =
     let sound = c.in_ok-found.ensures.sound in
     let from_known = sound.names c.args.question.now.from.now found.froms found.leaves in
     let to_known = sound.names c.args.question.now.to.now found.tos found.reaches in
+    let In = λ (s : ℕ). s < length basis.names.stops in
     let Known = λ (x : PointData). IsKnownJourney basis x.departure x in
     subst (λ l. All Known l) (sym c.points.ensures)
-    (All-weaker (LeavesBetween basis.timetable held found.froms found.tos d) Known
+    (All-weaker (IsAskedPoint basis.timetable held found.froms found.tos d) Known
     (λ x h. journey_known basis sound.valid sound x.from x.departure x.legs x.to x.arrival
-    (one_of_all (λ s. s < length basis.names.stops) found.froms x.from from_known h.is.is.starts)
-    (one_of_all (λ s. s < length basis.names.stops) found.tos x.to to_known h.is.is.ends) h.in_time)
-    c.in_ok-found.found found.leaving)
+    (subst In (sym h.2.is.starts) (one_of_all In found.froms h.0.source from_known h.1.0))
+    (one_of_all In found.tos x.to to_known h.1.2)
+    (subst (λ s. Journey basis.timetable s x.departure x.legs x.to x.arrival) (sym h.2.is.starts) h.2.is.in_time))
+    c.in_ok-found.found found.each)
 
 pub returns-clause-answer : goal.returns-clause-answer
 returns-clause-answer g c =
@@ -47,7 +49,7 @@ returns-clause-answer g c =
     let found = c.in_ok-found.ensures.found in
     let held : ℕ → Option Content = g.T.Trees.held c.args.trees.now in
     let moment = c.in_ok-found.ensures.moment in
-    let Js : Journeys = IsHeldJourney basis.timetable held found.froms found.tos d in (
+    let Of = IsAskedPoint basis.timetable held found.froms found.tos d in (
       found.froms,
       found.tos,
       d,
@@ -55,9 +57,9 @@ returns-clause-answer g c =
       record {
         stored = found.stored;
         front = map numbers c.in_ok-found.found;
-        journeys = are_reached Js c.in_ok-found.found found.each;
+        journeys = are_reached Of c.in_ok-found.found found.each;
         best = found.best;
-        shown = shown_journeys basis (LeavesLast basis.timetable Js d) c.args.legs c.in_ok-found.found c.in_ok-points.points.items found.leaving
+        shown = shown_journeys basis Of c.args.legs c.in_ok-found.found c.in_ok-points.points.items found.each
             (subst (λ l. AllZip (TellsLeaving basis c.args.legs) l c.in_ok-points.points.items) c.points.ensures c.in_ok-points.ensures);
         exact = found.exact;
       },

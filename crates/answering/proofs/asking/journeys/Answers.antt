@@ -1,11 +1,8 @@
 use Rattle.std.proofs.Common.{ℕ, Option, subst₂}
-use Rattle.std.proofs.lemmas.List.Elements.{All-weaker}
 use Rattle.feed_ids.specs.NameLists.{NameLists}
 use Rattle.timetable.specs.Table.{Table}
 use Rattle.pattern_tree.specs.Content.{Content}
 use Rattle.pattern_query.specs.Questions as questions
-use Rattle.answering.specs.Found.{IsHeldBetween, LeavesBetween}
-use Rattle.answering.proofs.AnswerFacts.{held_between, leaves_between}
 use Rattle.answering.proofs.RefusalFacts.{refused}
 use Rattle.answering.proofs.asking.journeys.Goals as goal
 
@@ -24,10 +21,7 @@ returns-in-Ok-clause-found g c =
       leaves = found.leaves;
       reaches = found.arrives;
       stored = found.stored;
-      each = All-weaker (questions.IsAskedPoint table held found.froms found.tos depart) (IsHeldBetween table held found.froms found.tos depart)
-          (held_between table held found.froms found.tos depart) c.in-Ok.journeys found.points_are;
-      leaving = All-weaker (questions.IsAskedPoint table held found.froms found.tos depart) (LeavesBetween table held found.froms found.tos depart)
-          (leaves_between table held found.froms found.tos depart) c.in-Ok.journeys found.points_are;
+      each = found.points_are;
       best = found.best;
       exact = found.exact;
     }
