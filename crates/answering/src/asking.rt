@@ -90,7 +90,7 @@ pub fn direct<'a>(
     Ok(answer)
 }
 
-// The best numbers between the stops, over journeys of at most so many rides. No lines are made for them.
+// The best numbers between the stops, over journeys of at most `rides` rides. No lines are made for them.
 fn scan_numbers(
     alloc: Global,
     basis: &Basis,
@@ -133,7 +133,7 @@ fn scan_with_legs(
     Ok(Answer::Points(points))
 }
 
-/// The best arrivals from stop to stop over journeys of at most so many rides, by rounds: no tree is asked. With `legs` the rides and
+/// The best arrivals from stop to stop over journeys of at most `rides` rides, by rounds: no tree is asked. With `legs` the rides and
 /// walks of each journey are told, for which the timetable's lines are made.
 pub fn scan<'a>(
     alloc: Global,

@@ -25,7 +25,7 @@ fn departures_from(rows: &[Row], time: u32) -> usize {
     count
 }
 
-// The departure of rows after which so many follow. It is the latest time from which on there are more.
+// The departure of rows that `following` departures follow. It is the latest time from which on there are more.
 fn departure_at(rows: &[Row], following: usize) -> u32 {
     let mut time = 0_u32;
     for bit in (0..TIME_BITS).rev() {

@@ -102,7 +102,7 @@ struct Seated<B: Basis> {
     seat: Seat,
 }
 
-// Puts the ledger under a lock, with seats for so many workers. None if memory is refused.
+// Puts the ledger under a lock, with a seat for each of the `workers` workers. None if memory is refused.
 fn with_seats<B: Basis>(alloc: Global, ledger: Ledger, workers: usize) -> Option<Seated<B>>
     requires table { ledger.table ≡ B.table }
     requires rides { ledger.rides ≡ B.rides }
@@ -119,7 +119,7 @@ fn with_seats<B: Basis>(alloc: Global, ledger: Ledger, workers: usize) -> Option
     })
 }
 
-// Builds trees in the workshop by so many of the crew's workers, and stores those of its part, as the seat says.
+// Builds trees in the workshop by `workers` of the crew's workers, and stores those of its part, as the seat says.
 fn run_at<
     B: Basis + Parted + Send + Sync,
     D: Disk + Drop,

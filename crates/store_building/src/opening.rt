@@ -37,8 +37,8 @@ pub struct OpenStore<D: Disk> {
     pub reader: Reader,
 }
 
-/// Opens the store that the file of the disk holds, for the basis's timetable and journeys of at most so many rides. The file is recovered,
-/// and a fresh one begun. The disk comes back with each fault, and nothing was done to it where memory ran out before.
+/// Opens the store that the file of the disk holds, for the basis's timetable and journeys of at most `rides` rides. The file is recovered,
+/// and a fresh one begun. The disk comes back with each fault, and nothing was done to it if memory ran out before.
 pub fn open<D: Disk, T: Wait>(
     alloc: Global,
     rt: &T,

@@ -29,7 +29,7 @@ impl Model for Board {
 }
 
 impl Board {
-    // A board with a slot for each of so many stops.
+    // A board with a slot for each of `stops` stops.
     fn empty(alloc: Global, stops: usize) -> Result<Board, AllocError>
         ensures long { IfOk result (λ board. length board ≡ stops) }
         ensures bare { IfOk result (λ board. (s : ℕ) → slice_index_or board s None ≡ None) }
@@ -41,7 +41,7 @@ impl Board {
         Ok(Board { slots })
     }
 
-    /// The board of these trees, of a timetable of so many stops. It fails only where memory runs out.
+    /// The board of these trees, of a timetable of `stops` stops. It fails only if memory runs out.
     pub fn of(alloc: Global, stops: usize, trees: Vec<PatternTree>) -> Result<Board, AllocError>
         ensures long { IfOk result (λ board. length board ≡ stops) }
         ensures shows { IfOk result (IsBoardOf stops (sources trees.items)) }
