@@ -36,7 +36,7 @@ abbrev pub IsUnanswered : PlannerView → BoardPart → BoardPart → List ℕ �
 IsUnanswered p old new from to d faults.BoardRefused = new ≡ old
 IsUnanswered p old new from to d (faults.Question refusal) = IsLook old new × IsRefusal p.form.table p.names (held_by p new) from to d refusal
 
--- the points are exactly the best of all journeys of at most the planner's number of rides from a stop of one place to a stop of the other
+-- the points are exactly the best of all journeys of at most the planner's rides from a stop of one place to a stop of the other
 pub record AreBestBetween (p : PlannerView) (from to : List ℕ) (d : ℕ) (points : List PointData) : Type 0 where
   pub froms : List ℕ
   pub tos : List ℕ
