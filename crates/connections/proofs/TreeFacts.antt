@@ -14,7 +14,7 @@ use Rattle.pattern_query.specs.Answer.{PointData, numbers}
 use Rattle.pattern_query.specs.Questions.{Held}
 use Rattle.pattern_query.proofs.Best.{no_worse}
 use Rattle.connections.specs.Connections.{Connects}
-use Rattle.connections.specs.Found.{AreAfter, IsEventOf, IsThere, LeavesLast, Scope}
+use Rattle.connections.specs.Found.{AreAfter, IsEventOf, IsThere, IsLastBefore, Scope}
 use Rattle.connections.proofs.ConnectionFacts.{HasEvents}
 use Rattle.connections.proofs.FoundFacts.{numbers_in, point_of}
 
@@ -113,7 +113,7 @@ module _ (Is : ℕ → Type 0) (Of : ℕ → Numbers → Type 0) (flow : IsFlow 
 
 module _ (Of : ℕ → Numbers → Type 0) (e : ℕ) (points next : List PointData) (best : AreBest (Of e) (map numbers points)) (after : AreAfter Of e next) where
   -- those that no later journey matches connect
-  pub last_connects : (p : PointData) → Contains points p → LeavesLast next p → Connects Of e (numbers p)
+  pub last_connects : (p : PointData) → Contains points p → IsLastBefore next p → Connects Of e (numbers p)
   last_connects p h leaves = record {
     ridden = leaves.0;
     best = is;
@@ -147,7 +147,7 @@ module _ (Of : ℕ → Numbers → Type 0) (e : ℕ) (points next : List PointDa
     is : Unbeaten (Of e) (numbers p)
     is = best.each (numbers p) (numbers_in points p h)
 
-  pub connects_last : (p : PointData) → Contains points p → Connects Of e (numbers p) → LeavesLast next p
+  pub connects_last : (p : PointData) → Contains points p → Connects Of e (numbers p) → IsLastBefore next p
   connects_last p h is = (
     is.ridden,
     λ there. (let l = after.each there.0 there.1 there.2.0 in is.last l.0 (numbers there.0) l.1 there.2.0 there.2.1 there.2.2 l.2),

@@ -5,7 +5,10 @@ use Rattle.std.specs.Prelude.{◌≡◌, ℕ, ◌<◌, ◌≤◌, ◌⊎◌, Lis
 use Rattle.std.specs.List.{All, AllPairs, Contains}
 use Rattle.timetable.specs.declared.parts.Numbers.{Numbers}
 use Rattle.timetable.specs.Journeys.{Unbeaten}
+use Rattle.timetable.specs.Table.{Table}
 use Rattle.pattern_query.specs.Answer.{numbers}
+use Rattle.pattern_query.specs.Leaving.{LeavesLast}
+use Rattle.pattern_query.specs.Questions.{Held, IsAskedPoint}
 use Rattle.connections.specs.declared.connection.Connection.{Connection}
 use Rattle.connections.specs.declared.connection.Window.{Window}
 
@@ -24,6 +27,11 @@ pub record IsConnection (Of : ℕ → Numbers → Type 0) (window : Window) (c :
   pub after : window.first ≤ c.departure
   pub before : c.departure ≤ window.last
   pub connects : Connects Of c.departure (numbers c.journey)
+
+-- of the journeys of these trees at its departure or later with its numbers, its journey leaves last, and of those that leave as late it
+-- walks least
+abbrev pub WalksLeast : Table → Held → List ℕ → List ℕ → Connection → Type 0
+WalksLeast table held froms tos c = LeavesLast table (IsAskedPoint table held froms tos c.departure) c.journey
 
 -- one departs earlier than the other, or with it and arrives earlier
 abbrev pub IsBefore : Connection → Connection → Type 0

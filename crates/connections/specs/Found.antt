@@ -96,8 +96,8 @@ abbrev pub IsThere : List PointData → PointData → Type 0
 IsThere next p = (q : PointData) × Contains next q × IsNoWorse q p
 
 -- the journey has a ride, and the points of the next event have none that is no worse
-abbrev pub LeavesLast : List PointData → PointData → Type 0
-LeavesLast next p = (1 ≤ p.rides) × (IsThere next p → ⊥)
+abbrev pub IsLastBefore : List PointData → PointData → Type 0
+IsLastBefore next p = (1 ≤ p.rides) × (IsThere next p → ⊥)
 
 -- the points stand for the journeys that begin after e
 pub record AreAfter (Of : ℕ → Numbers → Type 0) (e : ℕ) (next : List PointData) : Type 0 where

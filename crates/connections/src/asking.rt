@@ -7,14 +7,15 @@ ghost use Rattle.timetable.specs.Table.{stops_of};
 ghost use Rattle.pattern_query.specs.Answer.{numbers};
 ghost use Rattle.pattern_query.specs.Gathered.{AddsAsked, IsTo};
 ghost use Rattle.pattern_query.specs.Questions.{AreComplete, AskedReaches, IsAskedPoint, IsStored, ReachesBetween};
-ghost use Rattle.connections.specs.Connections.{AreConnections};
-ghost use Rattle.connections.specs.Found.{AddsSome, AreAfter, AreFound, AreMoments, IsEventOf, IsNoWorse, IsScope, IsThere, LeavesLast};
+ghost use Rattle.pattern_query.specs.Leaving.{LeavesLast};
+ghost use Rattle.connections.specs.Connections.{AreConnections, WalksLeast};
+ghost use Rattle.connections.specs.Found.{AddsSome, AreAfter, AreFound, AreMoments, IsEventOf, IsNoWorse, IsScope, IsThere, IsLastBefore};
 ghost use Rattle.connections.specs.Found.{LiesAt, Scope, between, points_in};
 
 use crate::connection::{Connection, Window};
 use crate::moments::{count_before, count_up_to};
 use direct_connections::Network;
-use pattern_query::{Answer, BestSoFar, Patterns, Point, Trees};
+use pattern_query::{Answer, BestSoFar, Patterns, Point, Trees, leave_last};
 use rounds::departures;
 use std::alloc::{AllocError, Global};
 use timetable::{LATEST_MOMENT, StopId};
@@ -45,7 +46,7 @@ fn add_last(
     event: u32,
     found: &mut Vec<Connection>,
 ) -> Result<(), AllocError>
-    ensures { OnOk result (AddsSome (LeavesLast next.now) event points.now found.old.items found.new.items) }
+    ensures { OnOk result (AddsSome (IsLastBefore next.now) event points.now found.old.items found.new.items) }
 {
     for journey in points {
         if journey.rides() > 0 && !is_there(next, journey) {
@@ -97,6 +98,7 @@ fn ask_at<T: Trees>(
     ensures points { All (IsAskedPoint network.now (T.held trees.now) froms.now tos.now depart) result }
     ensures best { (scope : Option ℕ) → IsScope network.now (T.held trees.now) froms.now scope
         → AreBest (Scope network.now (T.held trees.now) froms.now tos.now scope depart) (map numbers result) }
+    ensures last { All (LeavesLast network.now (IsAskedPoint network.now (T.held trees.now) froms.now tos.now depart)) result }
 {
     let mut best = BestSoFar::new();
     for source in froms {
@@ -104,6 +106,7 @@ fn ask_at<T: Trees>(
             search_to(network, patterns, tos, depart, &mut best);
         }
     }
+    leave_last(network, trees, froms, tos, depart, &mut best);
     best.answer()
 }
 
@@ -165,6 +168,8 @@ fn add_answer<T: Trees>(
     ensures points { OnOk result (
         All (λ c. IsAskedPoint network.now (T.held trees.now) froms.now tos.now c.departure c.journey) found.old.items
         → All (λ c. IsAskedPoint network.now (T.held trees.now) froms.now tos.now c.departure c.journey) found.new.items) }
+    ensures last { OnOk result (All (WalksLeast network.now (T.held trees.now) froms.now tos.now) found.old.items
+        → All (WalksLeast network.now (T.held trees.now) froms.now tos.now) found.new.items) }
     ensures found { OnOk result ((scope : Option ℕ) (last : ℕ) → IsScope network.now (T.held trees.now) froms.now scope → event ≤ last
         → AreFound (Scope network.now (T.held trees.now) froms.now tos.now scope) (between (event + 1) last) found.old.items
         → AreFound (Scope network.now (T.held trees.now) froms.now tos.now scope) (between event last) found.new.items) }
@@ -176,7 +181,7 @@ fn add_answer<T: Trees>(
 
 /// The connections from some stops to others that depart within a window, along the patterns of the first stops' trees: by departure, then
 /// by arrival, one for each of their numbers, with its rides. If the trees are complete, they are those of the timetable. A departure after
-/// the window counts as it does for `scan_connections`.
+/// the window counts as it does for `scan_connections`. Of the journeys of the trees with the same numbers and departure each walks least.
 ///
 /// It asks once at each of the first stops' events within the window, and at the one after it. It fails only if memory runs out.
 pub fn ask_connections<T: Trees>(
@@ -192,6 +197,7 @@ pub fn ask_connections<T: Trees>(
     ensures points { IfOk result
         (λ list. All (λ c. IsAskedPoint network.now (T.held trees.now) froms.now tos.now c.departure c.journey) list.items) }
     ensures best { IfOk result (λ list. AreConnections (AskedReaches network.now (T.held trees.now) froms.now tos.now) window list.items) }
+    ensures last { IfOk result (λ list. All (WalksLeast network.now (T.held trees.now) froms.now tos.now) list.items) }
     ensures exact { IfOk result (λ list. (k : ℕ) → AreComplete network.now (T.held trees.now) k froms.now
         → AreConnections (ReachesBetween network.now k froms.now tos.now) window list.items) }
 {

@@ -11,6 +11,10 @@ use Rattle.pattern_query.specs.BestSoFar.{at, ThereBy}
 abbrev pub IsTo : Content → List ℕ → Content → ℕ → Type 0
 IsTo one tos tree t = (tree ≡ one) × Contains tos t
 
+-- the point is a journey of the tree to one of the stops
+abbrev pub IsPointTo : Table → Content → List ℕ → ℕ → PointData → Type 0
+IsPointTo table tree tos d p = Contains tos p.to × IsPoint table tree p.to d p
+
 -- a point of `new` was there or is a journey of a tree and to a stop that were asked; what arrives with few rides by some moment is
 -- not lost; and each such journey has a point that arrives as early with as few rides
 pub record AddsAsked (table : Table) (Asked : Content → ℕ → Type 0) (d : ℕ) (old new : List (Option PointData)) : Type 0 where

@@ -9,6 +9,7 @@ use Rattle.pattern_tree.specs.Content.{Content}
 use Rattle.pattern_tree.specs.Completeness.{IsWhole}
 use Rattle.timetable.specs.Front.{AreBest}
 use Rattle.pattern_query.specs.Answer.{PointData, numbers, TreeReaches, IsPoint}
+use Rattle.pattern_query.specs.Leaving.{IsLatest, LeavesLast}
 use Rattle.pattern_query.specs.declared.refusal.Refusal.{Refusal}
 use Rattle.pattern_query.specs.declared.refusal.Refusal.TheVariants as refusals
 use Rattle.feed_ids.specs.Names.{stops_at}
@@ -46,7 +47,8 @@ abbrev pub AreComplete : Table → Held → ℕ → List ℕ → Type 0
 AreComplete table held k froms = (s : ℕ) (tree : Content) → Contains froms s → held s ≡ Some tree → IsWhole table k tree
 
 -- Both ids name places, the moment is covered and the trees of the first place's stops are there. The points are journeys of these
--- trees to the other place's stops, and of all of these the best; where the trees are complete, the best of all journeys.
+-- trees to the other place's stops, and of all of these the best; where the trees are complete, the best of all journeys. Of those with
+-- the same numbers each leaves last, and of those that leave as late it walks least; where the trees are complete, one can't leave later.
 pub record IsAnswer (table : Table) (names : NameLists) (held : Held) (from to : List ℕ) (d : ℕ) (points : List PointData) : Type 0 where
   pub froms : List ℕ
   pub tos : List ℕ
@@ -57,6 +59,8 @@ pub record IsAnswer (table : Table) (names : NameLists) (held : Held) (from to :
   pub points_are : All (IsAskedPoint table held froms tos d) points
   pub best : AreBest (AskedReaches table held froms tos d) (map numbers points)
   pub exact : (k : ℕ) → AreComplete table held k froms → AreBest (ReachesBetween table k froms tos d) (map numbers points)
+  pub last : All (LeavesLast table (IsAskedPoint table held froms tos d)) points
+  pub latest : (k : ℕ) → AreComplete table held k froms → All (IsLatest (ReachesBetween table k froms tos)) points
 
 -- s is the first of the stops whose tree isn't there
 pub record IsFirstMissing (held : Held) (froms : List ℕ) (s : ℕ) : Type 0 where

@@ -5,6 +5,7 @@ ghost use Rattle.feed_ids.specs.Names.{stops_in};
 ghost use Rattle.pattern_query.specs.Questions.{IsAnswer, IsRefusal};
 ghost use Rattle.pattern_query.specs.Gathered.{IsTo, AddsAsked};
 
+use crate::last::leave_last;
 use crate::places::stops_of;
 use crate::refusal::Refusal;
 use crate::trees::Trees;
@@ -33,6 +34,9 @@ fn search_to(
 /// place's stops to the second place's stops, one for each of the numbers that no other's beat, by rising rides. Where the trees are
 /// complete, these are the best numbers of all journeys between these stops. A station without stops gives no journeys.
 ///
+/// Of several journeys of the trees with the same numbers the answer has one that leaves last, and of those one that walks least. Where
+/// the trees are complete, none of all journeys between these stops leaves later with the same numbers.
+///
 /// It is refused where an id names nothing, the first before the second; else where the moment isn't covered; else where a tree isn't
 /// there, with the id of the first stop that lacks one. The names are those of the timetable's feed. It takes no
 /// memory.
@@ -56,12 +60,14 @@ pub fn ask_on<'a, T: Trees>(
     if !network.timetable().covers(depart) {
         return Err(Refusal::NotCovered);
     }
+    let (froms, tos) = (stops_of(&start), stops_of(&end));
     let mut best = BestSoFar::new();
-    for source in stops_of(&start) {
+    for source in froms {
         let Some(patterns) = trees.patterns(*source) else {
             return Err(Refusal::NotStored(names.stop(*source)));
         };
-        search_to(network, patterns, stops_of(&end), depart, &mut best);
+        search_to(network, patterns, tos, depart, &mut best);
     }
+    leave_last(network, trees, froms, tos, depart, &mut best);
     Ok(best.answer())
 }

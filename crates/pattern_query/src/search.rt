@@ -22,8 +22,8 @@ pub(crate) struct Search<'a> {
     pub(crate) depart: u32,
 }
 
-// The seconds between being at a stop and boarding at another, before any ride or after one.
-fn hop(network: &Network, ridden: bool, from: StopId, to: StopId) -> Option<u32>
+/// The seconds between being at a stop and boarding at another, before any ride or after one.
+pub(crate) fn hop(network: &Network, ridden: bool, from: StopId, to: StopId) -> Option<u32>
     ensures value { result ≡ hop network.now ridden from to }
     ensures short { IfSome result (λ seconds. seconds ≤ 86_400) }
     ensures valid { IsTable network.now }
@@ -107,8 +107,8 @@ impl Search<'_> {
         }
     }
 
-    // Offers the earliest journey along a path, or on foot along an empty one.
-    fn follow(&self, path: &[(StopId, StopId)], points: &mut [Option<Point>])
+    /// Offers the earliest journey along a path, or on foot along an empty one.
+    pub(crate) fn follow(&self, path: &[(StopId, StopId)], points: &mut [Option<Point>])
         requires early { self.now.depart ≤ LATEST_MOMENT }
         requires short { length path.now ≤ 8 }
         requires nine { length points.old ≡ 9 }

@@ -1,17 +1,18 @@
 use Rattle.std.proofs.Common.{◌≡◌, ℕ, ◌+◌, ◌≤◌, List, Option, map, subst}
 use Rattle.pattern_query.specs.Answer.{PointData, numbers}
 use Rattle.pattern_query.specs.Questions.{Held, IsAskedPoint}
+use Rattle.pattern_query.specs.Leaving.{LeavesLast}
 use Rattle.connections.specs.declared.connection.Connection.{Connection}
-use Rattle.connections.specs.Found.{AddsSome, AreAfter, IsScope, LeavesLast, Scope, points_in}
+use Rattle.connections.specs.Found.{AddsSome, AreAfter, IsScope, IsLastBefore, Scope, points_in}
 use Rattle.connections.proofs.FoundFacts.{found_more, more_hold}
 use Rattle.connections.proofs.TreeFacts.{connects_last, last_connects}
 use Rattle.connections.proofs.asking.add_answer.Goals as goal
 
 -- what was added, by the answers
 added : (e : ℕ) (answer next points others : List PointData) (old new : List Connection) → points ≡ answer → others ≡ next
-    → AddsSome (LeavesLast others) e points old new → AddsSome (LeavesLast next) e answer old new
+    → AddsSome (IsLastBefore others) e points old new → AddsSome (IsLastBefore next) e answer old new
 added e answer next points others old new is are adds =
-    subst (λ (ps : List PointData). AddsSome (LeavesLast next) e ps old new) is (subst (λ (ps : List PointData). AddsSome (LeavesLast ps) e points old new) are adds)
+    subst (λ (ps : List PointData). AddsSome (IsLastBefore next) e ps old new) is (subst (λ (ps : List PointData). AddsSome (IsLastBefore ps) e points old new) are adds)
 
 pub returns-clause-best : goal.returns-clause-best
 returns-clause-best g c = c.ask_at-answer.ensures.best
@@ -20,8 +21,18 @@ pub returns-clause-points : goal.returns-clause-points
 returns-clause-points g c = λ were.
     let held : Held = g.T.Trees.held c.args.trees.now in
     let next = points_in c.args.next.now in
-    more_hold (IsAskedPoint c.args.network.now held c.args.froms.now c.args.tos.now) c.args.event (LeavesLast next) c.ask_at-answer.result c.args.found.now.items
+    more_hold (IsAskedPoint c.args.network.now held c.args.froms.now c.args.tos.now) c.args.event (IsLastBefore next) c.ask_at-answer.result c.args.found.now.items
     c.add_last.new.found.items c.ask_at-answer.ensures.points
+    (added c.args.event c.ask_at-answer.result next c.points.result.now c.points_of.result.now c.args.found.now.items c.add_last.new.found.items
+    c.points.ensures c.points_of.ensures c.in_ok-add_last.ensures) were
+
+pub returns-clause-last : goal.returns-clause-last
+returns-clause-last g c = λ were.
+    let T = c.args.network.now in
+    let held : Held = g.T.Trees.held c.args.trees.now in
+    let next = points_in c.args.next.now in
+    more_hold (λ d p. LeavesLast T (IsAskedPoint T held c.args.froms.now c.args.tos.now d) p) c.args.event (IsLastBefore next) c.ask_at-answer.result c.args.found.now.items
+    c.add_last.new.found.items c.ask_at-answer.ensures.last
     (added c.args.event c.ask_at-answer.result next c.points.result.now c.points_of.result.now c.args.found.now.items c.add_last.new.found.items
     c.points.ensures c.points_of.ensures c.in_ok-add_last.ensures) were
 
@@ -35,7 +46,7 @@ returns-clause-found g c = λ scope last is within found.
     let Of = Scope T held c.args.froms.now c.args.tos.now scope in
     let best = c.ask_at-answer.ensures.best scope is in
     let after = c.requires.after scope is in
-    found_more Of (LeavesLast next) e last answer c.args.found.now.items c.add_last.new.found.items best
+    found_more Of (IsLastBefore next) e last answer c.args.found.now.items c.add_last.new.found.items best
     (last_connects Of e answer next best after) (connects_last Of e answer next best after)
     (added e answer next c.points.result.now c.points_of.result.now c.args.found.now.items c.add_last.new.found.items c.points.ensures c.points_of.ensures c.in_ok-add_last.ensures)
     within found

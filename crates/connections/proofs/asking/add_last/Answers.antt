@@ -1,17 +1,17 @@
 use Rattle.std.proofs.Common.{◌≡◌, ℕ, ◌+◌, ◌<◌, ◌≤◌, List, [], ◌∷◌, ◌++◌, length, get_or, Vec, Global, true≢false, arith, sym, ◌∙◌, ap, subst}
 use Rattle.pattern_query.specs.Answer.{PointData}
 use Rattle.connections.specs.declared.connection.Connection.{Connection}
-use Rattle.connections.specs.Found.{LeavesLast, leaving}
+use Rattle.connections.specs.Found.{IsLastBefore, leaving}
 use Rattle.connections.proofs.AddedFacts.{AddsSoFar, none_added, all_added, passed_over, one_more}
 use Rattle.connections.proofs.asking.add_last.Goals as goal
 use Rattle.connections.proofs.asking.add_last.Goals.{then-rides-gt0+then-not-is_there+in_ok-push, else-rides-gt0, else-rides-gt0-via-then-rides-gt0+else-not-is_there, else-rides-gt0-via-else-rides-gt0}
 
 pub loop-journey-init : goal.loop-journey-init
-loop-journey-init c = none_added (LeavesLast c.args.next.now) c.args.event c.args.points.now c.args.found.now.items
+loop-journey-init c = none_added (IsLastBefore c.args.next.now) c.args.event c.args.points.now c.args.found.now.items
 
 pub loop-journey-preserved : goal.loop-journey-preserved
 loop-journey-preserved c =
-    let These = LeavesLast c.args.next.now in
+    let These = IsLastBefore c.args.next.now in
     let event = c.args.event in
     let points = c.args.points.now in
     let n = c.loop-journey.journey-index in
@@ -42,5 +42,5 @@ loop-journey-preserved c =
 
 pub returns : goal.returns
 returns c =
-    all_added (LeavesLast c.args.next.now) c.args.event c.args.points.now c.args.found.now.items c.loop-journey.journey-index c.loop-journey.found.items
+    all_added (IsLastBefore c.args.next.now) c.args.event c.args.points.now c.args.found.now.items c.loop-journey.journey-index c.loop-journey.found.items
     c.loop-journey-test.false c.loop-journey.invariant

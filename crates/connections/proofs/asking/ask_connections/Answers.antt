@@ -9,6 +9,7 @@ use Rattle.timetable.specs.Front.{AreBest}
 use Rattle.pattern_query.specs.Answer.{PointData, numbers}
 use Rattle.pattern_query.specs.Questions.{Held, IsAskedPoint}
 use Rattle.connections.specs.declared.connection.Connection.{Connection}
+use Rattle.connections.specs.Connections.{WalksLeast}
 use Rattle.connections.specs.Found.{AreAfter, AreFound, AreMoments, IsEventOf, LiesAt, Scope, SplitsAt, between, points_in}
 use Rattle.connections.proofs.EventFacts.{lies_after, between_moments, rising_le, rising_lt}
 use Rattle.connections.proofs.FoundFacts.{all_from, HasFound, has_none, found_after, has_from, found_all, turned}
@@ -52,6 +53,8 @@ loop-index-init g c =
           (lies_after (IsEventOf T froms) moments are i end next (omega (arith, next, within))));
       points = subst (λ (list : List Connection). All (λ (x : Connection). IsAskedPoint T held froms tos x.departure x.journey) list) (sym c.new-found.ensures.items)
           (λ i d lt. absurd (let z : ⊥ = omega (arith, lt) in z));
+      last = subst (λ (list : List Connection). All (WalksLeast T held froms tos) list) (sym c.new-found.ensures.items)
+          (λ i d lt. absurd (let z : ⊥ = omega (arith, lt) in z));
       has = λ scope is. subst (λ (list : List Connection). HasFound (Scope T held froms tos scope) c.args.window moments end list) (sym c.new-found.ensures.items)
           (has_none (IsEventOf T froms) (Scope T held froms tos scope) (is_flow T held froms tos scope).events c.args.window moments are end splits);
     }
@@ -84,6 +87,7 @@ loop-index-preserved g c =
       after = λ scope j next is. after_before T held froms tos scope moments are i j next in' answer
           (subst (λ (d : ℕ). AreBest (Scope T held froms tos scope d) (map numbers answer)) event (now.best scope is));
       points = now.points inv.points;
+      last = now.last inv.last;
       has = λ scope is.
           let Of = Scope T held froms tos scope in
           let flow = is_flow T held froms tos scope in
@@ -126,6 +130,14 @@ returns-clause-points g c =
     let held : Held = g.T.Trees.held c.args.trees.now in
     let Is = λ (x : Connection). IsAskedPoint c.args.network.now held c.args.froms.now c.args.tos.now x.departure x.journey in
     all_from Is new (λ x h. All-contains Is list x c.loop-index.invariant.points (Contains-permutation new list x (IsPermutation-sym list new c.reverse.ensures.permutation) h))
+
+pub returns-clause-last : goal.returns-clause-last
+returns-clause-last g c =
+    let list = c.loop-index.found.items in
+    let new = c.reverse.new.self.items in
+    let held : Held = g.T.Trees.held c.args.trees.now in
+    let Is = WalksLeast c.args.network.now held c.args.froms.now c.args.tos.now in
+    all_from Is new (λ x h. All-contains Is list x c.loop-index.invariant.last (Contains-permutation new list x (IsPermutation-sym list new c.reverse.ensures.permutation) h))
 
 pub returns-clause-best : goal.returns-clause-best
 returns-clause-best g c =

@@ -5,7 +5,7 @@ use Rattle.timetable.specs.Table.{Table}
 use Rattle.pattern_query.specs.Questions.{AreComplete, AskedReaches, Held, IsAskedPoint, ReachesBetween}
 use Rattle.connections.specs.declared.connection.Connection.{Connection}
 use Rattle.connections.specs.declared.connection.Window.{Window}
-use Rattle.connections.specs.Connections.{AreConnections, AreConnectionsBefore}
+use Rattle.connections.specs.Connections.{AreConnections, AreConnectionsBefore, WalksLeast}
 use Rattle.connections.specs.Found.{IsScope, Scope}
 use Rattle.connections.proofs.FirstFacts.{none_before, one_step}
 use Rattle.connections.proofs.first_asked.ask_first.Goals.{then-loop-next-test+else-len-enough, else-loop-next-test}
@@ -32,6 +32,8 @@ loop-next-init g c =
           (sym c.new-connections.ensures.items) (none_before (Scope T held froms tos scope) c.args.window);
       points = subst (λ (l : List Connection). All (λ (x : Connection). IsAskedPoint T held froms tos x.departure x.journey) l)
           (sym c.new-connections.ensures.items) (λ i d lt. absurd (let z : ⊥ = omega (arith, lt) in z));
+      last = subst (λ (l : List Connection). All (WalksLeast T held froms tos) l)
+          (sym c.new-connections.ensures.items) (λ i d lt. absurd (let z : ⊥ = omega (arith, lt) in z));
     }
 
 pub loop-next-preserved : goal.loop-next-preserved
@@ -56,6 +58,8 @@ loop-next-preserved g c =
           (one_step (Scope T held froms tos scope) c.args.window c.loop-next.next step list more first some within after (inv.has scope is)
           (of_scope T held froms tos step more c.in_ok-more.ensures.best c.in_ok-more.ensures.exact scope is));
       points = subst (λ (l : List Connection). All Is l) (sym items) (All-append Is list more inv.points c.in_ok-more.ensures.points);
+      last = subst (λ (l : List Connection). All (WalksLeast T held froms tos) l) (sym items)
+          (All-append (WalksLeast T held froms tos) list more inv.last c.in_ok-more.ensures.last);
     }
 
 -- so much is enough, if the window goes on
