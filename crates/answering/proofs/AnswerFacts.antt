@@ -8,8 +8,9 @@ use Rattle.timetable.specs.Front.{AreFront, AreBest}
 use Rattle.timetable.specs.Journeys.{Serves, Reaches}
 use Rattle.timetable.specs.Table.{Table}
 use Rattle.pattern_query.specs.Answer.{PointData, numbers, IsJourney}
-use Rattle.pattern_query.specs.Questions.{ReachesBetween}
-use Rattle.answering.specs.Answers.{IsPointBetween, IsReached, IsRideBetween, TellsReached}
+use Rattle.pattern_query.specs.Leaving.{IsLatest, LeavesLast}
+use Rattle.pattern_query.specs.Questions.{AreComplete, Held, IsAskedPoint, ReachesBetween}
+use Rattle.answering.specs.Answers.{IsLastAsked, IsLastBetween, IsPointBetween, IsReached, IsRideBetween, TellsReached}
 use Rattle.told_journeys.specs.Points.{TellsLeaving, TellsNumbers}
 use Rattle.answer_lines.specs.declared.answer.Point.{Point}
 use Rattle.feed_basis.specs.Basis.{BasisData}
@@ -64,9 +65,28 @@ shown_numbers basis Of (n ∷ front) (point ∷ points) h = (
 pub one_of_all : {X : Type 0} (P : X → Type 0) (xs : List X) (x : X) → All P xs → Contains xs x → P x
 one_of_all P xs x all c = let i = at_from_Contains xs x c in subst P (i.2 x) (all i.0 x i.1)
 
+-- points that leave last are told
+pub last_asked : (table : Table) (held : Held) (froms tos : List ℕ) (d : ℕ) (points : List PointData)
+    → All (IsAskedPoint table held froms tos d) points → All (LeavesLast table (IsAskedPoint table held froms tos d)) points
+    → ((k : ℕ) → AreComplete table held k froms → All (IsLatest (ReachesBetween table k froms tos)) points)
+    → All (IsLastAsked table held froms tos d) points
+last_asked table held froms tos d points are last latest = λ i p lt. record {
+  is = are i p lt;
+  last = last i p lt;
+  latest = λ k complete. latest k complete i p lt;
+}
+
 -- a journey between two single stops
 pub single_point : (table : Table) (s t d : ℕ) (p : PointData) → IsJourney table s t d p → IsPointBetween table (s ∷ []) (t ∷ []) d p
 single_point table s t d p h = (s, t, contains_one s, contains_one t, h)
+
+-- none between two single stops leaves later
+pub single_last : (table : Table) (k s t d : ℕ) (p : PointData) → IsJourney table s t d p → IsLatest (Reaches table 0 k s t) p
+    → IsLastBetween table k (s ∷ []) (t ∷ []) d p
+single_last table k s t d p h latest = record {
+  is = single_point table s t d p h;
+  latest = λ e of. latest e (between_reaches table k s t e (numbers p) of);
+}
 
 -- the numbers of points of a set are reached
 pub are_reached : (Of : PointData → Type 0) (journeys : List PointData) → All Of journeys → All (IsReached Of) (map numbers journeys)

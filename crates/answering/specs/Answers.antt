@@ -9,6 +9,7 @@ use Rattle.timetable.specs.Table.{Table}
 use Rattle.timetable.specs.Front.{AreBest}
 use Rattle.pattern_tree.specs.Content.{Content}
 use Rattle.pattern_query.specs.Answer.{PointData, numbers, IsJourney}
+use Rattle.pattern_query.specs.Leaving.{IsLatest, LeavesLast}
 use Rattle.pattern_query.specs.Questions.{AreComplete, AskedReaches, Held, IsAskedPoint, IsStored, ReachesBetween}
 use Rattle.answer_lines.specs.declared.answer.Answer.{Answer}
 use Rattle.answer_lines.specs.declared.answer.Answer.TheVariants as answers
@@ -60,11 +61,23 @@ TellsFront basis Of wanted front answers.NoRide = ⊥
 TellsFront basis Of wanted front (answers.Arrive time) = ⊥
 TellsFront basis Of wanted front (answers.Points points) = AllZip (TellsReached basis Of wanted) front points.items
 
+-- a journey between these stops that is told: none of at most k rides leaves later for its numbers
+pub record IsLastBetween (table : Table) (k : ℕ) (froms tos : List ℕ) (d : ℕ) (p : PointData) : Type 0 where
+  pub is : IsPointBetween table froms tos d p
+  pub latest : IsLatest (ReachesBetween table k froms tos) p
+
+-- A journey of the held trees that is told: of those with its numbers it leaves last, and of those that leave as late it walks least. If
+-- the trees are complete, none of all journeys of at most k rides leaves later for its numbers.
+pub record IsLastAsked (table : Table) (held : Held) (froms tos : List ℕ) (d : ℕ) (p : PointData) : Type 0 where
+  pub is : IsAskedPoint table held froms tos d p
+  pub last : LeavesLast table (IsAskedPoint table held froms tos d) p
+  pub latest : (k : ℕ) → AreComplete table held k froms → IsLatest (ReachesBetween table k froms tos) p
+
 -- the best numbers over journeys of at most k rides between these stops, by rising rides
 abbrev pub ArePoints : BasisData → ℕ → Bool → List ℕ → List ℕ → ℕ → Answer → Type 0
 ArePoints basis k wanted froms tos d answer =
     (front : List Numbers) × AreBest (ReachesBetween basis.timetable k froms tos d) front
-    × TellsFront basis (IsPointBetween basis.timetable froms tos d) wanted front answer
+    × TellsFront basis (IsLastBetween basis.timetable k froms tos d) wanted front answer
 
 -- The answer from the trees that are held: those of the first stops are among them, and each point is a journey of these trees with its
 -- numbers. The points are the best of all journeys of these trees; if the trees are complete, the best over all journeys of at most k
@@ -74,7 +87,7 @@ pub record AreTreePoints (basis : BasisData) (held : Held) (wanted : Bool) (from
   pub front : List Numbers
   pub journeys : All (IsReached (IsAskedPoint basis.timetable held froms tos d)) front
   pub best : AreBest (AskedReaches basis.timetable held froms tos d) front
-  pub shown : TellsFront basis (IsAskedPoint basis.timetable held froms tos d) wanted front answer
+  pub shown : TellsFront basis (IsLastAsked basis.timetable held froms tos d) wanted front answer
   pub exact : (k : ℕ) → AreComplete basis.timetable held k froms → AreBest (ReachesBetween basis.timetable k froms tos d) front
 
 -- the question's ids stand for these stops, and its moment is this one, which is covered

@@ -4,7 +4,8 @@ use Rattle.std.specs.List.{All}
 use Rattle.timetable.specs.Front.{AreBest}
 use Rattle.pattern_query.specs.Answer.{PointData, numbers}
 use Rattle.feed_ids.specs.Names.{stops_at}
-use Rattle.pattern_query.specs.Questions.{AreComplete, AskedReaches, Held, IsAskedPoint, IsStored, ReachesBetween}
+use Rattle.pattern_query.specs.Questions.{AreComplete, AskedReaches, Held, IsStored, ReachesBetween}
+use Rattle.answering.specs.Answers.{IsLastAsked}
 use Rattle.question_lines.specs.declared.question.Question.{Question}
 use Rattle.feed_basis.specs.Basis.{BasisData}
 
@@ -15,7 +16,7 @@ pub record AreFound (basis : BasisData) (held : Held) (question : Question) (d :
   pub leaves : stops_at basis.names question.from.now ≡ Some froms
   pub reaches : stops_at basis.names question.to.now ≡ Some tos
   pub stored : All (IsStored held) froms
-  pub each : All (IsAskedPoint basis.timetable held froms tos d) points
+  pub each : All (IsLastAsked basis.timetable held froms tos d) points
   pub best : AreBest (AskedReaches basis.timetable held froms tos d) (map numbers points)
   pub exact : (k : ℕ) → AreComplete basis.timetable held k froms
       → AreBest (ReachesBetween basis.timetable k froms tos d) (map numbers points)

@@ -10,6 +10,7 @@ use Rattle.timetable.specs.Table.{Table}
 use Rattle.pattern_tree.specs.Content.{Content}
 use Rattle.timetable.specs.Front.{AreBest}
 use Rattle.pattern_query.specs.Answer.{PointData, IsJourney, IsPoint}
+use Rattle.pattern_query.specs.Leaving.{LeavesLast}
 use Rattle.pattern_query.specs.Questions.{AskedReaches, IsAskedPoint, IsStored, tree_at}
 use Rattle.section_store.specs.Sections.{AreApart, Form, Stands, sources}
 use Rattle.store_excerpt.specs.Board.{AreOf}
@@ -121,6 +122,29 @@ module _ (table : Table) (trees : List Content) (board : List (Option Content)) 
         (one.among, subst (Contains froms) one.source asked.0, asked.2),
         point_same table tree one.one p.to d p one.source (IsPermutation-sym one.one.pairs tree.pairs one.pairs) is,
       )
+
+  -- and the other way round
+  pub in_board : (form : Form) (bytes : List ℕ) → Stands form bytes trees → (p : PointData) → IsStoredPoint table trees froms tos d p
+      → IsAskedPoint table (tree_at board) froms tos d p
+  in_board form bytes stands p (tree, (among, starts, ends), is) =
+      let held = held_tree tree.source (tree_at board tree.source) (All-contains (IsStored (tree_at board)) froms tree.source stored starts) in
+      let there : Content = held.0 in
+      let one = are tree.source there held.1 in
+      let same : one.one ≡ tree = stands_one form bytes trees one.one tree stands one.among among (sym one.source ∙ held.2) in
+      let pairs : IsPermutation tree.pairs there.pairs = subst (λ (c : Content). IsPermutation c.pairs there.pairs) same one.pairs in (
+        there,
+        (
+          subst (Contains froms) (sym held.2) starts,
+          subst (λ (m : ℕ). tree_at board m ≡ Some there) (sym held.2) held.1,
+          ends,
+        ),
+        point_same table tree there p.to d p (sym held.2) pairs is,
+      )
+
+  -- so what leaves last of the one leaves last of the other
+  pub last_stored : (form : Form) (bytes : List ℕ) → Stands form bytes trees → (p : PointData)
+      → LeavesLast table (IsAskedPoint table (tree_at board) froms tos d) p → LeavesLast table (IsStoredPoint table trees froms tos d) p
+  last_stored form bytes stands p last = λ q of same. last q (in_board form bytes stands q of) same
 
   pub reaches_stored : (n : Numbers) → AskedReaches table (tree_at board) froms tos d n → StoredReaches table trees froms tos d n
   reaches_stored n (tree, t, asked, reaches) =

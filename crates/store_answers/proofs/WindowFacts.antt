@@ -5,19 +5,20 @@ use Rattle.disk_model.specs.Disk.{State}
 use Rattle.timetable.specs.declared.parts.Numbers.{Numbers}
 use Rattle.pattern_tree.specs.Content.{Content}
 use Rattle.pattern_query.specs.Answer.{numbers}
+use Rattle.pattern_query.specs.Leaving.{LeavesLast}
 use Rattle.pattern_query.specs.Questions.{AskedReaches, IsAskedPoint, tree_at}
 use Rattle.feed_ids.specs.Names.{stops_at}
 use Rattle.store_excerpt.specs.Laws.{WholeIsComplete}
 use Rattle.question_lines.specs.declared.question.Question.{Question}
 use Rattle.connection_lines.specs.declared.connections.Connections.{Connections}
-use Rattle.connections.specs.Connections.{AreFirst, Connects, IsConnection}
+use Rattle.connections.specs.Connections.{AreFirst, Connects, IsConnection, WalksLeast}
 use Rattle.connections.specs.declared.connection.Connection.{Connection}
 use Rattle.connections.specs.declared.connection.Window.{Window}
 use Rattle.faults.specs.declared.fault.Fault.{Fault}
 use Rattle.feed_basis.specs.Basis.{BasisData}
 use Rattle.store_answers.specs.Asked.{IsStoredPoint, StoredReaches}
 use Rattle.store_answers.proofs.AskedFacts.{Shows, kept_of, known, stored_in, unanswered_fails, why}
-use Rattle.store_answers.proofs.StoredFacts.{in_trees, reaches_stored, stored_reaches}
+use Rattle.store_answers.proofs.StoredFacts.{in_trees, last_stored, reaches_stored, stored_reaches}
 use Rattle.store_terms.specs.Stores.{OnlyFailing, form_over}
 use Rattle.told_connections.specs.Next.{AreChosen, AreNext}
 use Rattle.told_connections.specs.Windows.{IsAskedWithin, IsUnaskedWithin}
@@ -108,6 +109,11 @@ module _ (basis : BasisData) (k : ℕ) (old new : State) (question : Question) (
                 (λ (c : Connection). IsStoredPoint table trees h.froms h.tos c.departure c.journey)
                 (λ c p. in_trees table trees board h.froms h.tos c.departure is.whole.same right.stored c.journey p)
                 right.found right.journeys;
+            last = All-weaker (WalksLeast table (tree_at board) h.froms h.tos)
+                (λ (c : Connection). LeavesLast table (IsStoredPoint table trees h.froms h.tos c.departure) c.journey)
+                (λ c last. last_stored table trees board h.froms h.tos c.departure is.whole.same right.stored (form_over basis k) old.read
+                is.whole.stands c.journey last)
+                right.found right.last;
             right = chosen_same (AskedReaches table (tree_at board) h.froms h.tos) (StoredReaches table trees h.froms h.tos)
                 (λ d. reaches_stored table trees board h.froms h.tos d is.whole.same right.stored)
                 (λ d. stored_reaches table trees board h.froms h.tos d is.whole.same right.stored (form_over basis k) old.read is.whole.stands)

@@ -5,6 +5,7 @@ use Rattle.std.specs.List.{All, AllZip, Contains}
 use Rattle.disk_model.specs.Disk.{State}
 use Rattle.timetable.specs.Journeys.{IsLeast}
 use Rattle.pattern_tree.specs.Content.{Content}
+use Rattle.pattern_query.specs.Leaving.{LeavesLast}
 use Rattle.pattern_query.specs.Questions.{ReachesBetween}
 use Rattle.feed_ids.specs.Names.{stops_at}
 use Rattle.section_store.specs.Lasting.{IsExact, IsTrusted}
@@ -22,14 +23,16 @@ use Rattle.told_connections.specs.Windows.{IsRefusedWithin, IsRightWithin, IsWal
 use Rattle.told_connections.specs.Next.{AreChosen}
 use Rattle.told_connections.specs.declared.times.Times.{Times}
 
--- The trees of the first stops are among these, and each connection is a journey of these trees. The connections are those of all journeys
--- of these trees; if the trees of the first stops are complete, those of all journeys of at most k rides.
+-- The trees of the first stops are among these, and each connection is a journey of these trees, of those with its numbers and its departure
+-- one that walks least. The connections are those of all journeys of these trees; if the trees of the first stops are complete, those of all
+-- journeys of at most k rides.
 pub record AreStoredTold (basis : BasisData) (k : ℕ) (trees : List Content) (legs : Bool) (asked : Option ℕ) (froms tos : List ℕ)
     (first last : ℕ) (shown : Connections) : Type 0 where
   pub stored : All (Contains (sources trees)) froms
   pub found : List Connection
   pub next : ℕ
   pub journeys : All (λ c. IsStoredPoint basis.timetable trees froms tos c.departure c.journey) found
+  pub last : All (λ c. LeavesLast basis.timetable (IsStoredPoint basis.timetable trees froms tos c.departure) c.journey) found
   pub right : AreChosen (StoredReaches basis.timetable trees froms tos) (between first last) asked found next
   pub exact : All (IsWholeAmong (form_over basis k) froms) trees
       → AreChosen (ReachesBetween basis.timetable k froms tos) (between first last) asked found next

@@ -11,6 +11,7 @@ use Rattle.answering.specs.Answers.{IsAsked}
 use Rattle.answering.specs.Refusals.{IsMissing, IsUnanswered, NoneMissing}
 use Rattle.connection_lines.specs.declared.connections.Connection.{Connection as Line}
 use Rattle.connection_lines.specs.declared.connections.Connections.{Connections}
+use Rattle.connections.specs.Connections.{WalksLeast}
 use Rattle.connections.specs.declared.connection.Connection.{Connection}
 use Rattle.connections.specs.declared.connection.Window.{Window}
 use Rattle.faults.specs.declared.fault.Fault.{Fault}
@@ -63,13 +64,15 @@ abbrev pub IsWalk : Table → List ℕ → List ℕ → ℕ → Type 0
 IsWalk table froms tos seconds = (s : ℕ) × Contains froms s × (t : ℕ) × Contains tos t × (foot table s t ≡ Some seconds)
 
 -- So it is between places, by the trees that are held: those of the first stops are among them, and each connection is a journey of these
--- trees. The connections are those of all journeys of these trees; if the trees are complete, those of all journeys of at most k rides.
+-- trees, of those with its numbers and its departure one that walks least. The connections are those of all journeys of these trees; if the
+-- trees are complete, those of all journeys of at most k rides.
 pub record AreAskedTold (basis : BasisData) (held : Held) (wanted : Bool) (asked : Option ℕ) (froms tos : List ℕ) (first last : ℕ)
     (shown : Connections) : Type 0 where
   pub stored : All (IsStored held) froms
   pub found : List Connection
   pub next : ℕ
   pub journeys : All (λ c. IsAskedPoint basis.timetable held froms tos c.departure c.journey) found
+  pub last : All (WalksLeast basis.timetable held froms tos) found
   pub right : AreChosen (AskedReaches basis.timetable held froms tos) (between first last) asked found next
   pub exact : (k : ℕ) → AreComplete basis.timetable held k froms
       → AreChosen (ReachesBetween basis.timetable k froms tos) (between first last) asked found next

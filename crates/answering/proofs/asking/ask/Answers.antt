@@ -6,6 +6,7 @@ use Rattle.timetable.specs.Journeys.{Journey}
 use Rattle.pattern_query.specs.Answer.{PointData, numbers}
 use Rattle.pattern_query.specs.Questions.{IsAskedPoint}
 use Rattle.pattern_tree.specs.Content.{Content}
+use Rattle.answering.specs.Answers.{IsLastAsked}
 use Rattle.told_journeys.specs.Points.{IsKnownJourney, TellsLeaving}
 use Rattle.told_journeys.proofs.StageFacts.{journey_known, leaves_early}
 use Rattle.answering.proofs.AnswerFacts.{are_reached, one_of_all, shown_journeys}
@@ -18,9 +19,9 @@ told-requires-clause-early g c =
     let found = c.in_ok-found.ensures.found in
     let held : ℕ → Option Content = g.T.Trees.held c.args.trees.now in
     subst (λ l. All (λ (x : PointData). x.departure ≤ LATEST_MOMENT) l) (sym c.points.ensures)
-    (All-weaker (IsAskedPoint basis.timetable held found.froms found.tos d) (λ (x : PointData). x.departure ≤ LATEST_MOMENT)
-    (λ x h. leaves_early basis.timetable h.0.source x.to d x.departure x.arrival x.legs c.in_ok-found.ensures.sound.valid
-    c.in_ok-found.ensures.early h.2.is.journey h.2.is.in_time)
+    (All-weaker (IsLastAsked basis.timetable held found.froms found.tos d) (λ (x : PointData). x.departure ≤ LATEST_MOMENT)
+    (λ x h. leaves_early basis.timetable h.is.0.source x.to d x.departure x.arrival x.legs c.in_ok-found.ensures.sound.valid
+    c.in_ok-found.ensures.early h.is.2.is.journey h.is.2.is.in_time)
     c.in_ok-found.found found.each)
 
 pub told-requires-clause-known : goal.told-requires-clause-known
@@ -35,11 +36,11 @@ told-requires-clause-known g c =
     let In = λ (s : ℕ). s < length basis.names.stops in
     let Known = λ (x : PointData). IsKnownJourney basis x.departure x in
     subst (λ l. All Known l) (sym c.points.ensures)
-    (All-weaker (IsAskedPoint basis.timetable held found.froms found.tos d) Known
+    (All-weaker (IsLastAsked basis.timetable held found.froms found.tos d) Known
     (λ x h. journey_known basis sound.valid sound x.from x.departure x.legs x.to x.arrival
-    (subst In (sym h.2.is.starts) (one_of_all In found.froms h.0.source from_known h.1.0))
-    (one_of_all In found.tos x.to to_known h.1.2)
-    (subst (λ s. Journey basis.timetable s x.departure x.legs x.to x.arrival) (sym h.2.is.starts) h.2.is.in_time))
+    (subst In (sym h.is.2.is.starts) (one_of_all In found.froms h.is.0.source from_known h.is.1.0))
+    (one_of_all In found.tos x.to to_known h.is.1.2)
+    (subst (λ s. Journey basis.timetable s x.departure x.legs x.to x.arrival) (sym h.is.2.is.starts) h.is.2.is.in_time))
     c.in_ok-found.found found.each)
 
 pub returns-clause-answer : goal.returns-clause-answer
@@ -49,7 +50,8 @@ returns-clause-answer g c =
     let found = c.in_ok-found.ensures.found in
     let held : ℕ → Option Content = g.T.Trees.held c.args.trees.now in
     let moment = c.in_ok-found.ensures.moment in
-    let Of = IsAskedPoint basis.timetable held found.froms found.tos d in (
+    let Asked = IsAskedPoint basis.timetable held found.froms found.tos d in
+    let Last = IsLastAsked basis.timetable held found.froms found.tos d in (
       found.froms,
       found.tos,
       d,
@@ -57,9 +59,9 @@ returns-clause-answer g c =
       record {
         stored = found.stored;
         front = map numbers c.in_ok-found.found;
-        journeys = are_reached Of c.in_ok-found.found found.each;
+        journeys = are_reached Asked c.in_ok-found.found (All-weaker Last Asked (λ x h. h.is) c.in_ok-found.found found.each);
         best = found.best;
-        shown = shown_journeys basis Of c.args.legs c.in_ok-found.found c.in_ok-points.points.items found.each
+        shown = shown_journeys basis Last c.args.legs c.in_ok-found.found c.in_ok-points.points.items found.each
             (subst (λ l. AllZip (TellsLeaving basis c.args.legs) l c.in_ok-points.points.items) c.points.ensures c.in_ok-points.ensures);
         exact = found.exact;
       },

@@ -3,6 +3,7 @@ use Rattle.feed_ids.specs.NameLists.{NameLists}
 use Rattle.timetable.specs.Table.{Table}
 use Rattle.pattern_tree.specs.Content.{Content}
 use Rattle.pattern_query.specs.Questions as questions
+use Rattle.answering.proofs.AnswerFacts.{last_asked}
 use Rattle.answering.proofs.RefusalFacts.{refused}
 use Rattle.answering.proofs.asking.journeys.Goals as goal
 
@@ -21,7 +22,7 @@ returns-in-Ok-clause-found g c =
       leaves = found.leaves;
       reaches = found.arrives;
       stored = found.stored;
-      each = found.points_are;
+      each = last_asked table held found.froms found.tos depart c.in-Ok.journeys found.points_are found.last found.latest;
       best = found.best;
       exact = found.exact;
     }

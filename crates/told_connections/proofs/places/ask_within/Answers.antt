@@ -4,6 +4,7 @@ use Rattle.timetable.specs.Journeys.{IsLeast}
 use Rattle.timetable.specs.declared.parts.TheConstants.{LATEST_MOMENT}
 use Rattle.feed_ids.specs.Names.{stops_at}
 use Rattle.pattern_query.specs.Questions.{AreComplete, AskedReaches, Held, IsAskedPoint, ReachesBetween}
+use Rattle.connections.specs.Connections.{WalksLeast}
 use Rattle.connections.specs.declared.connection.Connection.{Connection}
 use Rattle.told_connections.specs.Next.{AreChosen}
 use Rattle.told_connections.specs.Windows.{IsWalk, TellsConnection, between}
@@ -86,6 +87,8 @@ returns-clause-answer g c =
             T basis.timetable fs asked.froms ts asked.tos same froms tos
             (chosen_all (λ (x : Connection). IsAskedPoint T held fs ts x.departure x.journey) wanted found.connections.items found.next list next
             chooses c.in_ok-found.ensures.points);
+        last = moved (λ t f u. All (WalksLeast t held f u) list) T basis.timetable fs asked.froms ts asked.tos same froms tos
+            (chosen_all (WalksLeast T held fs ts) wanted found.connections.items found.next list next chooses c.in_ok-found.ensures.last);
         right = moved (λ t f u. AreChosen (AskedReaches t held f u) window wanted list next)
             T basis.timetable fs asked.froms ts asked.tos same froms tos
             (chosen_are (AskedReaches T held fs ts) window wanted enough.result found.connections.items found.next list next enough.ensures
