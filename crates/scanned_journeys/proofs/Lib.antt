@@ -1,2 +1,3 @@
 pub mod FewFacts
 pub mod ScanFacts
+pub mod LatestFacts

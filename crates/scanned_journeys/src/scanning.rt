@@ -3,15 +3,18 @@
 ghost use Rattle.std.specs.Prelude.{◌≤◌, ◌<◌, IfOk, map};
 ghost use Rattle.std.specs.List.{All};
 ghost use Rattle.pattern_query.specs.Answer.{numbers, IsJourney};
+ghost use Rattle.pattern_query.specs.Leaving.{IsLatest};
 ghost use Rattle.timetable.specs.Front.{AreFront};
+ghost use Rattle.timetable.specs.Journeys.{Reaches};
 ghost use Rattle.timetable.specs.Table.{stops_of};
 ghost use Rattle.rounds.specs.Answers.{AreRounds};
 ghost use Rattle.rounds.specs.Scratch.{rounds_of};
 
+use crate::latest::latest_like;
 use crate::patterns::patterns_to;
 use direct_connections::Network;
 use pattern_query::{Answer, ask};
-use rounds::{RoundView, plain_rounds};
+use rounds::{RoundView, departures, plain_rounds};
 use std::alloc::{AllocError, Global};
 use timetable::{LATEST_MOMENT, Rides, StopId};
 
@@ -37,10 +40,12 @@ pub fn journeys_of(
 }
 
 /// The best journeys from a stop to a stop at a moment of at most `LATEST_MOMENT`, by rising rides: one for each of the best
-/// numbers over all journeys of at most `rides` rides, the way on foot among them, with its rides.
+/// numbers over all journeys of at most `rides` rides, the way on foot among them, with its rides. No journey with the same numbers leaves
+/// later.
 ///
 /// The rounds find the numbers (RAPTOR), and the pattern of a journey that has them; along each such pattern the earliest rides are
-/// taken (Transfer Patterns). It looks at each instance once for each number of rides. It fails only where memory runs out.
+/// taken (Transfer Patterns). It looks at each instance once for each number of rides. For each journey it runs the rounds once more at the
+/// first event after its departure, and again if one can leave then. It fails only where memory runs out.
 pub fn scan_journeys(
     alloc: Global,
     network: &Network,
@@ -54,7 +59,15 @@ pub fn scan_journeys(
     requires early { depart ≤ LATEST_MOMENT }
     ensures journeys { IfOk result (λ answer. All (IsJourney network.now from to depart) answer) }
     ensures best { IfOk result (λ answer. AreFront network.now rides from to depart (map numbers answer)) }
+    ensures latest { IfOk result (λ answer. All (IsLatest (Reaches network.now 0 rides from to)) answer) }
 {
     let rounds = plain_rounds(alloc, network.timetable(), from, depart, rides)?;
-    journeys_of(alloc, network, &rounds.view(), from, to, depart, rides)
+    let mut answer = journeys_of(alloc, network, &rounds.view(), from, to, depart, rides)?;
+    let events = departures(alloc, network.timetable(), network.lines(), from)?;
+    for index in 0..answer.points().len() {
+        let point = &answer.points()[index];
+        let last = latest_like(alloc, network, &events, from, to, rides, point)?;
+        answer.put(index, last);
+    }
+    Ok(answer)
 }

@@ -1,0 +1,13 @@
+use Rattle.std.proofs.Common.{◌≡◌, ℕ, ◌<◌, map, get_or}
+use Rattle.std.specs.List.{All}
+use Rattle.timetable.specs.Journeys.{Reaches}
+use Rattle.pattern_query.specs.Answer.{PointData, numbers, IsJourney}
+use Rattle.pattern_query.specs.Leaving.{IsLatest}
+use Rattle.scanned_journeys.proofs.scanning.scan_journeys.Given as goal
+
+abbrev pub invariant-loop-index : goal.invariant-loop-index
+invariant-loop-index l = record {
+  journeys : All (IsJourney l.network l.from l.to l.depart) l.answer;
+  alike : map numbers l.answer ≡ map numbers l.initial.answer;
+  latest : (i : ℕ) (p : PointData) → i < l.index → IsLatest (Reaches l.network 0 l.rides l.from l.to) (get_or l.answer i p);
+}
