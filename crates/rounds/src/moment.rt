@@ -8,7 +8,7 @@ use std::marker::Model;
 /// Stands for none: nobody is anywhere so late.
 const NEVER: u32 = u32::MAX;
 
-/// When one is at a stop, or none, in the four bytes of a moment: half of those of an `Option<u32>`. So more stops lie in the memory that is near.
+/// When one is at a stop, or none. It takes four bytes, half of those of an `Option<u32>`.
 #[derive(Debug, Drop)]
 pub struct Moment {
     number: u32,
