@@ -1,5 +1,5 @@
 -- Labels beside the moments at which one is at each stop. Only private clauses cite these words.
-use Rattle.std.specs.Prelude.{Option, ◌≡◌, ℕ, List, [], ◌∷◌, length, Some, None}
+use Rattle.std.specs.Prelude.{Option, ◌≡◌, ℕ, List, [], ◌∷◌, length, Some, None, nat_lt, if◌then◌else◌}
 use Rattle.rounds.specs.Mark.{Mark, at, arrival_of}
 use Rattle.rounds.specs.Row.{when}
 
@@ -18,3 +18,11 @@ with_moments (moment ∷ moments) (label ∷ labels) = kept moment label ∷ wit
 pub record AreAgreed (moments : List (Option ℕ)) (labels : List Mark) : Type 0 where
   pub size : length labels ≡ length moments
   pub same : (p : ℕ) → when moments p ≡ arrival_of (at (with_moments moments labels) p)
+
+-- later than any moment
+abbrev pub never : ℕ
+never = 4_294_967_295
+
+-- a number as a moment
+abbrev pub moment_of : ℕ → Option ℕ
+moment_of number = if nat_lt number never then Some number else None

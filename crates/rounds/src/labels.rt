@@ -2,9 +2,11 @@
 
 ghost use Rattle.std.specs.Prelude.{◌≡◌, ℕ, ◌<◌, ◌↔◌, IfOk, IfSome, IsNone, IsSome, length, replicate, slice_set, Option, Some, None};
 ghost use Rattle.rounds.specs.Mark.{Mark, at, arrival_of, moved};
+ghost use Rattle.rounds.specs.Labels.{never};
 ghost use Rattle.rounds.specs.Row.{when};
 
 use crate::label::Label;
+use crate::moment::Moment;
 use std::alloc::{AllocError, Global};
 use std::marker::Model;
 use timetable::StopId;
@@ -13,7 +15,7 @@ use timetable::StopId;
 /// often than the rides; a stop without a moment there has no label, whatever stands in its place. Once it is made it takes no memory.
 #[derive(Debug, Drop)]
 pub struct Labels {
-    arrivals: Vec<Option<u32>>,
+    arrivals: Vec<Moment>,
     labels: Vec<Label>,
 }
 
@@ -41,18 +43,22 @@ fn no_labels(alloc: Global, stops: usize) -> Result<Vec<Label>, AllocError>
 }
 
 /// No moments, at so many stops.
-pub fn no_moments(alloc: Global, stops: usize) -> Result<Vec<Option<u32>>, AllocError>
+pub fn no_moments(alloc: Global, stops: usize) -> Result<Vec<Moment>, AllocError>
     ensures { IfOk result (λ moments. moments.items ≡ replicate {A = Option ℕ} stops None) }
 {
-    vec![in alloc; None; stops]
+    let mut moments = Vec::with_capacity(alloc, stops)?;
+    for _ in 0..stops {
+        moments.push(Moment::none())?;
+    }
+    Ok(moments)
 }
 
 /// Takes all moments away.
-pub fn clear_moments(moments: &mut [Option<u32>])
+pub fn clear_moments(moments: &mut [Moment])
     ensures { (stop : ℕ) → when moments.new stop ≡ None }
 {
     for moment in moments.iter_mut() {
-        *moment = None;
+        *moment = Moment::none();
     }
 }
 
@@ -88,10 +94,11 @@ impl Labels {
 
     /// When one is at the stop of this number; none where there is no such stop.
     pub fn arrival(&self, stop: usize) -> Option<u32>
-        ensures { result ≡ arrival_of (at self.now stop) }
+        ensures value { result ≡ arrival_of (at self.now stop) }
+        ensures early { IfSome result (λ m. m < never) }
     {
         match self.arrivals.get(stop) {
-            Some(moment) => *moment,
+            Some(moment) => moment.get(),
             None => None,
         }
     }
@@ -99,10 +106,11 @@ impl Labels {
     /// Puts the label at the stop of this number, at another moment and with one ride more if there is one.
     pub fn put(&mut self, stop: usize, label: &Label, arrival: u32, ride: Option<(StopId, StopId)>)
         requires known { stop < length self.old }
+        requires early { arrival < never }
         requires short { IsSome ride → length label.now.path < 8 }
         ensures { self.new ≡ slice_set self.old stop (Some (moved label.now arrival ride)) }
     {
-        self.arrivals[stop] = Some(arrival);
+        self.arrivals[stop] = Moment::of(Some(arrival));
         self.labels[stop].set(label, arrival, ride);
     }
 }

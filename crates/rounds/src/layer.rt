@@ -7,7 +7,7 @@ ghost use Rattle.lines.specs.Lines.{AreLines};
 ghost use Rattle.rounds.specs.Mark.{AllShort, AllEarly, at};
 ghost use Rattle.rounds.specs.Serving.{Served};
 ghost use Rattle.rounds.specs.Row.{arrivals_of, settled_of};
-ghost use Rattle.rounds.specs.Layers.{IsSized, IsBegunNext, Begins, Stepped, Ridden};
+ghost use Rattle.rounds.specs.Layers.{IsSized, IsBegunNext, Begins, Changes, Stepped, Ridden};
 
 use crate::guesses::Guesses;
 use crate::label::Label;
@@ -64,6 +64,16 @@ impl Layer {
         let start = Label::start(depart);
         walk_from(table, Stay::Free, source, &start, &mut self.ready);
     }
+
+    /// Lowers where one may board by the changes of those who alight. Who rides on from here needs them, and nobody else does.
+    pub fn change(&mut self, table: &Timetable)
+        requires sized { IsSized (stops_of table.now) self.old }
+        requires early { AllEarly LATEST_MOMENT self.old.rode.marks }
+        requires linked { Stepped (link table.now) (settled_of self.old.rode) self.old.ready.marks }
+        ensures { Changes table.now self.old self.new }
+    {
+        walk_on(table, Stay::Change, &self.rode, &mut self.ready);
+    }
 }
 
 /// What comes of a layer by one ride more, in the layer `after` it, and of the journeys that end then. The rides of one who is
@@ -89,7 +99,6 @@ pub fn ride_on(
     requires rode { AllEarly LATEST_MOMENT after.old.rode.marks }
     requires served { Served table.now (arrivals_of known.now) before.now.rode.marks }
     requires next { IsBegunNext table.now before.now after.old }
-    requires linked { Stepped (link table.now) (settled_of after.old.rode) after.old.ready.marks }
     requires walked { Stepped (foot table.now) (settled_of after.old.rode) round.old.marks }
     ensures ridden { Ridden table.now before.now after.old after.new round.old round.new }
     ensures same { length noted.new ≡ length noted.old }
@@ -105,5 +114,4 @@ pub fn ride_on(
         &mut after.rode,
     );
     walk_on(table, Stay::Free, &after.rode, round);
-    walk_on(table, Stay::Change, &after.rode, &mut after.ready);
 }

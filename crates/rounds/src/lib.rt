@@ -10,6 +10,7 @@ mod label;
 mod labels;
 pub mod laws;
 mod layer;
+mod moment;
 mod noted;
 mod path;
 mod plain;

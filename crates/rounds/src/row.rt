@@ -3,23 +3,25 @@
 ghost use Rattle.std.specs.Prelude.{◌≡◌, ℕ, ◌+◌, ◌<◌, ◌≤◌, ◌^◌, ◌↔◌, ◌⊎◌, ◌++◌, ◌∷◌, [], length, slice_set, replicate, Option, Some, None, IfOk, IfSome, IsNone, IsSome, IsTrue, vec_len, vec_capacity};
 ghost use Rattle.std.specs.List.{Contains};
 ghost use Rattle.timetable.specs.Front.{IsSooner};
-ghost use Rattle.rounds.specs.Mark.{Mark, By, at, arrival_of, is_by, moved};
+ghost use Rattle.rounds.specs.Labels.{never};
+ghost use Rattle.rounds.specs.Mark.{AllEarly, Mark, By, at, arrival_of, is_by, moved};
 ghost use Rattle.rounds.specs.Moves.{ridden_to};
 ghost use Rattle.rounds.specs.Row.{SameRow, arrivals_of, settled_of, lowered_in, when};
 ghost use Rattle.rounds.specs.Layers.{Joined, IsBelow};
 
 use crate::label::Label;
 use crate::labels::{Labels, clear_moments, no_moments};
+use crate::moment::Moment;
 use std::alloc::{AllocError, Global};
 use std::marker::Model;
-use timetable::StopId;
+use timetable::{LATEST_MOMENT, StopId};
 
 /// The labels of all stops. It remembers when one was at each stop as it was last settled, and lists the stops whose labels
 /// were lowered since then. Once it is made it takes no memory.
 #[derive(Debug, Drop)]
 pub struct Row {
     labels: Labels,
-    settled: Vec<Option<u32>>,
+    settled: Vec<Moment>,
     lowered: Vec<StopId>,
 }
 
@@ -56,14 +58,14 @@ fn list(stop: StopId, listed: &mut Vec<StopId>)
 }
 
 // Settles the stops that are listed.
-fn settle(labels: &Labels, listed: &[StopId], settled: &mut [Option<u32>])
+fn settle(labels: &Labels, listed: &[StopId], settled: &mut [Moment])
     requires size { length settled.old ≡ length labels.now }
     requires known { (p : ℕ) → Contains listed.now p → p < length labels.now }
     ensures { (p : ℕ) → (when settled.new p ≡ arrival_of (at labels.now p))
         ⊎ (¬ Contains listed.now p × (when settled.new p ≡ when settled.old p)) }
 {
     for stop in listed {
-        settled[stop.number()] = labels.arrival(stop.number());
+        settled[stop.number()] = Moment::of(labels.arrival(stop.number()));
     }
 }
 
@@ -120,7 +122,7 @@ impl Row {
         ensures { result ≡ settled_of self.now stop }
     {
         if stop.number() < self.settled.len() {
-            self.settled[stop.number()]
+            self.settled[stop.number()].get()
         } else {
             None
         }
@@ -150,13 +152,14 @@ impl Row {
     #[inline(always)]
     fn put(&mut self, stop: StopId, label: &Label, arrival: u32, ride: Option<(StopId, StopId)>)
         requires known { stop < length self.old.marks }
+        requires early { arrival < never }
         requires sooner { ¬ By (at self.old.marks stop) arrival }
         requires short { IsSome ride → length label.now.path < 8 }
         ensures marks { self.new.marks ≡ slice_set self.old.marks stop (Some (moved label.now arrival ride)) }
         ensures settled { self.new.settled ≡ self.old.settled }
     {
         let number = stop.number();
-        if !is_sooner(self.labels.arrival(number), self.settled[number]) {
+        if !is_sooner(self.labels.arrival(number), self.settled[number].get()) {
             list(stop, &mut self.lowered);
         }
         self.labels.put(number, label, arrival, ride);
@@ -164,7 +167,8 @@ impl Row {
 
     /// Puts the label at the stop, unless one there is as early. Nothing is copied where one is.
     pub fn lower_to(&mut self, stop: StopId, label: &Label)
-        requires { stop < length self.old.marks }
+        requires known { stop < length self.old.marks }
+        requires early { label.now.arrival < never }
         ensures { self.new ≡ lowered_in self.old stop label.now }
     {
         if !self.is_by(stop, label.arrival()) {
@@ -175,7 +179,7 @@ impl Row {
     /// Puts the label at the stop, so many seconds later, unless one there is as early. Nothing is copied where one is.
     pub fn lower_later(&mut self, stop: StopId, label: &Label, seconds: u32)
         requires known { stop < length self.old.marks }
-        requires early { label.now.arrival + seconds < 2 ^ 32 }
+        requires early { label.now.arrival + seconds < never }
         ensures { self.new ≡ lowered_in self.old stop (record { arrival = label.now.arrival + seconds; path = label.now.path }) }
     {
         if !self.is_by(stop, label.arrival() + seconds) {
@@ -187,6 +191,7 @@ impl Row {
     /// one there is as early. Nothing is copied where one is.
     pub fn lower_ridden(&mut self, from: StopId, label: &Label, to: StopId, arrival: u32)
         requires known { to < length self.old.marks }
+        requires early { arrival < never }
         requires short { length label.now.path ≤ 7 }
         ensures { self.new ≡ lowered_in self.old to (ridden_to from label.now to arrival) }
     {
@@ -199,6 +204,7 @@ impl Row {
 /// Lowers each label to that of the same stop in `below`, where those that weren't lowered there are no sooner than here.
 pub fn join(below: &Row, row: &mut Row)
     requires size { length below.now.marks ≡ length row.old.marks }
+    requires early { AllEarly LATEST_MOMENT below.now.marks }
     requires rest { IsBelow (settled_of below.now) row.old.marks }
     ensures joined { Joined below.now.marks row.old.marks row.new.marks }
     ensures same { SameRow row.old row.new }

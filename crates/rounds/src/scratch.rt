@@ -13,7 +13,7 @@ ghost use Rattle.rounds.specs.Answers.{AreRounds};
 ghost use Rattle.rounds.specs.Events.{AreEvents};
 ghost use Rattle.rounds.specs.Mark.{at, arrival_in, moment_in};
 ghost use Rattle.rounds.specs.Row.{RowData, arrivals_of, settled_of};
-ghost use Rattle.rounds.specs.Layers.{IsSized, IsSettled, Begins, AreKept, DoneTo, layer_at, round_at};
+ghost use Rattle.rounds.specs.Layers.{IsSized, IsSettled, Begins, AreKept, DoneTo, RodeTo, layer_at, round_at};
 ghost use Rattle.rounds.specs.Scratch.{IsMadeFor, IsAlike, MayGoOn, GoesOn, Remembers, rides_of, rounds_of, source_of, kept_of, before_of};
 
 use crate::best::points;
@@ -150,7 +150,7 @@ fn ride_from(
     requires few { index < 8 }
     requires index { index < length rounds.old }
     requires done { DoneTo table.now start.now.source start.now.depart index layers.old rounds.old }
-    ensures done { DoneTo table.now start.now.source start.now.depart (index + 1) layers.new rounds.new }
+    ensures rode { RodeTo table.now start.now.source start.now.depart (index + 1) layers.new rounds.new }
     ensures settled { (r : ℕ) → (round_at rounds.new r).settled ≡ (round_at rounds.old r).settled }
     ensures same { length noted.new ≡ length noted.old }
 {
@@ -167,7 +167,17 @@ fn ride_from(
     );
 }
 
-// What comes of each layer by one ride more, one after the other.
+// What comes of one layer by the changes of those who alight, where all are done up to the rides there.
+fn change_at(table: &Timetable, start: &Start, index: usize, layers: &mut [Layer], rounds: &[Row])
+    requires valid { IsTable table.now }
+    requires index { index < length rounds.now }
+    requires rode { RodeTo table.now start.now.source start.now.depart index layers.old rounds.now }
+    ensures { DoneTo table.now start.now.source start.now.depart index layers.new rounds.now }
+{
+    layers[index].change(table);
+}
+
+// What comes of each layer by one ride more, one after the other. Nobody changes where no ride follows.
 fn ride_layers(
     table: &Timetable,
     lines: &Lines,
@@ -180,12 +190,13 @@ fn ride_layers(
     requires valid { IsTable table.now }
     requires noted { length noted.old ≡ length lines.now.lines }
     requires few { length rounds.old ≤ 8 }
-    requires begun { DoneTo table.now start.now.source start.now.depart 0 layers.old rounds.old }
-    ensures done { DoneTo table.now start.now.source start.now.depart (length rounds.old) layers.new rounds.new }
+    requires begun { RodeTo table.now start.now.source start.now.depart 0 layers.old rounds.old }
+    ensures rode { RodeTo table.now start.now.source start.now.depart (length rounds.old) layers.new rounds.new }
     ensures settled { (r : ℕ) → (round_at rounds.new r).settled ≡ (round_at rounds.old r).settled }
     ensures same { length noted.new ≡ length noted.old }
 {
     for index in 0..rounds.len() {
+        change_at(table, start, index, layers, rounds);
         ride_from(table, lines, start, index, layers, noted, rounds);
     }
 }
@@ -208,7 +219,7 @@ fn run_layers(
     requires count { length layers.old ≡ suc (length rounds.old) }
     requires sized { All (IsSized (stops_of table.now)) layers.old }
     requires kept { IsTable table.now → AreKept table.now source depart layers.old rounds.old }
-    ensures done { DoneTo table.now source depart (length rounds.old) layers.new rounds.new }
+    ensures rode { RodeTo table.now source depart (length rounds.old) layers.new rounds.new }
     ensures settled { (r : ℕ) → r < length rounds.old → (stop : ℕ)
         → settled_of (round_at rounds.new r) stop ≡ arrivals_of (round_at rounds.old r) stop }
     ensures same { length noted.new ≡ length noted.old }

@@ -1,4 +1,4 @@
-use Rattle.std.proofs.Common.{ℕ, Option, List, sym, ◌∙◌, subst}
+use Rattle.std.proofs.Common.{ℕ, Option, List, refl, sym, ◌∙◌, subst}
 use Rattle.rounds.specs.Row.{ByThen, when}
 use Rattle.rounds.proofs.LayerSteps.{joined_early, scanned_early}
 use Rattle.rounds.proofs.layer.ride_on.Goals as goal
@@ -27,24 +27,11 @@ pub walk_on-requires-clause-rest : goal.walk_on-requires-clause-rest
 walk_on-requires-clause-rest c =
     λ p q w a then gap. c.requires.walked p q w a (subst (λ (ms : List (Option ℕ)). ByThen (when ms p) a) (c.ride_lines.ensures.same.settled ∙ c.join.ensures.same.settled) then) gap
 
-pub walk_on-requires-2-clause-starts : goal.walk_on-requires-2-clause-starts
-walk_on-requires-2-clause-starts c = c.ride_lines.ensures.same.size ∙ (c.join.ensures.same.size ∙ c.requires.after.rode)
-
-pub walk_on-requires-2-clause-early : goal.walk_on-requires-2-clause-early
-walk_on-requires-2-clause-early c =
-    scanned_early c.args.table.now c.args.before.now.ready.marks c.join.new.row.marks c.ride_lines.new.rode.marks c.requires.valid
-    (joined_early c.args.before.now.rode.marks c.args.after.now.rode.marks c.join.new.row.marks c.requires.early c.requires.rode c.join.ensures.joined) c.ride_lines.ensures.scanned
-
-pub walk_on-requires-2-clause-rest : goal.walk_on-requires-2-clause-rest
-walk_on-requires-2-clause-rest c =
-    λ p q w a then gap. c.requires.linked p q w a (subst (λ (ms : List (Option ℕ)). ByThen (when ms p) a) (c.ride_lines.ensures.same.settled ∙ c.join.ensures.same.settled) then) gap
-
 pub returns-clause-ridden : goal.returns-clause-ridden
 returns-clause-ridden c = record {
   rides = (c.join.new.row.marks, c.join.ensures.joined, c.ride_lines.ensures.scanned);
-  links = c.walk_on-2.ensures.walks;
   ends = c.walk_on.ensures.walks;
   rode = record { size = c.ride_lines.ensures.same.size ∙ c.join.ensures.same.size; settled = c.ride_lines.ensures.same.settled ∙ c.join.ensures.same.settled };
-  ready = c.walk_on-2.ensures.same;
+  ready = refl;
   ended = c.walk_on.ensures.same;
 }

@@ -82,4 +82,5 @@ pub returns : goal.returns
 returns c =
     let e : c.loop.counter ≡ c.args.rides = omega arith in
     λ s d h. subst (λ k. AreRounds c.args.table.now s d k c.loop.rounds) e
-    (rounds_are c.args.table.now s d c.loop.counter c.loop.ready.marks c.loop.rode.marks c.loop.rounds (c.loop.invariant.filled s d h))
+    (let f = c.loop.invariant.filled s d h in
+    rounds_are c.args.table.now s d c.loop.counter c.loop.rounds (record { count = f.count; sizes = f.sizes; journeys = f.journeys }))

@@ -1,4 +1,5 @@
-use Rattle.std.proofs.Common.{◌≡◌, ◌+◌, ◌⊎◌, ℕ, arith}
+use Rattle.std.proofs.Common.{◌≡◌, ◌+◌, ◌≤◌, ◌⊎◌, ℕ, arith}
+use Rattle.timetable.specs.declared.parts.TheConstants.{LATEST_MOMENT}
 use Rattle.rounds.specs.Row.{settled_of}
 use Rattle.rounds.proofs.Low.{at_within}
 use Rattle.rounds.proofs.RowSteps.{same_here, same_then, same_lowered}
@@ -44,3 +45,8 @@ pub returns-clause-joined : goal.returns-clause-joined
 returns-clause-joined c =
     joined_all c.args.below.now.marks c.args.row.now.marks c.loop-stop.row.marks (settled_of c.args.below.now) c.lowered-stop-items.result.now c.loop-stop.stop-index
     (omega arith) c.lowered-stop-items.ensures.others c.requires.rest c.loop-stop.invariant.joined
+
+pub lower_to-requires-clause-early : goal.lower_to-requires-clause-early
+lower_to-requires-clause-early c =
+    let low : c.in-Some.label.now.arrival ≤ LATEST_MOMENT = c.requires.early c.stop-item.result c.in-Some.label.now c.in-Some.ensures.some in
+    omega (arith, low)

@@ -41,6 +41,6 @@ loop-stop-preserved c =
     let a = c.number.ensures.value in
     let b = c.number-in-loop-stop.ensures.value in
     let known = inside labels listed c.loop-stop.stop-index stop c.number.result c.requires.known c.loop-stop-test.true c.stop-item.is a in
-    rw b (settled_more labels listed c.args.settled.now c.loop-stop.settled c.loop-stop.stop-index stop c.arrival.result c.loop-stop-test.true c.stop-item.is
+    rw (b, c.of.ensures) (settled_more labels listed c.args.settled.now c.loop-stop.settled c.loop-stop.stop-index stop c.arrival.result c.loop-stop-test.true c.stop-item.is
     (let k = subst (λ k. k < length labels) a known in let z : stop < length c.loop-stop.settled = omega (arith, k) in z)
-    (c.arrival.ensures ∙ ap (λ k. arrival_of (at labels k)) a) c.loop-stop.invariant)
+    (c.arrival.ensures.value ∙ ap (λ k. arrival_of (at labels k)) a) c.loop-stop.invariant)

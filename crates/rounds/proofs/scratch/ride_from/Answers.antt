@@ -3,7 +3,7 @@ use Rattle.std.proofs.lemmas.Bool.{cases_eq}
 use Rattle.std.proofs.lemmas.List.{length-set, get_or-set_same, get_or-set_other}
 use Rattle.timetable.specs.declared.parts.TheConstants.{LATEST_MOMENT}
 use Rattle.timetable.specs.Table.{stops_of}
-use Rattle.timetable.specs.Journeys.{foot, link}
+use Rattle.timetable.specs.Journeys.{foot}
 use Rattle.rounds.specs.Mark.{AllEarly, AllShort}
 use Rattle.rounds.specs.Row.{RowData, arrivals_of, settled_of}
 use Rattle.rounds.specs.Serving.{Served}
@@ -76,8 +76,8 @@ ride_on-requires-clause-served c =
     (λ e. c.known.ensures.first e ∙ ap (λ (y : Layer). y.rode) (same 0 (omega (arith, e))))
     (λ r e. c.known.ensures.later r e ∙ ap (λ (y : Layer). y.ready) (same r (omega (arith, e))))).0
 
-pub returns-clause-done : goal.returns-clause-done
-returns-clause-done c =
+pub returns-clause-rode : goal.returns-clause-rode
+returns-clause-rode c =
     let T = c.args.table.now in
     let n = c.args.index in
     let layers = c.args.layers.now in
@@ -140,16 +140,6 @@ ride_on-requires-clause-round c =
     let n = c.args.index in
     ap (λ (row : RowData). length row.marks) (round_read c.args.rounds.now n c.index-rounds-index.result c.requires.index)
     ∙ (c.requires.done.ends n (let k : n ≤ n = omega arith in k) c.requires.index).size
-
-pub ride_on-requires-clause-linked : goal.ride_on-requires-clause-linked
-ride_on-requires-clause-linked c =
-    let n = c.args.index in
-    let layers = c.args.layers.now in
-    let is = c.requires.done in
-    let in' : suc n < length layers = (let z = is.sizes in let i = c.requires.index in omega (arith, z, i)) in
-    let here = second_read layers c.split_at_mut-front.result.1.now n c.index-back-0.result (c.split_at_mut-front.ensures.by_index.1 0 c.index-back-0.result) in' in
-    subst (λ (y : Layer). Stepped (link c.args.table.now) (settled_of y.rode) y.ready.marks) (sym here)
-    (is.begun (suc n) (let k : n < suc n = omega arith in k) in').linked
 
 pub ride_on-requires-clause-walked : goal.ride_on-requires-clause-walked
 ride_on-requires-clause-walked c =

@@ -16,4 +16,4 @@ pub returns-in-Some-clause-some : goal.returns-in-Some-clause-some
 returns-in-Some-clause-some c =
     let i = c.self.inside in
     read_label i.arrivals.items i.labels.items c.args.self.now c.args.stop c.in-Some.field-0 c.arrival.result c.index.result.now c.self.invariant c.self.view_is
-    c.arrival.ensures c.in-Some.is c.index.ensures
+    c.arrival.ensures.value c.in-Some.is c.index.ensures

@@ -31,10 +31,10 @@ pub invariant_of-self : goal.invariant_of-self
 invariant_of-self c =
     let i = c.self.inside in
     let lt = within i.arrivals.items i.labels.items c.args.self.now c.args.stop c.self.invariant c.self.view_is c.requires.known in
-    rw c.set.ensures (agreed_put i.arrivals.items i.labels.items c.args.stop c.args.arrival (moved c.args.label.now c.args.arrival c.args.ride) refl lt c.self.invariant)
+    rw (c.of.ensures, c.set.ensures) (agreed_put i.arrivals.items i.labels.items c.args.stop c.args.arrival (moved c.args.label.now c.args.arrival c.args.ride) refl lt c.self.invariant)
 
 pub returns : goal.returns
 returns c =
     let i = c.self.inside in
-    rw c.set.ensures (with_put i.arrivals.items i.labels.items c.args.stop c.args.arrival (moved c.args.label.now c.args.arrival c.args.ride) c.self.invariant.size
+    rw (c.of.ensures, c.set.ensures) (with_put i.arrivals.items i.labels.items c.args.stop c.args.arrival (moved c.args.label.now c.args.arrival c.args.ride) c.self.invariant.size
     ∙ ap (λ (ms : List (Option Mark)). set ms c.args.stop (Some (moved c.args.label.now c.args.arrival c.args.ride))) c.self.view_is)

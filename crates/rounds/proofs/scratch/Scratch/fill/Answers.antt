@@ -23,7 +23,7 @@ returns-clause-on c =
     let w = whole_of old.layers.len layers old.layers.items c.deref_mut.result.now e1 c.deref_mut.ensures.len c.run_layers.auto.layers in
     let w3 = whole_of old.rounds.len rounds old.rounds.items c.deref_mut-2.result.now e3 c.deref_mut-2.ensures.len c.run_layers.auto.rounds in
     let all : n ≡ length rounds = sym c.run_layers.auto.rounds in
-    let done = c.run_layers.ensures.done in
+    let done = c.run_layers.ensures.rode in
     let sized = layers_sized T old.source c.args.depart n layers rounds all done in
     let sizes = rounds_sized T old.source c.args.depart n layers rounds all done in
     record {
