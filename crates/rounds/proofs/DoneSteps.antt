@@ -1,17 +1,16 @@
 -- A run that keeps labels goes from one layer to the next.
-use Rattle.std.proofs.Common.{Option, ◌≡◌, ℕ, suc, ◌+◌, ◌<◌, ◌≤◌, List, [], ◌∷◌, length, map, arith, sym, ◌∙◌, ap, subst, inl, inr, ◌≢◌, eq-or-lt_of_le, zero, refl}
+use Rattle.std.proofs.Common.{Option, ◌≡◌, ℕ, suc, ◌+◌, ◌<◌, ◌≤◌, List, [], length, map, arith, sym, ◌∙◌, ap, subst, inl, inr, ◌≢◌, eq-or-lt_of_le, zero, refl}
 use Rattle.std.specs.List.{All}
 use Rattle.std.proofs.lemmas.Bool.{cases_eq}
 use Rattle.std.proofs.lemmas.List.{length-map, get_or-map}
 use Rattle.std.proofs.lemmas.List.Elements.{All-map}
-use Rattle.timetable.specs.declared.parts.Leg.{Leg}
 use Rattle.timetable.specs.Table.{Table, IsTable, stops_of}
 use Rattle.timetable.specs.Journeys.{foot, from, to, departs, arrives}
-use Rattle.timetable.proofs.Taken.{the_some, rides_some}
+use Rattle.timetable.proofs.Taken.{rides_some}
 use Rattle.rounds.specs.Answers.{AreRounds}
 use Rattle.rounds.specs.Mark.{Mark, at, By}
 use Rattle.rounds.specs.Row.{RowData, SameRow, ByThen, arrivals_of, settled_of, when}
-use Rattle.rounds.specs.Marks.{RideSet, ReadySet, JourneySet, IsMark}
+use Rattle.rounds.specs.Marks.{RideSet, JourneySet, IsMark}
 use Rattle.rounds.specs.Serving.{Served}
 use Rattle.rounds.specs.Layers.{IsSettled, IsBelow, Attained, IsRound, IsNext, IsBegun, IsBegunRound, IsBegunNext, IsLayer, IsRode, IsDone, IsDoneRound, Begins, Changes, Stepped, Ridden, AreKept, DoneTo, RodeTo, no_row, layer_at, round_at}
 use Rattle.rounds.specs.declared.layer.Layer.{Layer}

@@ -1,6 +1,6 @@
 //! Labels of all stops, and which of them were lowered.
 
-ghost use Rattle.std.specs.Prelude.{◌≡◌, ℕ, ◌+◌, ◌<◌, ◌≤◌, ◌^◌, ◌↔◌, ◌⊎◌, ◌++◌, ◌∷◌, [], length, slice_set, replicate, Option, Some, None, IfOk, IfSome, IsNone, IsSome, IsTrue, vec_len, vec_capacity};
+ghost use Rattle.std.specs.Prelude.{◌≡◌, ℕ, ◌+◌, ◌<◌, ◌≤◌, ◌↔◌, ◌⊎◌, ◌++◌, ◌∷◌, [], length, slice_set, replicate, Option, Some, None, IfOk, IfSome, IsNone, IsSome, IsTrue, vec_len, vec_capacity};
 ghost use Rattle.std.specs.List.{Contains};
 ghost use Rattle.timetable.specs.Front.{IsSooner};
 ghost use Rattle.rounds.specs.Labels.{never};
