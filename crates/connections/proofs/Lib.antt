@@ -5,3 +5,4 @@ pub mod AddedFacts
 pub mod TreeFacts
 pub mod FirstFacts
 pub mod MomentFacts
+pub mod LeaveFacts

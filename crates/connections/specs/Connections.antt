@@ -28,6 +28,10 @@ pub record IsConnection (Of : ℕ → Numbers → Type 0) (window : Window) (c :
   pub before : c.departure ≤ window.last
   pub connects : Connects Of c.departure (numbers c.journey)
 
+-- its journey leaves at its departure: the first walk ends just in time
+abbrev pub LeavesThen : Connection → Type 0
+LeavesThen c = c.journey.departure ≡ c.departure
+
 -- of the journeys of these trees at its departure or later with its numbers, its journey leaves last, and of those that leave as late it
 -- walks least
 abbrev pub WalksLeast : Table → Held → List ℕ → List ℕ → Connection → Type 0

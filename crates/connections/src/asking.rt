@@ -8,7 +8,7 @@ ghost use Rattle.pattern_query.specs.Answer.{numbers};
 ghost use Rattle.pattern_query.specs.Gathered.{AddsAsked, IsTo};
 ghost use Rattle.pattern_query.specs.Questions.{AreComplete, AskedReaches, IsAskedPoint, IsStored, ReachesBetween};
 ghost use Rattle.pattern_query.specs.Leaving.{LeavesLast};
-ghost use Rattle.connections.specs.Connections.{AreConnections, WalksLeast};
+ghost use Rattle.connections.specs.Connections.{AreConnections, LeavesThen, WalksLeast};
 ghost use Rattle.connections.specs.Found.{AddsSome, AreAfter, AreFound, AreMoments, IsEventOf, IsNoWorse, IsScope, IsThere, IsLastBefore};
 ghost use Rattle.connections.specs.Found.{LiesAt, Scope, between, points_in};
 
@@ -197,6 +197,7 @@ pub fn ask_connections<T: Trees>(
     ensures points { IfOk result
         (λ list. All (λ c. IsAskedPoint network.now (T.held trees.now) froms.now tos.now c.departure c.journey) list.items) }
     ensures best { IfOk result (λ list. AreConnections (AskedReaches network.now (T.held trees.now) froms.now tos.now) window list.items) }
+    ensures departures { IfOk result (λ list. All LeavesThen list.items) }
     ensures last { IfOk result (λ list. All (WalksLeast network.now (T.held trees.now) froms.now tos.now) list.items) }
     ensures exact { IfOk result (λ list. (k : ℕ) → AreComplete network.now (T.held trees.now) k froms.now
         → AreConnections (ReachesBetween network.now k froms.now tos.now) window list.items) }

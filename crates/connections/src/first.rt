@@ -6,7 +6,7 @@ ghost use Rattle.timetable.specs.Journeys.{Reaches};
 ghost use Rattle.timetable.specs.Table.{stops_of};
 ghost use Rattle.pattern_query.specs.Answer.{IsJourney};
 ghost use Rattle.rounds.specs.Scratch.{IsMadeFor, IsAlike, rides_of};
-ghost use Rattle.connections.specs.Connections.{AreFirst};
+ghost use Rattle.connections.specs.Connections.{AreFirst, LeavesThen};
 
 use crate::connection::{Connection, Window};
 use crate::scanning::scan_connections;
@@ -57,6 +57,7 @@ pub fn scan_first(
     requires early { window.last ≤ LATEST_MOMENT }
     ensures same { IsAlike scratch.old scratch.new }
     ensures journeys { IfOk result (λ first. All (λ c. IsJourney network.now from to c.departure c.journey) first.connections.items) }
+    ensures departures { IfOk result (λ first. All LeavesThen first.connections.items) }
     ensures right { IfOk result
         (λ first. AreFirst (Reaches network.now 0 (rides_of scratch.old) from to) window enough first.connections.items first.next) }
 {

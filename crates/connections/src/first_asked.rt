@@ -4,7 +4,7 @@ ghost use Rattle.std.specs.Prelude.{ℕ, ◌<◌, ◌≤◌, IfOk};
 ghost use Rattle.std.specs.List.{All};
 ghost use Rattle.timetable.specs.Table.{stops_of};
 ghost use Rattle.pattern_query.specs.Questions.{AreComplete, AskedReaches, IsAskedPoint, IsStored, ReachesBetween};
-ghost use Rattle.connections.specs.Connections.{AreFirst, WalksLeast};
+ghost use Rattle.connections.specs.Connections.{AreFirst, LeavesThen, WalksLeast};
 
 use crate::asking::ask_connections;
 use crate::connection::Window;
@@ -30,6 +30,7 @@ pub fn ask_first<T: Trees>(
     requires early { window.last ≤ LATEST_MOMENT }
     ensures points { IfOk result (λ first.
         All (λ c. IsAskedPoint network.now (T.held trees.now) froms.now tos.now c.departure c.journey) first.connections.items) }
+    ensures departures { IfOk result (λ first. All LeavesThen first.connections.items) }
     ensures last { IfOk result (λ first. All (WalksLeast network.now (T.held trees.now) froms.now tos.now) first.connections.items) }
     ensures best { IfOk result (λ first.
         AreFirst (AskedReaches network.now (T.held trees.now) froms.now tos.now) window enough first.connections.items first.next) }

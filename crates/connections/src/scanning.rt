@@ -7,7 +7,7 @@ ghost use Rattle.pattern_query.specs.Answer.{IsJourney};
 ghost use Rattle.timetable.specs.Table.{stops_of};
 ghost use Rattle.rounds.specs.Events.{IsEvent, AreEvents};
 ghost use Rattle.rounds.specs.Scratch.{IsMadeFor, IsAlike, MayGoOn, GoesOn, rides_of, rounds_of, before_of, source_of, kept_of};
-ghost use Rattle.connections.specs.Connections.{AreConnections};
+ghost use Rattle.connections.specs.Connections.{AreConnections, LeavesThen};
 ghost use Rattle.connections.specs.Found.{AddsSome, AreFound, AreLeastAt, IsBy, IsLowered, IsLoweredWithin, LiesAt, between};
 
 use crate::connection::{Connection, Window};
@@ -132,6 +132,7 @@ pub fn scan_connections(
     requires to { to < stops_of network.now }
     ensures same { IsAlike scratch.old scratch.new }
     ensures journeys { IfOk result (λ list. All (λ c. IsJourney network.now from to c.departure c.journey) list.items) }
+    ensures departures { IfOk result (λ list. All LeavesThen list.items) }
     ensures right { IfOk result (λ list. AreConnections (Reaches network.now 0 (rides_of scratch.old) from to) window list.items) }
 {
     let events = scratch.departures(alloc, network.timetable(), from)?;

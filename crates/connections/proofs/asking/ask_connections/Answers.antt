@@ -11,6 +11,7 @@ use Rattle.pattern_query.specs.Questions.{Held, IsAskedPoint}
 use Rattle.connections.specs.declared.connection.Connection.{Connection}
 use Rattle.connections.specs.Connections.{WalksLeast}
 use Rattle.connections.specs.Found.{AreAfter, AreFound, AreMoments, IsEventOf, LiesAt, Scope, SplitsAt, between, points_in}
+use Rattle.connections.proofs.LeaveFacts.{asked_then}
 use Rattle.connections.proofs.EventFacts.{lies_after, between_moments, rising_le, rising_lt}
 use Rattle.connections.proofs.FoundFacts.{all_from, HasFound, has_none, found_after, has_from, found_all, turned}
 use Rattle.connections.proofs.TreeFacts.{is_flow, after_next}
@@ -168,3 +169,7 @@ returns-clause-exact g c = λ k whole.
     (subst (λ (n : ℕ). ReversedBelow list c.reverse.new.self.items n) c.loop-index.found.ok.0 c.reverse.ensures.by_index)
     (found_all (IsEventOf T froms) (Scope T held froms tos (Some k)) (is_flow T held froms tos (Some k)).events c.args.window moments are c.loop-index.index c.count_before-first.result list
     c.loop-index-test.false first.0 (c.loop-index.invariant.has (Some k) whole))
+
+pub returns-clause-departures : goal.returns-clause-departures
+returns-clause-departures g c =
+    asked_then c.args.network.now (g.T.Trees.held c.args.trees.now) c.args.froms.now c.args.tos.now c.args.window c.reverse.new.self.items (returns-clause-best g c).each (returns-clause-points g c)

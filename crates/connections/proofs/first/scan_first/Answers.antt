@@ -6,6 +6,7 @@ use Rattle.pattern_query.specs.Answer.{IsJourney}
 use Rattle.rounds.specs.Scratch.{rides_of}
 use Rattle.connections.specs.declared.connection.Connection.{Connection}
 use Rattle.connections.specs.Connections.{AreConnections, AreConnectionsBefore}
+use Rattle.connections.proofs.LeaveFacts.{scanned_then}
 use Rattle.connections.proofs.FirstFacts.{one_step}
 use Rattle.connections.proofs.first.scan_first.Goals as goal
 
@@ -35,3 +36,8 @@ loop-next-preserved c =
           (one_step (Reaches T 0 k s t) c.args.window c.loop-next.next step list more first some within after inv.has right);
       journeys = subst (λ (l : List Connection). All Is l) (sym items) (All-append Is list more inv.journeys c.in_ok-more.ensures.journeys);
     }
+
+pub returns-clause-departures : goal.returns-clause-departures
+returns-clause-departures c =
+    scanned_then c.args.network.now (rides_of c.args.scratch.now) c.args.from c.args.to c.args.window c.loop-next.connections.items
+    c.loop-next.invariant.has.each c.loop-next.invariant.journeys

@@ -7,6 +7,7 @@ use Rattle.connections.specs.declared.connection.Connection.{Connection}
 use Rattle.connections.specs.declared.connection.Window.{Window}
 use Rattle.connections.specs.Connections.{AreConnections, AreConnectionsBefore, WalksLeast}
 use Rattle.connections.specs.Found.{IsScope, Scope}
+use Rattle.connections.proofs.LeaveFacts.{asked_then}
 use Rattle.connections.proofs.FirstFacts.{none_before, one_step}
 use Rattle.connections.proofs.first_asked.ask_first.Goals.{then-loop-next-test+else-len-enough, else-loop-next-test}
 use Rattle.connections.proofs.first_asked.ask_first.Goals as goal
@@ -74,3 +75,8 @@ returns-clause-best g c = record { are = c.loop-next.invariant.has None tt; some
 
 pub returns-clause-exact : goal.returns-clause-exact
 returns-clause-exact g c = λ k complete. record { are = c.loop-next.invariant.has (Some k) complete; some = enough_found g c }
+
+pub returns-clause-departures : goal.returns-clause-departures
+returns-clause-departures g c =
+    asked_then c.args.network.now (g.T.Trees.held c.args.trees.now) c.args.froms.now c.args.tos.now c.args.window c.loop-next.connections.items
+    (c.loop-next.invariant.has None tt).each c.loop-next.invariant.points

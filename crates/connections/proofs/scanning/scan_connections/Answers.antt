@@ -11,6 +11,7 @@ use Rattle.rounds.specs.Answers.{AreRounds}
 use Rattle.rounds.specs.Scratch.{MayGoOn, rides_of, source_of, kept_of}
 use Rattle.connections.specs.declared.connection.Connection.{Connection}
 use Rattle.connections.specs.Found.{AreFound, AreLeastAt, AreMoments, IsBy, LiesAt, SplitsAt, between}
+use Rattle.connections.proofs.LeaveFacts.{scanned_then}
 use Rattle.connections.proofs.ConnectionFacts.{shifted, least_of, reached_events}
 use Rattle.connections.proofs.EventFacts.{lies_after, moment_is, moments_are, between_moments, rising_le, rising_lt}
 use Rattle.connections.proofs.FoundFacts.{all_from, HasFound, has_none, found_after, has_from, found_all, turned}
@@ -156,3 +157,7 @@ returns-clause-journeys c =
     let new = c.reverse.new.self.items in
     let Is = λ (x : Connection). IsJourney c.args.network.now c.args.from c.args.to x.departure x.journey in
     all_from Is new (λ x h. All-contains Is list x c.loop-index.invariant.journeys (Contains-permutation new list x (IsPermutation-sym list new c.reverse.ensures.permutation) h))
+
+pub returns-clause-departures : goal.returns-clause-departures
+returns-clause-departures c =
+    scanned_then c.args.network.now (rides_of c.args.scratch.now) c.args.from c.args.to c.args.window c.reverse.new.self.items (returns-clause-right c).each (returns-clause-journeys c)
