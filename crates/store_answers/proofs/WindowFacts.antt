@@ -109,11 +109,11 @@ module _ (basis : BasisData) (k : ℕ) (old new : State) (question : Question) (
                 (λ (c : Connection). IsStoredPoint table trees h.froms h.tos c.departure c.journey)
                 (λ c p. in_trees table trees board h.froms h.tos c.departure is.whole.same right.stored c.journey p)
                 right.found right.journeys;
-            last = All-weaker (WalksLeast table (tree_at board) h.froms h.tos)
+            least = All-weaker (WalksLeast table (tree_at board) h.froms h.tos)
                 (λ (c : Connection). LeavesLast table (IsStoredPoint table trees h.froms h.tos c.departure) c.journey)
                 (λ c last. last_stored table trees board h.froms h.tos c.departure is.whole.same right.stored (form_over basis k) old.read
                 is.whole.stands c.journey last)
-                right.found right.last;
+                right.found right.least;
             right = chosen_same (AskedReaches table (tree_at board) h.froms h.tos) (StoredReaches table trees h.froms h.tos)
                 (λ d. reaches_stored table trees board h.froms h.tos d is.whole.same right.stored)
                 (λ d. stored_reaches table trees board h.froms h.tos d is.whole.same right.stored (form_over basis k) old.read is.whole.stands)

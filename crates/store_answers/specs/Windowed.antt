@@ -32,7 +32,7 @@ pub record AreStoredTold (basis : BasisData) (k : ℕ) (trees : List Content) (l
   pub found : List Connection
   pub next : ℕ
   pub journeys : All (λ c. IsStoredPoint basis.timetable trees froms tos c.departure c.journey) found
-  pub last : All (λ c. LeavesLast basis.timetable (IsStoredPoint basis.timetable trees froms tos c.departure) c.journey) found
+  pub least : All (λ c. LeavesLast basis.timetable (IsStoredPoint basis.timetable trees froms tos c.departure) c.journey) found
   pub right : AreChosen (StoredReaches basis.timetable trees froms tos) (between first last) asked found next
   pub exact : All (IsWholeAmong (form_over basis k) froms) trees
       → AreChosen (ReachesBetween basis.timetable k froms tos) (between first last) asked found next

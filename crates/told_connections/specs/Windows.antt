@@ -72,7 +72,7 @@ pub record AreAskedTold (basis : BasisData) (held : Held) (wanted : Bool) (asked
   pub found : List Connection
   pub next : ℕ
   pub journeys : All (λ c. IsAskedPoint basis.timetable held froms tos c.departure c.journey) found
-  pub last : All (WalksLeast basis.timetable held froms tos) found
+  pub least : All (WalksLeast basis.timetable held froms tos) found
   pub right : AreChosen (AskedReaches basis.timetable held froms tos) (between first last) asked found next
   pub exact : (k : ℕ) → AreComplete basis.timetable held k froms
       → AreChosen (ReachesBetween basis.timetable k froms tos) (between first last) asked found next

@@ -87,7 +87,7 @@ returns-clause-answer g c =
             T basis.timetable fs asked.froms ts asked.tos same froms tos
             (chosen_all (λ (x : Connection). IsAskedPoint T held fs ts x.departure x.journey) wanted found.connections.items found.next list next
             chooses c.in_ok-found.ensures.points);
-        last = moved (λ t f u. All (WalksLeast t held f u) list) T basis.timetable fs asked.froms ts asked.tos same froms tos
+        least = moved (λ t f u. All (WalksLeast t held f u) list) T basis.timetable fs asked.froms ts asked.tos same froms tos
             (chosen_all (WalksLeast T held fs ts) wanted found.connections.items found.next list next chooses c.in_ok-found.ensures.last);
         right = moved (λ t f u. AreChosen (AskedReaches t held f u) window wanted list next)
             T basis.timetable fs asked.froms ts asked.tos same froms tos
