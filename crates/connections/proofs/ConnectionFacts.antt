@@ -1,10 +1,10 @@
 -- When the departures of connections are events, and which best numbers at an event are those of a connection, by the least arrivals at the
 -- event and after it.
-use Rattle.std.proofs.Common.{Option, ◌≡◌, ℕ, ◌+◌, ◌<◌, ◌≤◌, List, [], ◌∷◌, length, Some, None, arith, refl, sym, ap, subst, inl, inr, le_refl}
+use Rattle.std.proofs.Common.{Option, ◌≡◌, ℕ, ◌+◌, ◌<◌, ◌≤◌, List, length, Some, None, arith, refl, sym, ap, subst, inl, inr, le_refl}
 use Rattle.std.proofs.lemmas.Bool.{cases_lt}
 use Rattle.timetable.specs.declared.parts.Numbers.{Numbers}
 use Rattle.timetable.specs.Table.{Table, stops_of}
-use Rattle.timetable.specs.Journeys.{Journey, Reaches, Unbeaten, IsLeast}
+use Rattle.timetable.specs.Journeys.{Reaches, Unbeaten, IsLeast}
 use Rattle.timetable.specs.Front.{IsSooner}
 use Rattle.timetable.proofs.Taken.{journey_earlier}
 use Rattle.rounds.specs.Mark.{Mark, arrival_in}

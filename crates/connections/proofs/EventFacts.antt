@@ -1,5 +1,5 @@
 -- Where moments lie among the events of a stop.
-use Rattle.std.proofs.Common.{Option, ◌≡◌, ℕ, ◌+◌, ◌<◌, ◌≤◌, List, length, get_or, Some, IsSomeAnd, option_map, unwrap_or, arith, sym, ap, subst, inl, inr, le_refl, eq-or-lt_of_le}
+use Rattle.std.proofs.Common.{Option, ◌≡◌, ℕ, ◌+◌, ◌<◌, ◌≤◌, List, length, get_or, option_map, unwrap_or, arith, ap, subst, inl, inr, le_refl, eq-or-lt_of_le}
 use Rattle.std.specs.List.Sorted.{IsStrictlyIncreasing}
 use Rattle.std.proofs.lemmas.Bool.{cases_lt}
 use Rattle.std.proofs.lemmas.List.Kept.{AllPairs-from_increasing}

@@ -1,12 +1,12 @@
 -- The connections of an event by the answers at it and at the next one.
-use Rattle.std.proofs.Common.{Option, Some, None, ◌≡◌, ℕ, zero, suc, ◌+◌, ◌<◌, ◌≤◌, List, [], ◌∷◌, length, map, get_or, IsSomeAnd, arith, refl, sym, subst, inl, inr}
+use Rattle.std.proofs.Common.{Option, Some, None, ◌≡◌, ℕ, ◌+◌, ◌<◌, ◌≤◌, List, [], ◌∷◌, length, map, IsSomeAnd, arith, refl, sym, subst, inl, inr}
 use Rattle.std.specs.List.{Contains}
 use Rattle.std.proofs.lemmas.Bool.{cases_lt, cases_eq}
 use Rattle.std.proofs.lemmas.List.Elements.{at_from_Contains}
 use Rattle.timetable.specs.declared.parts.Leg.{Leg}
 use Rattle.timetable.specs.declared.parts.Numbers.{Numbers}
 use Rattle.timetable.specs.Table.{Table}
-use Rattle.timetable.specs.Journeys.{Journey, Reaches, Unbeaten, foot}
+use Rattle.timetable.specs.Journeys.{Journey, Unbeaten, foot}
 use Rattle.timetable.specs.Front.{AreBest}
 use Rattle.timetable.proofs.Taken.{the_some, journey_earlier}
 use Rattle.rounds.proofs.EventLaws.{own_event}
@@ -14,7 +14,7 @@ use Rattle.pattern_query.specs.Answer.{PointData, numbers}
 use Rattle.pattern_query.specs.Questions.{Held}
 use Rattle.pattern_query.proofs.Best.{no_worse}
 use Rattle.connections.specs.Connections.{Connects}
-use Rattle.connections.specs.Found.{AreAfter, IsEventOf, IsThere, IsLastBefore, Scope}
+use Rattle.connections.specs.Found.{AreAfter, IsEventOf, IsLastBefore, Scope}
 use Rattle.connections.proofs.ConnectionFacts.{HasEvents}
 use Rattle.connections.proofs.FoundFacts.{numbers_in, point_of}
 

@@ -10,6 +10,8 @@ use Rattle.timetable.specs.Table.{Table, IsTable}
 use Rattle.timetable.specs.Journeys.{call_at, from, departs, foot, Journey, Reaches, Unbeaten}
 use Rattle.timetable.proofs.Legs.{there, stop_known_at}
 use Rattle.timetable.proofs.Taken.{the_some, journey_earlier}
+use Rattle.rounds.specs.declared.scratch.Scratch.{Scratch}
+use Rattle.rounds.specs.Scratch.{IsAlike}
 use Rattle.rounds.specs.Events.{IsEvent, AreEvents}
 use Rattle.rounds.proofs.EventLaws.{own_event}
 use Rattle.pattern_query.specs.Answer.{PointData, numbers, IsJourney}
@@ -166,3 +168,7 @@ first_set P l i x within before here k d lt = elim (cases_eq k i) [
   | inl e ↦ subst P (sym (ap (λ (k : ℕ). get_or (slice_set l i x) k d) e ∙ get_or-set_same l i x d within)) here
   | inr ne ↦ subst P (sym (get_or-set_other l i k x d ne)) (before k d (omega (arith, lt, ne)))
 ]
+
+-- one run after the other
+pub alike : (old mid new : Scratch) → IsAlike old mid → IsAlike mid new → IsAlike old new
+alike old mid new first second = record { rides = second.rides ∙ first.rides; made = λ table made. second.made table (first.made table made) }

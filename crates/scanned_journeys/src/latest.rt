@@ -6,14 +6,15 @@ ghost use Rattle.pattern_query.specs.Answer.{PointData, numbers, IsJourney};
 ghost use Rattle.timetable.specs.Journeys.{Reaches, Unbeaten};
 ghost use Rattle.timetable.specs.Table.{IsTable, stops_of};
 ghost use Rattle.rounds.specs.Events.{AreEvents};
+ghost use Rattle.rounds.specs.Scratch.{IsMadeFor, IsAlike, rides_of};
 ghost use Rattle.scanned_journeys.specs.Latest.{IsLastLike};
 
 use crate::scanning::journeys_of;
 use direct_connections::Network;
 use pattern_query::Point;
-use rounds::plain_rounds;
+use rounds::Scratch;
 use std::alloc::{AllocError, Global};
-use timetable::{LATEST_MOMENT, Rides, StopId};
+use timetable::{LATEST_MOMENT, StopId};
 
 // The one of the journeys that has the numbers of another.
 fn with_numbers(journeys: &[Point], point: &Point) -> Option<Point>
@@ -32,42 +33,48 @@ fn with_numbers(journeys: &[Point], point: &Point) -> Option<Point>
 fn like_at(
     alloc: Global,
     network: &Network,
+    scratch: &mut Scratch,
     from: StopId,
     to: StopId,
     event: u32,
-    rides: Rides,
     point: &Point,
 ) -> Result<Option<Point>, AllocError>
+    requires made { IsMadeFor scratch.old network.now }
     requires from { from < stops_of network.now }
     requires to { to < stops_of network.now }
     requires early { event ≤ LATEST_MOMENT }
+    ensures same { IsAlike scratch.old scratch.new }
     ensures found { IfOk result (λ like. IfSome like (λ q. IsJourney network.now from to event q × (numbers q ≡ numbers point.now))) }
-    ensures none { IfOk result (λ like. IfNone like (¬ Unbeaten (Reaches network.now 0 rides from to event) (numbers point.now))) }
+    ensures none { IfOk result (λ like. IfNone like
+        (¬ Unbeaten (Reaches network.now 0 (rides_of scratch.old) from to event) (numbers point.now))) }
 {
-    let rounds = plain_rounds(alloc, network.timetable(), from, event, rides)?;
-    let answer = journeys_of(alloc, network, &rounds.view(), from, to, event, rides)?;
+    let rides = scratch.rides();
+    let view = scratch.run(network.timetable(), from, event)?;
+    let answer = journeys_of(alloc, network, &view, from, to, event, rides)?;
     Ok(with_numbers(answer.points(), point))
 }
 
 /// Of the journeys with the numbers of the point one that leaves last, if they are among the best at some moment at which the point is a
 /// journey. The events are those of the stop to leave from. It runs the rounds at the first of them after each departure that it finds.
-/// It fails only if memory runs out.
+/// It fails only if memory runs out. The scratch serves any further runs.
 pub(crate) fn latest_like(
     alloc: Global,
     network: &Network,
+    scratch: &mut Scratch,
     events: &[u32],
     from: StopId,
     to: StopId,
-    rides: Rides,
     point: &Point,
 ) -> Result<Point, AllocError>
+    requires made { IsMadeFor scratch.old network.now }
     requires from { from < stops_of network.now }
     requires to { to < stops_of network.now }
     requires valid { IsTable network.now }
     requires events { AreEvents network.now from events.now }
-    ensures { IfOk result (λ last. (d : ℕ) → IsJourney network.now from to d point.now
-        → Unbeaten (Reaches network.now 0 rides from to d) (numbers point.now)
-        → IsLastLike network.now rides from to d point.now last) }
+    ensures same { IsAlike scratch.old scratch.new }
+    ensures last { IfOk result (λ last. (d : ℕ) → IsJourney network.now from to d point.now
+        → Unbeaten (Reaches network.now 0 (rides_of scratch.old) from to d) (numbers point.now)
+        → IsLastLike network.now (rides_of scratch.old) from to d point.now last) }
 {
     let mut last = point.copy();
     if point.rides() == 0 {
@@ -77,7 +84,7 @@ pub(crate) fn latest_like(
         if *event <= last.departure() {
             continue;
         }
-        let Some(later) = like_at(alloc, network, from, to, *event, rides, &last)? else {
+        let Some(later) = like_at(alloc, network, scratch, from, to, *event, &last)? else {
             return Ok(last);
         };
         last = later;

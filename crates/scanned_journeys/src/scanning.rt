@@ -14,8 +14,9 @@ use crate::latest::latest_like;
 use crate::patterns::patterns_to;
 use direct_connections::Network;
 use pattern_query::{Answer, ask};
-use rounds::{RoundView, departures, plain_rounds};
+use rounds::{RoundView, Scratch};
 use std::alloc::{AllocError, Global};
+use std::sync::Arc;
 use timetable::{LATEST_MOMENT, Rides, StopId};
 
 /// The best journeys from a stop to a stop at a moment of at most `LATEST_MOMENT`, as `scan_journeys` has them. They come from rounds of at
@@ -44,8 +45,8 @@ pub fn journeys_of(
 /// later.
 ///
 /// The rounds find the numbers (RAPTOR), and the pattern of a journey that has them; along each such pattern the earliest rides are
-/// taken (Transfer Patterns). It looks at each instance once for each number of rides. For each journey it runs the rounds once more at the
-/// first event after its departure, and again if one can leave then. It fails only where memory runs out.
+/// taken (Transfer Patterns). For each journey with a ride it runs the rounds once more at the first event after its departure, and again
+/// if one can leave then. All runs are of one scratch. It fails only where memory runs out.
 pub fn scan_journeys(
     alloc: Global,
     network: &Network,
@@ -61,12 +62,15 @@ pub fn scan_journeys(
     ensures best { IfOk result (λ answer. AreFront network.now rides from to depart (map numbers answer)) }
     ensures latest { IfOk result (λ answer. All (IsLatest (Reaches network.now 0 rides from to)) answer) }
 {
-    let rounds = plain_rounds(alloc, network.timetable(), from, depart, rides)?;
-    let mut answer = journeys_of(alloc, network, &rounds.view(), from, to, depart, rides)?;
-    let events = departures(alloc, network.timetable(), network.lines(), from)?;
+    let table = network.timetable();
+    let lines = Arc::try_clone(network.shared_lines())?;
+    let mut scratch = Scratch::over(alloc, table, lines, rides)?;
+    let view = scratch.run(table, from, depart)?;
+    let mut answer = journeys_of(alloc, network, &view, from, to, depart, rides)?;
+    let events = scratch.departures(alloc, table, from)?;
     for index in 0..answer.points().len() {
         let point = &answer.points()[index];
-        let last = latest_like(alloc, network, &events, from, to, rides, point)?;
+        let last = latest_like(alloc, network, &mut scratch, &events, from, to, point)?;
         answer.put(index, last);
     }
     Ok(answer)

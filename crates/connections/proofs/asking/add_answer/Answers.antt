@@ -1,9 +1,9 @@
-use Rattle.std.proofs.Common.{◌≡◌, ℕ, ◌+◌, ◌≤◌, List, Option, map, subst}
-use Rattle.pattern_query.specs.Answer.{PointData, numbers}
+use Rattle.std.proofs.Common.{◌≡◌, ℕ, List, subst}
+use Rattle.pattern_query.specs.Answer.{PointData}
 use Rattle.pattern_query.specs.Questions.{Held, IsAskedPoint}
 use Rattle.pattern_query.specs.Leaving.{LeavesLast}
 use Rattle.connections.specs.declared.connection.Connection.{Connection}
-use Rattle.connections.specs.Found.{AddsSome, AreAfter, IsScope, IsLastBefore, Scope, points_in}
+use Rattle.connections.specs.Found.{AddsSome, IsLastBefore, Scope, points_in}
 use Rattle.connections.proofs.FoundFacts.{found_more, more_hold}
 use Rattle.connections.proofs.TreeFacts.{connects_last, last_connects}
 use Rattle.connections.proofs.asking.add_answer.Goals as goal

@@ -1,4 +1,4 @@
-use Rattle.std.proofs.Common.{◌≡◌, ℕ, ◌+◌, ◌<◌, ◌≤◌, length, get_or, arith, le_refl}
+use Rattle.std.proofs.Common.{◌+◌, get_or, arith, le_refl}
 use Rattle.pattern_query.specs.Questions.{Held}
 use Rattle.connections.specs.Found.{IsEventOf, Scope}
 use Rattle.connections.proofs.EventFacts.{between_moments, after_moments, rising_le}

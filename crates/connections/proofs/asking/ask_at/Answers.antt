@@ -1,11 +1,11 @@
-use Rattle.std.proofs.Common.{Option, Some, None, ◌≡◌, ℕ, ◌<◌, ◌≤◌, List, length, map, take, get_or, All, IsSomeAnd, sym, ◌∙◌, subst}
+use Rattle.std.proofs.Common.{Option, Some, None, ◌≡◌, ℕ, List, map, take, All, IsSomeAnd, sym, subst}
 use Rattle.std.proofs.lemmas.List.{take_all}
 use Rattle.timetable.specs.declared.parts.Numbers.{Numbers}
 use Rattle.timetable.specs.Front.{AreBest}
 use Rattle.timetable.specs.Table.{Table}
 use Rattle.pattern_tree.specs.Content.{Content}
 use Rattle.pattern_query.specs.Answer.{numbers}
-use Rattle.pattern_query.specs.Gathered.{AddsAsked, IsTo}
+use Rattle.pattern_query.specs.Gathered.{AddsAsked}
 use Rattle.pattern_query.specs.Questions.{AskedReaches, Held, IsAsked, IsAskedPoint, IsStored}
 use Rattle.pattern_query.proofs.AnswerSteps.{best_are, exact_are, points_are}
 use Rattle.pattern_query.proofs.GatherSteps.{source_more}

@@ -1,4 +1,4 @@
-use Rattle.std.proofs.Common.{ℕ, ◌+◌, ◌-◌, ◌≤◌}
+use Rattle.std.proofs.Common.{◌+◌, ◌-◌, ◌≤◌}
 use Rattle.std.specs.List.{All}
 use Rattle.timetable.specs.Journeys.{Reaches}
 use Rattle.pattern_query.specs.Answer.{IsJourney}

@@ -1,9 +1,9 @@
-use Rattle.std.proofs.Common.{ℕ, ◌<◌, ◌≤◌, length, get_or, arith, rules, eq-or-lt_of_le, leb, inl, inr, refl, subst}
+use Rattle.std.proofs.Common.{ℕ, ◌≤◌, get_or, arith, rules, eq-or-lt_of_le, leb, inl, inr, subst}
 use Rattle.std.specs.List.Sorted.{IsStrictlyIncreasing, IsNonDecreasingBy}
 use Rattle.std.proofs.lemmas.Bool.{leb-true, leb-false}
 use Rattle.std.proofs.lemmas.List.Kept.{AllPairs-from_increasing}
 use Rattle.std.proofs.lemmas.List.Sorted.{IsPartitionedBy-leb, IsPartitionPoint-from_clause}
-use Rattle.std.proofs.Common.{List, ◌≡◌, le_refl}
+use Rattle.std.proofs.Common.{List, le_refl}
 use Rattle.connections.proofs.moments.count_up_to.Goals as goal
 
 never_falls : (xs : List ℕ) → IsStrictlyIncreasing xs → IsNonDecreasingBy (λ x. x) xs

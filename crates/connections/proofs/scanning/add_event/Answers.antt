@@ -1,14 +1,13 @@
-use Rattle.std.proofs.Common.{◌≡◌, ℕ, ◌+◌, ◌<◌, ◌≤◌, List, Option, length, map, get_or, true≢false, arith, sym, ◌∙◌, subst, inl, inr}
+use Rattle.std.proofs.Common.{ℕ, ◌<◌, ◌≤◌, List, length, map, get_or, true≢false, arith, sym, ◌∙◌, subst}
 use Rattle.std.proofs.lemmas.Result.{on_ok_weaker}
 use Rattle.std.proofs.lemmas.List.Elements.{Contains-get_or}
 use Rattle.timetable.specs.Table.{Table}
 use Rattle.timetable.specs.Front.{AreFront}
 use Rattle.timetable.specs.Journeys.{Reaches}
 use Rattle.rounds.specs.Answers.{AreRounds}
-use Rattle.rounds.specs.Scratch.{rides_of, rounds_of, before_of, source_of, kept_of}
+use Rattle.rounds.specs.Scratch.{rides_of, rounds_of, before_of, kept_of}
 use Rattle.pattern_query.specs.Answer.{PointData, numbers, IsJourney}
-use Rattle.connections.specs.declared.connection.Connection.{Connection}
-use Rattle.connections.specs.Found.{AddsSome, IsLowered, IsLoweredWithin, leaving}
+use Rattle.connections.specs.Found.{AddsSome, IsLowered, IsLoweredWithin}
 use Rattle.connections.proofs.EventFacts.{event_early}
 use Rattle.connections.proofs.FoundFacts.{more_hold, numbers_in, found_more, found_no_more, lowered_connects, connects_lowered, none_lowered}
 use Rattle.connections.proofs.scanning.add_event.Goals as goal

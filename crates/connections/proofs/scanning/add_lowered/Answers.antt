@@ -1,4 +1,4 @@
-use Rattle.std.proofs.Common.{◌≡◌, ℕ, ◌+◌, ◌<◌, ◌≤◌, List, [], ◌∷◌, ◌++◌, length, get_or, Vec, Global, true≢false, arith, sym, ◌∙◌, ap, subst}
+use Rattle.std.proofs.Common.{◌≡◌, ℕ, ◌+◌, ◌≤◌, List, [], ◌∷◌, ◌++◌, get_or, Vec, Global, true≢false, arith, sym, ◌∙◌, ap, subst}
 use Rattle.timetable.specs.Front.{IsSooner}
 use Rattle.rounds.specs.Mark.{arrival_in, moment_in}
 use Rattle.rounds.specs.Scratch.{rounds_of, before_of}

@@ -1,9 +1,4 @@
-use Rattle.std.proofs.Common.{◌≡◌, ℕ, ◌<◌, ◌≤◌, ◌⊎◌, length, get_or}
-use Rattle.std.specs.List.{AllPairs, Contains}
-use Rattle.pattern_query.specs.Answer.{PointData}
 use Rattle.rounds.specs.Scratch.{rounds_of, before_of}
-use Rattle.connections.specs.declared.connection.Connection.{Connection}
-use Rattle.connections.specs.Connections.{IsBefore}
 use Rattle.connections.specs.Found.{IsLowered}
 use Rattle.connections.proofs.AddedFacts.{AddsSoFar}
 use Rattle.connections.proofs.scanning.add_lowered.Given as goal

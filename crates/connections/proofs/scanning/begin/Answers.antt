@@ -1,12 +1,8 @@
-use Rattle.std.proofs.Common.{Option, ◌≡◌, ℕ, ◌<◌, ◌≤◌, List, length, get_or, arith, refl, sym, ◌∙◌, ap, subst, le_refl}
-use Rattle.std.proofs.lemmas.Bool.{cases_lt}
-use Rattle.std.proofs.lemmas.List.Elements.{at_from_Contains}
-use Rattle.timetable.specs.Table.{Table, stops_of}
-use Rattle.rounds.specs.Events.{IsEvent, AreEvents}
+use Rattle.std.proofs.Common.{ℕ, get_or, arith, subst, le_refl}
+use Rattle.timetable.specs.Table.{Table}
+use Rattle.rounds.specs.Events.{IsEvent}
 use Rattle.rounds.specs.Answers.{AreRounds}
-use Rattle.rounds.specs.Mark.{Mark}
 use Rattle.rounds.specs.Scratch.{rides_of, source_of, kept_of}
-use Rattle.connections.specs.Found.{LiesAt, AreLeastAt}
 use Rattle.connections.proofs.ConnectionFacts.{shifted, none_later, least_of}
 use Rattle.connections.proofs.EventFacts.{event_early, moment_is, moments_are, between_moments, after_moments, rising_le}
 use Rattle.connections.proofs.scanning.begin.Goals as goal

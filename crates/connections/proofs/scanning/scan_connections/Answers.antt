@@ -8,7 +8,7 @@ use Rattle.std.proofs.lemmas.List.{get_or_default}
 use Rattle.timetable.specs.Table.{Table}
 use Rattle.rounds.specs.Events.{IsEvent, AreEvents}
 use Rattle.rounds.specs.Answers.{AreRounds}
-use Rattle.rounds.specs.Scratch.{MayGoOn, rides_of, source_of, kept_of}
+use Rattle.rounds.specs.Scratch.{MayGoOn, rides_of, kept_of}
 use Rattle.connections.specs.declared.connection.Connection.{Connection}
 use Rattle.connections.specs.Found.{AreFound, AreLeastAt, AreMoments, IsBy, LiesAt, SplitsAt, between}
 use Rattle.connections.proofs.LeaveFacts.{scanned_then}

@@ -1,21 +1,36 @@
-use Rattle.std.proofs.Common.{◌≡◌, ◌<◌, List, Option, length, map, get_or, Contains, arith, ap, subst, sym, ◌∙◌}
+use Rattle.std.proofs.Common.{ℕ, refl, ◌≡◌, ◌<◌, List, length, map, get_or, Contains, arith, ap, subst, sym, ◌∙◌}
 use Rattle.std.proofs.lemmas.List.{get_or_default, length-map}
 use Rattle.std.proofs.lemmas.List.Elements.{All-set, Contains-get_or}
 use Rattle.timetable.specs.declared.parts.Numbers.{Numbers}
-use Rattle.timetable.specs.Journeys.{Reaches}
+use Rattle.timetable.specs.Journeys.{Reaches, Unbeaten}
 use Rattle.pattern_query.specs.Answer.{PointData, numbers, IsJourney}
 use Rattle.pattern_query.specs.Leaving.{IsLatest}
 use Rattle.pattern_query.proofs.Best.{numbers_in}
 use Rattle.scanned_journeys.proofs.LatestFacts.{numbers_set, first_set}
 use Rattle.timetable.specs.Table.{Table}
-use Rattle.rounds.specs.Mark.{Mark}
 use Rattle.rounds.specs.Answers.{AreRounds}
+use Rattle.rounds.specs.Scratch.{IsMadeFor, rides_of, rounds_of}
+use Rattle.scanned_journeys.specs.Latest.{IsLastLike}
 use Rattle.scanned_journeys.proofs.scanning.scan_journeys.Goals as goal
 
 pub journeys_of-requires-clause-rounds : goal.journeys_of-requires-clause-rounds
 journeys_of-requires-clause-rounds c =
-    subst (λ (r : List (List (Option Mark))). AreRounds c.args.network.now c.args.from c.args.depart c.args.rides r) (sym c.view.ensures)
-    (subst (λ (t : Table). AreRounds t c.args.from c.args.depart c.args.rides c.in_ok-rounds.rounds) c.timetable.ensures.value c.in_ok-rounds.ensures)
+    let view = rounds_of c.in_ok-view.view in
+    subst (λ (k : ℕ). AreRounds c.args.network.now c.args.from c.args.depart k view) c.in_ok-scratch.ensures.rides
+    (subst (λ (t : Table). AreRounds t c.args.from c.args.depart (rides_of c.in_ok-scratch.scratch) view) c.timetable-table.ensures.value c.in_ok-view.ensures.right)
+
+pub loop-index-init : goal.loop-index-init
+loop-index-init c =
+    let same = c.run.follows.holds-at-none in
+    let made : IsMadeFor c.in_ok-scratch.scratch c.args.network.now =
+    subst (λ (t : Table). IsMadeFor c.in_ok-scratch.scratch t) c.timetable-table.ensures.value c.in_ok-scratch.ensures.table in
+    record {
+      made = same.made c.args.network.now made;
+      rides = same.rides ∙ c.in_ok-scratch.ensures.rides;
+      journeys = c.in_ok-answer.ensures.journeys;
+      alike = refl;
+      latest = λ i p lt. absurd (omega (arith, lt));
+    }
 
 pub loop-index-preserved : goal.loop-index-preserved
 loop-index-preserved c =
@@ -35,10 +50,15 @@ loop-index-preserved c =
     let in' : Contains (map numbers start) (numbers p) =
     subst (λ (ns : List Numbers). Contains ns (numbers p)) inv.alike
     (numbers_in l p (subst (λ (q : PointData). Contains l q) here (Contains-get_or l i p within))) in
-    let last = c.in_ok-last.ensures c.args.depart is (c.in_ok-answer.ensures.best.each (numbers p) in') in
+    let k = rides_of c.loop-index.scratch in
+    let best = subst (λ (k : ℕ). Unbeaten (Reaches T 0 k c.args.from c.args.to c.args.depart) (numbers p)) (sym inv.rides) (c.in_ok-answer.ensures.best.each (numbers p) in') in
+    let last = subst (λ (k : ℕ). IsLastLike T k c.args.from c.args.to c.args.depart p x) inv.rides (c.in_ok-last.ensures.last c.args.depart is best) in
     let alike : numbers x ≡ numbers (get_or l i x) =
     last.alike ∙ ap numbers (sym here ∙ get_or_default l i p x within) in
+    let same = c.latest_like.ensures.same in
     rw c.put.ensures record {
+      made = same.made T inv.made;
+      rides = same.rides ∙ inv.rides;
       journeys = All-set (IsJourney T c.args.from c.args.to c.args.depart) l i x last.is inv.journeys;
       alike = numbers_set l i x within alike ∙ inv.alike;
       latest = first_set (IsLatest (Reaches T 0 c.args.rides c.args.from c.args.to)) l i x within (λ k d lt. inv.latest k d lt) last.latest;
