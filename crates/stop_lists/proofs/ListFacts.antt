@@ -1,5 +1,5 @@
 -- Lists that are filtered, and bytes that are read up to a limit.
-use Rattle.std.proofs.Common.{◌≡◌, ◌∙◌, ℕ, ◌+◌, ◌<◌, ◌≤◌, Bool, true, false, cond, List, [], ◌∷◌, ◌++◌, map, filter, length, take, Option, None, Some, IfSome, option_map, arith, refl, sym, ap, subst}
+use Rattle.std.proofs.Common.{◌≡◌, ◌∙◌, ℕ, ◌+◌, ◌≤◌, Bool, true, false, cond, List, [], ◌∷◌, ◌++◌, map, filter, length, take, Option, None, Some, IfSome, option_map, arith, refl, ap, subst}
 use Rattle.std.proofs.lemmas.List.{length-take, take_all}
 use Rattle.stop_lists.specs.Lists.{IsContent}
 use Rattle.stop_lists.specs.declared.reading.TheConstants.{LONGEST}

@@ -1,7 +1,7 @@
 -- Which ids a file lists: one on each line.
 -- A line ends at a line feed, with which a carriage return before it goes; the last one may lack its line feed, as of `str::lines`. A byte
 -- order mark at the front is no part of the text (Unicode Standard, section 23.8).
-use Rattle.std.specs.Prelude.{◌≡◌, ◌==◌, ◌<◌, ◌≤◌, ℕ, not, List, filter, length, Option, Some, Result, IfSome}
+use Rattle.std.specs.Prelude.{◌≡◌, ◌==◌, ◌<◌, ◌≤◌, ℕ, not, List, filter, length}
 use Rattle.std.specs.Str.{IsUtf8}
 use Rattle.std.specs.Str.Lines.{lines}
 use Rattle.csv.specs.Reading.{strip_bom}

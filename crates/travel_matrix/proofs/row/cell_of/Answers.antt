@@ -1,4 +1,4 @@
-use Rattle.std.proofs.Common.{◌≢◌, ◌≤◌, rules, arith}
+use Rattle.std.proofs.Common.{◌≢◌, rules, arith}
 use Rattle.travel_matrix.proofs.CellFacts.{none_at}
 use Rattle.travel_matrix.proofs.row.cell_of.Goals as goal
 
