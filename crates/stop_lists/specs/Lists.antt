@@ -13,15 +13,15 @@ use Rattle.stop_lists.specs.declared.reading.TheConstants.{LONGEST}
 abbrev pub ids_in : List ℕ → List (List ℕ)
 ids_in bytes = filter (λ line. not (length line == 0)) (lines (strip_bom bytes))
 
--- these are all bytes of a file, which isn't too large
+-- a file of these bytes is a text, and isn't too large
+pub record IsList (bytes : List ℕ) : Type 0 where
+  pub small : length bytes ≤ LONGEST
+  pub text : IsUtf8 (strip_bom bytes)
+
+-- these are all bytes of a file, which is such a one
 pub record IsContent (bytes content : List ℕ) : Type 0 where
   pub same : content ≡ bytes
-  pub small : length bytes ≤ LONGEST
-
--- a file of these bytes is a text, and lists these ids
-pub record AreIds (bytes : List ℕ) (ids : List (List ℕ)) : Type 0 where
-  pub text : IsUtf8 (strip_bom bytes)
-  pub are : ids ≡ ids_in bytes
+  pub list : IsList bytes
 
 -- why a file of these bytes isn't read; reads may fail at any time, and so may memory
 abbrev pub Explains : List ℕ → ListFault → Type 0

@@ -1,9 +1,10 @@
 //! The ids that a file lists.
 
-ghost use Rattle.std.specs.Prelude.{◌≡◌, ◌==◌, not, IfErr, IfOk, filter, length, map};
+ghost use Rattle.std.specs.Prelude.{◌≡◌, ◌==◌, not, IfErr, IfOk, MatchBool, filter, length, map};
+ghost use Rattle.std.specs.Str.{IsUtf8};
 ghost use Rattle.std.specs.Str.Lines.{lines};
 ghost use Rattle.csv.specs.Reading.{strip_bom};
-ghost use Rattle.stop_lists.specs.Lists.{AreIds, Explains};
+ghost use Rattle.stop_lists.specs.Lists.{Explains, ids_in};
 
 use crate::fault::ListFault;
 use std::alloc::{AllocError, Global};
@@ -37,10 +38,20 @@ fn drop_empty(all: &mut Vec<&str>)
     all.retain(|line| !line.is_empty());
 }
 
-/// The ids that a file of these bytes lists, in their order, each as often as it stands there. It fails if the bytes aren't UTF-8, or if
-/// memory runs out.
+/// Whether bytes are UTF-8 after a byte order mark at the front.
+pub(crate) fn is_text(bytes: &[u8]) -> bool
+    ensures { MatchBool result (IsUtf8 (strip_bom bytes.now)) (¬ IsUtf8 (strip_bom bytes.now)) }
+{
+    match str::from_utf8(after_mark(bytes)) {
+        Ok(_) => true,
+        Err(_) => false,
+    }
+}
+
+/// The ids that a file of these bytes lists, in their order, each as often as it stands there. It fails if the bytes aren't UTF-8, as
+/// `read_list` sees that they are, or if memory runs out.
 pub fn ids_of(alloc: Global, bytes: &[u8]) -> Result<Vec<&str>, ListFault>
-    ensures ids { IfOk result (λ ids. AreIds bytes.now (map (λ id. id.now) ids.items)) }
+    ensures ids { IfOk result (λ ids. map (λ id. id.now) ids.items ≡ ids_in bytes.now) }
     ensures fault { IfErr result (Explains bytes.now) }
 {
     let Ok(text) = str::from_utf8(after_mark(bytes)) else {

@@ -4,14 +4,15 @@ ghost use Rattle.std.specs.Prelude.{◌≡◌, IfErr, IfOk, IfSome};
 ghost use Rattle.stop_lists.specs.Lists.{Explains, IsContent};
 
 use crate::fault::ListFault;
+use crate::ids::is_text;
 use std::alloc::Global;
 use std::io::{ErrorKind, Read};
 
 /// The most bytes that a file of stops may have: 64 MiB.
 pub const LONGEST: usize = 67_108_864;
 
-/// The bytes of a file of stops. It fails if the reader does, if there are more than `LONGEST` bytes, of which no more are read, or if
-/// memory runs out.
+/// The bytes of a file of stops. It fails if the reader does, if there are more than `LONGEST` bytes, of which no more are read, if they
+/// aren't UTF-8 after a byte order mark, or if memory runs out.
 pub fn read_list<R: Read + Drop>(alloc: Global, reader: R) -> Result<Vec<u8>, ListFault>
     ensures content { IfSome (R.remaining reader) (λ bytes. IfOk result (λ list. IsContent bytes list.items)) }
     ensures fault { IfSome (R.remaining reader) (λ bytes. IfErr result (Explains bytes)) }
@@ -26,6 +27,9 @@ pub fn read_list<R: Read + Drop>(alloc: Global, reader: R) -> Result<Vec<u8>, Li
     }
     if list.len() > LONGEST {
         return Err(ListFault::TooLarge);
+    }
+    if !is_text(&list) {
+        return Err(ListFault::BadText);
     }
     Ok(list)
 }

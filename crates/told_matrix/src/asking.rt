@@ -1,6 +1,6 @@
 //! What a table is asked for.
 
-ghost use Rattle.std.specs.Prelude.{◌<◌, IfErr, IfOk};
+ghost use Rattle.std.specs.Prelude.{◌≡◌, ◌<◌, IfErr, IfOk};
 ghost use Rattle.std.specs.List.{All};
 ghost use Rattle.timetable.specs.Table.{stops_of};
 ghost use Rattle.told_matrix.specs.Asked.{AreStops, IsMatrix, IsNoMatrix, IsUnknownIn};
@@ -21,6 +21,28 @@ pub struct Asked<'i, 'a> {
     pub goals: &'i [&'a str],
     pub first: Option<u32>,
     pub last: Option<u32>,
+}
+
+impl<'i, 'a> Asked<'i, 'a> {
+    /// What is asked for by these ids and these moments.
+    pub fn new(
+        origins: &'i [&'a str],
+        goals: &'i [&'a str],
+        first: Option<u32>,
+        last: Option<u32>,
+    ) -> Asked<'i, 'a>
+        ensures origins { result.origins.now ≡ origins.now }
+        ensures goals { result.goals.now ≡ goals.now }
+        ensures first { result.first ≡ first }
+        ensures last { result.last ≡ last }
+    {
+        Asked {
+            origins,
+            goals,
+            first,
+            last,
+        }
+    }
 }
 
 /// The stops of a table, and its window.
