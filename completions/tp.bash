@@ -14,7 +14,7 @@ _tp() {
             mapfile -t COMPREPLY < <(compgen -d -- "$word")
             return
             ;;
-        --store)
+        --store | --from-file | --to-file)
             compopt -o filenames
             mapfile -t COMPREPLY < <(compgen -f -- "$word")
             return
@@ -37,12 +37,16 @@ _tp() {
         --date | --on | --from | --at | --until | --until-on | --next | --within | --zone | --default-walk | --workers | --part) return ;;
         *)
             case $command in
-                "") choices="check stops direct scan reach build list ask serve audit migrate merge faults help --help --version" ;;
+                "") choices="check stops direct scan reach matrix build list ask serve audit migrate merge faults help --help --version" ;;
                 check) choices="--feed --date --all --format --help" ;;
                 stops) choices="--feed --all --header --format --help" ;;
                 direct) choices="--feed --date --from --to --at --format --days --zone --rides --default-walk --help" ;;
                 reach)
                     choices="--feed --date --from --at --on --until --until-on --within --format"
+                    choices+=" --days --zone --rides --default-walk --help"
+                    ;;
+                matrix)
+                    choices="--feed --date --from-file --to-file --at --on --until --until-on --workers --progress"
                     choices+=" --days --zone --rides --default-walk --help"
                     ;;
                 scan)
@@ -70,7 +74,7 @@ _tp() {
                     fi
                     choices="--feed --date --store --progress --days --zone --rides --default-walk --help"
                     ;;
-                help) choices="check stops direct scan reach build list ask serve audit migrate merge faults help" ;;
+                help) choices="check stops direct scan reach matrix build list ask serve audit migrate merge faults help" ;;
             esac
             ;;
     esac

@@ -1,4 +1,4 @@
-//! How far a build is, on standard error.
+//! How far a build or a table is, on standard error.
 #![tactic(auto)]
 
 mod meter;

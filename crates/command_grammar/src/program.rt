@@ -5,7 +5,7 @@ ghost use Rattle.clap.specs.Words.{App, Rule, app_of, fault_of, new_app, rule_of
 ghost use Rattle.clap.specs.Words.{with_subcommand, FailsBy};
 ghost use Rattle.clap.specs.declared.builder.command.Command.TheViews.{out-Command as fields_of};
 ghost use Rattle.command_grammar.specs.CommandLine.{ask_app, audit_app, build_app, building_app, check_app, faults_app, journey_app};
-ghost use Rattle.command_grammar.specs.CommandLine.{list_app, merge_app, migrate_app, needs_subcommand, program_app, ranged_rule, reach_app};
+ghost use Rattle.command_grammar.specs.CommandLine.{list_app, matrix_app, merge_app, migrate_app, needs_subcommand, program_app, ranged_rule, reach_app};
 ghost use Rattle.command_grammar.specs.CommandLine.{scan_app, serve_app, stops_app, store_app, tells_version, text_rule, texts_rule};
 ghost use Rattle.command_grammar.specs.CommandLine.{until_app, window_app};
 ghost use Rattle.command_grammar.specs.Made.{IsMade, IsProgram};
@@ -13,11 +13,12 @@ ghost use Rattle.command_grammar.specs.Made.{IsMade, IsProgram};
 use crate::texts::{
     ABOUT, ALL, ASK, ASK_MORE, ASK_USAGE, AT, AUDIT, AUDIT_ALL, AUDIT_MORE, AUDIT_PROGRESS,
     AUDIT_USAGE, AUDITED, AUDITORS, BUILD, BUILD_MORE, CHECK, CHECK_ALL, CHECK_MORE, DIRECT,
-    DIRECT_MORE, FAULT_TABLE, FAULTS, FEED, FORMAT, FROM, HEADER, LEGS, LIST, LIST_MORE, MERGE,
-    MERGE_MORE, MERGE_PROGRESS, MERGED_STORE, MIGRATE, MIGRATE_MORE, MIGRATE_PROGRESS, MORE, NAMES,
-    NEW_STORE, NEXT, OLD_STORE, ON, PART, PART_FILES, PLAIN_FORMAT, PROGRESS, REACH, REACH_FORMAT,
-    REACH_FROM, REACH_MORE, REACH_UNTIL, SCAN, SCAN_MORE, SERVE, SERVE_MORE, STOPS, STOPS_MORE,
-    STORE, TEXT, TO, UNTIL, UNTIL_ON, VERSION, WEEK, WITHIN, WORKERS,
+    DIRECT_MORE, FAULT_TABLE, FAULTS, FEED, FORMAT, FROM, FROM_FILE, HEADER, LEGS, LIST, LIST_MORE,
+    MATRIX, MATRIX_MORE, MATRIX_PROGRESS, MATRIX_UNTIL, MERGE, MERGE_MORE, MERGE_PROGRESS,
+    MERGED_STORE, MIGRATE, MIGRATE_MORE, MIGRATE_PROGRESS, MORE, NAMES, NEW_STORE, NEXT, OLD_STORE,
+    ON, PART, PART_FILES, PLAIN_FORMAT, PROGRESS, REACH, REACH_FORMAT, REACH_FROM, REACH_MORE,
+    REACH_UNTIL, ROW_WORKERS, SCAN, SCAN_MORE, SERVE, SERVE_MORE, STOPS, STOPS_MORE, STORE, TEXT,
+    TO, TO_FILE, UNTIL, UNTIL_ON, VERSION, WEEK, WITHIN, WORKERS,
 };
 use clap::builder::ValueParser;
 use clap::{Arg, ArgMatches, Command, Error};
@@ -147,6 +148,24 @@ fn reach<'a>(alloc: Global) -> Result<Command<'a>, Error>
     );
     let command = with(command, optional(alloc, "format", "FORMAT", REACH_FORMAT));
     ending(command, REACH_MORE)
+}
+
+// The command that prints travel times between the stops of two files.
+fn matrix<'a>(alloc: Global) -> Result<Command<'a>, Error>
+    ensures { IsMade matrix_app result }
+{
+    let command = common(alloc, "matrix", MATRIX);
+    let command = with(command, required(alloc, "from-file", "FILE", FROM_FILE));
+    let command = with(command, required(alloc, "to-file", "FILE", TO_FILE));
+    let command = with(command, required(alloc, "at", "HH:MM:SS", AT));
+    let command = with(command, optional(alloc, "on", "YYYYMMDD", ON));
+    let command = until(alloc, command, MATRIX_UNTIL);
+    let command = with(
+        command,
+        number(alloc, "workers", "N", "2", 1, 64, ROW_WORKERS),
+    );
+    let command = with(command, flag(alloc, "progress", MATRIX_PROGRESS));
+    ending(command, MATRIX_MORE)
 }
 
 // A command over the file of a store, and the text below its options.
@@ -311,6 +330,7 @@ fn program<'a>(alloc: Global) -> Result<Command<'a>, Error>
     let program = with_command(program, journey(alloc, "direct", DIRECT, DIRECT_MORE));
     let program = with_command(program, scan(alloc));
     let program = with_command(program, reach(alloc));
+    let program = with_command(program, matrix(alloc));
     let program = with_command(program, build(alloc));
     let program = with_command(program, list(alloc));
     let program = with_command(program, ask(alloc));

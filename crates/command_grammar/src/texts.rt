@@ -8,7 +8,7 @@ pub(crate) const MORE: &str = "\
 Example: tp scan --feed demo/feed-m --date 20240102 --from A --to D --at 08:00:00
 
 An answer is lines of ids. With --names, scan and ask print rides and walks with names, for people.
-With --format json, all commands but audit, migrate and merge print JSON. With --format geojson, stops,
+With --format json, all commands but matrix, audit, migrate and merge print JSON. With --format geojson, stops,
 scan, reach, build, list, ask and serve print GeoJSON for a map. With --format csv, reach prints a table.
 
 A fault is a line on standard error. `tp help faults` lists the faults and the statuses.";
@@ -19,7 +19,7 @@ pub(crate) const FAULTS: &str = "Lists the faults that tp reports, and its statu
 pub const FAULT_TABLE: &str = "\
 A fault is a line on standard error: its code and its name, and for a fault of the feed the file and
 the row. Row 0 is the header or the whole file. For a file of migrate, old or new stands before the
-code, and for a part of merge its name stands at the end. The faults are:
+code, and for a part of merge or a file of stops its name stands at the end. The faults are:
   F1 MissingFile       DIR lacks the file: unpack a zipped feed first
   F2 MissingColumn     the header lacks a column that the file must have
   F3 BadField          the row has a text that its column doesn't take
@@ -50,12 +50,15 @@ code, and for a part of merge its name stands at the end. The faults are:
   Q1 UnknownStop       no stop has that stop_id; only ask and serve take a station's as well
   Q2 NotCovered        the time isn't within the covered days
   Q3 NotStored         FILE lacks the tree of the stop: build with the same options first
+  L1 ReadFailed        the FILE of stops can't be read
+  L2 BadText           the FILE of stops isn't UTF-8
+  L3 TooLarge          the FILE of stops is larger than 67,108,864 bytes
 
 Statuses: 0 done, 1 the feed or its days are at fault, or there is no randomness, 2 the command-line
 arguments are at fault, 3 the build left out stops whose trees would be too large, or had no memory
 for them, or no part of a merge has them, 4 the store is at fault, 5 an audit found a difference, 6
-the question is at fault (an unknown stop, a day that isn't covered, a tree that isn't stored), 7 out
-of memory, 8 standard output refused a write.";
+the question is at fault (an unknown stop, a day that isn't covered, a tree that isn't stored, a file
+of stops that isn't read), 7 out of memory, 8 standard output refused a write.";
 
 pub(crate) const CHECK: &str = "Prints what a feed has, or its first fault, or all its faults";
 
@@ -113,6 +116,32 @@ leave: `ID least S median S greatest S`, in seconds, in the order of stops.txt. 
 doesn't get there at half of the seconds, or at each of them. A stop is within a time if its least is.
 
 Example: tp reach --feed demo/feed-m --date 20240102 --from A --at 08:00:00 --within 30";
+
+pub(crate) const MATRIX: &str =
+    "A table of the travel times from many stops to many stops by walks and at most K rides";
+
+pub(crate) const MATRIX_MORE: &str = "\
+Each file lists stops: an id on each line. It prints CSV: a line for each stop to leave from and each
+stop to go to, in the order of the files, with how long one is on the way who leaves from --at until
+--until, over all seconds: the least, the median and the greatest number of seconds. A number is empty
+if one doesn't get there at any second, at half of them, or at each of them. Without --until they are
+those of the one second --at. The ids are tested before the first line is printed.
+
+Example: tp matrix --feed demo/feed-m --date 20240102 --from-file a.txt --to-file b.txt --at 08:00:00
+             --until 09:00:00";
+
+pub(crate) const FROM_FILE: &str = "The file of the stops to leave from, an id on each line";
+
+pub(crate) const TO_FILE: &str = "The file of the stops to go to, an id on each line";
+
+pub(crate) const MATRIX_UNTIL: &str =
+    "The last time of the day to leave at; it is --at if not given";
+
+pub(crate) const ROW_WORKERS: &str =
+    "How many stops to leave from are worked out in parallel, each in a thread of its own, 1 to 64";
+
+pub(crate) const MATRIX_PROGRESS: &str =
+    "Report how far the table is, even if standard error is no terminal";
 
 pub(crate) const REACH_UNTIL: &str =
     "Print how long one is on the way who leaves from --at until this time of the day";

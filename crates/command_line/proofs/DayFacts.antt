@@ -17,8 +17,9 @@ some_day = record { year = pos 1970; month = 1; day = 1; year_in = search rules;
 abbrev pub asked_on : Places → Date → Question
 asked_on places day = record { from = places.from; to = places.to; day = day; seconds = 0; within = None }
 
-pub has_places : (goal : Text) (rows : List Row) (places : Places) (day : Date) → ArePlaces goal rows places → HasPlaces goal rows (asked_on places day)
-has_places goal rows places day are =
+pub has_places : (start goal : Text) (rows : List Row) (places : Places) (day : Date) → ArePlaces start goal rows places
+    → HasPlaces start goal rows (asked_on places day)
+has_places start goal rows places day are =
     record { from = are.from; to = are.to; at = (places.at.now, are.at); next = (places.next, are.next); until = are.until }
 
 -- a day that an option names is the one that is read of its text

@@ -26,16 +26,16 @@ module _ {X Y : Type 0} (IsPart : X → Type 0) (asked : X → Option Question) 
   of_part faults.BadUntil bad = (whole bad.0, of bad.0 bad.1, asks_too bad.0 bad.2, bad.3)
 
 -- the words of these texts give what `whole` makes of their question, whatever its day and time
-pub of_question : {Y : Type 0} (Is : Y → Type 0) (asks : Y → Option Question) (whole : Question → Y) (goal : Text) (rows : List Row)
-    (first : Option Date) (places : Places) → ArePlaces goal rows places → ((question : Question) → HasPlaces goal rows question → Is (whole question))
+pub of_question : {Y : Type 0} (Is : Y → Type 0) (asks : Y → Option Question) (whole : Question → Y) (start goal : Text) (rows : List Row)
+    (first : Option Date) (places : Places) → ArePlaces start goal rows places → ((question : Question) → HasPlaces start goal rows question → Is (whole question))
     → ((question : Question) → asks (whole question) ≡ Some question) → (fault : WordFault) → LacksTimes rows first fault
     → IsFaultOf Is asks rows first fault
-of_question Is asks whole goal rows first places are of same faults.NoJob lacks = absurd lacks
-of_question Is asks whole goal rows first places are of same faults.BadDate lacks =
-    let question = asked_on places some_day in (whole question, of question (has_places goal rows places some_day are), (question, same question), lacks)
-of_question Is asks whole goal rows first places are of same faults.BadLastDay lacks =
-    let question = asked_on places some_day in (whole question, of question (has_places goal rows places some_day are), (question, same question), lacks)
-of_question Is asks whole goal rows first places are of same faults.BadTime lacks =
-    let question = asked_on places some_day in (whole question, of question (has_places goal rows places some_day are), (question, same question), lacks)
-of_question Is asks whole goal rows first places are of same faults.BadUntil lacks =
-    let question = asked_on places some_day in (whole question, of question (has_places goal rows places some_day are), (question, same question), lacks)
+of_question Is asks whole start goal rows first places are of same faults.NoJob lacks = absurd lacks
+of_question Is asks whole start goal rows first places are of same faults.BadDate lacks =
+    let question = asked_on places some_day in (whole question, of question (has_places start goal rows places some_day are), (question, same question), lacks)
+of_question Is asks whole start goal rows first places are of same faults.BadLastDay lacks =
+    let question = asked_on places some_day in (whole question, of question (has_places start goal rows places some_day are), (question, same question), lacks)
+of_question Is asks whole start goal rows first places are of same faults.BadTime lacks =
+    let question = asked_on places some_day in (whole question, of question (has_places start goal rows places some_day are), (question, same question), lacks)
+of_question Is asks whole start goal rows first places are of same faults.BadUntil lacks =
+    let question = asked_on places some_day in (whole question, of question (has_places start goal rows places some_day are), (question, same question), lacks)

@@ -16,6 +16,7 @@ module _ (name : Text) (rows : List Row) where
   stored_search no_direct no_scan no_reach (searches.Reach question minutes) h = absurd (no_reach h.0)
   stored_search no_direct no_scan no_reach (searches.Stored store task) h = (task, (h.0, h.1.1))
 
-  pub found_command : name ≢ codes "serve" → (command : Command) → IsCommand name rows command → (search : Search) × IsSearch name rows search
-  found_command no_serve (commands.Find search) h = (search, h)
-  found_command no_serve (commands.Serve store workers) h = absurd (no_serve h.0)
+  pub found_command : name ≢ codes "serve" → name ≢ codes "matrix" → (command : Command) → IsCommand name rows command → (search : Search) × IsSearch name rows search
+  found_command no_serve no_matrix (commands.Find search) h = (search, h)
+  found_command no_serve no_matrix (commands.Matrix question workers progress) h = absurd (no_matrix h.0)
+  found_command no_serve no_matrix (commands.Serve store workers) h = absurd (no_serve h.0)

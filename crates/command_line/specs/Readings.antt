@@ -19,16 +19,16 @@ use Rattle.command_line.specs.declared.unread.Word.{Word}
 use Rattle.command_line.specs.declared.unread.WordFault.{WordFault}
 use Rattle.command_line.specs.declared.unread.WordFault.TheVariants as faults
 
--- the texts of a question's words, of which the option `goal` names the place to go to
-pub record ArePlaces (goal : Text) (rows : List Row) (places : Places) : Type 0 where
-  pub from : HasText rows (codes "from") places.from.now
+-- the texts of a question's words, of which the option `start` names the place to leave from and `goal` that to go to
+pub record ArePlaces (start goal : Text) (rows : List Row) (places : Places) : Type 0 where
+  pub from : HasText rows start places.from.now
   pub to : HasText rows goal places.to.now
   pub at : HasText rows (codes "at") places.at.now
   pub next : IsNextOf rows places.next
   pub until : NamesUntil rows
 
-abbrev pub LacksPlaces : Text → List Row → Type 0
-LacksPlaces goal rows = (question : Question) → ¬ HasPlaces goal rows question
+abbrev pub LacksPlaces : Text → Text → List Row → Type 0
+LacksPlaces start goal rows = (question : Question) → ¬ HasPlaces start goal rows question
 
 -- the day to leave on, if the first covered day is one
 abbrev pub IsDayIn : List Row → Option Date → Date → Type 0

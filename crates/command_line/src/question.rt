@@ -24,13 +24,17 @@ pub(crate) struct Places<'a> {
     next: Option<u16>,
 }
 
-/// The question's texts, of which the option `goal` has the place to go to: none if one of its words isn't there, the number of connections
-/// is out of its range, or a day is named for a last time that isn't.
-pub(crate) fn places_of<'m, 'a>(found: &'m ArgMatches<'a>, goal: &str) -> Option<Places<'m>>
-    ensures places { IfSome result (ArePlaces goal.now (rows_of (found_of found.now))) }
-    ensures none { IfNone result (LacksPlaces goal.now (rows_of (found_of found.now))) }
+/// The question's texts, of which the option `start` has the place to leave from, and `goal` that to go to: none if one of its words isn't
+/// there, the number of connections is out of its range, or a day is named for a last time that isn't.
+pub(crate) fn places_of<'m, 'a>(
+    found: &'m ArgMatches<'a>,
+    start: &str,
+    goal: &str,
+) -> Option<Places<'m>>
+    ensures places { IfSome result (ArePlaces start.now goal.now (rows_of (found_of found.now))) }
+    ensures none { IfNone result (LacksPlaces start.now goal.now (rows_of (found_of found.now))) }
 {
-    let from = text_of(found, "from")?;
+    let from = text_of(found, start)?;
     let to = text_of(found, goal)?;
     let at = text_of(found, "at")?;
     let next = next_of(found)?;
@@ -67,9 +71,9 @@ pub(crate) fn question_of<'a>(
     found: &ArgMatches<'_>,
     first: Option<Date>,
 ) -> Result<Question<'a>, WordFault>
-    requires { (goal : Text) × ArePlaces goal (rows_of (found_of found.now)) places }
-    ensures places { (goal : Text) → ArePlaces goal (rows_of (found_of found.now)) places.entry
-        → IfOk result (HasPlaces goal (rows_of (found_of found.now))) }
+    requires { (start : Text) × (goal : Text) × ArePlaces start goal (rows_of (found_of found.now)) places }
+    ensures places { (start goal : Text) → ArePlaces start goal (rows_of (found_of found.now)) places.entry
+        → IfOk result (HasPlaces start goal (rows_of (found_of found.now))) }
     ensures times { IfOk result (λ question. AreTimesIn (rows_of (found_of found.now)) first (Some question)) }
     ensures fault { IfErr result (LacksTimes (rows_of (found_of found.now)) first) }
 {

@@ -3,6 +3,7 @@ pub mod Checks
 pub mod Feeds
 pub mod Files
 pub mod Idle
+pub mod Matrices
 pub mod Merged
 pub mod Rules
 pub mod Found

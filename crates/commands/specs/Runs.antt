@@ -19,6 +19,7 @@ use Rattle.printing.specs.Tellings.{tells_legs, tells_reply}
 use Rattle.commands.specs.Feeds.{IsGround}
 use Rattle.commands.specs.Found.{IsFoundPrinted}
 use Rattle.commands.specs.Idle.{IsIdleSaid}
+use Rattle.commands.specs.Matrices.{IsMatrixRun}
 use Rattle.commands.specs.Rules.{IsReachFound, IsScanned, IsStopAnswer}
 use Rattle.commands.specs.Served.{IsNoLookup, IsServedBy, dialogue_of}
 use Rattle.commands.specs.Stored.{IsOverStore}
@@ -60,6 +61,8 @@ IsServed v input style voice basis k path old new status disk =
 abbrev pub IsCommandRun : {D : Type 0} → SystemView D → Option (List ℕ) → Plan → BasisData → Command → StreamsData → StreamsData → ℕ → Option D → Type 0
 IsCommandRun v input plan basis (commands.Find search) old new status disk =
     IsFoundRun v plan basis plan.settings.rides search old new status disk
+IsCommandRun v input plan basis (commands.Matrix question workers progress) old new status disk =
+    IsMatrixRun v (voice_of plan) basis plan.settings.rides question old new status disk
 IsCommandRun v input plan basis (commands.Serve store workers) old new status disk =
     IsServed v input plan.style (voice_of plan) basis plan.settings.rides store.now old new status disk
 

@@ -6,11 +6,12 @@ use Rattle.feed_report.specs.Reports.{Names}
 use Rattle.gtfs_tables.specs.Feed.{Feed}
 use Rattle.printing.specs.Tellings.{Telling}
 
--- Which feed a folder holds, if its bytes are known, and which names; whether there are hash keys to look ids up with; and what opening the
--- file of a store may give.
+-- Which feed a folder holds, if its bytes are known, and which names; which bytes a file has that lists stops, if they are known; whether
+-- there are hash keys to look ids up with; and what opening the file of a store may give.
 pub record World (D : Type 0) : Type 1 where
   pub holds : List ℕ → Feed → Type 0
   pub lists : List ℕ → Names → Type 0
+  pub has : List ℕ → List ℕ → Type 0
   pub keyed : Bool
   pub opens : List ℕ → Result D FileFault → Type 0
 

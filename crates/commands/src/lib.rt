@@ -14,6 +14,7 @@ mod running;
 mod served;
 mod storing;
 mod system;
+mod tabling;
 
 pub use program::run_words;
 pub use running::Ended;

@@ -12,6 +12,7 @@ use crate::idling::say_idle;
 use crate::opening::StoreFile;
 use crate::replying::{Site, run_serve};
 use crate::system::System;
+use crate::tabling::{Tabling, run_matrix};
 use command_line::{Command, Plan, Search};
 use disk_model::Disk;
 use feed_basis::{Basis, basis_of};
@@ -93,6 +94,20 @@ fn run_command<S: System, I: BufRead, O: Write + Drop, E: Write + Drop>(
                 workers: *workers,
             };
             run_serve(alloc, system, plan, &voice_of(plan), &site, input, streams)
+        }
+        Command::Matrix {
+            question,
+            workers,
+            progress,
+        } => {
+            let tabling = Tabling {
+                basis,
+                rides,
+                question,
+                workers: *workers,
+                progress: *progress,
+            };
+            run_matrix(alloc, system, &voice_of(plan), &tabling, streams)
         }
     }
 }

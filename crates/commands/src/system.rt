@@ -1,6 +1,6 @@
 //! The system that the program runs on.
 
-ghost use Rattle.std.specs.Prelude.{◌≡◌, IfOk, is_some};
+ghost use Rattle.std.specs.Prelude.{◌≡◌, ℕ, List, IfOk, Some, is_some};
 ghost use Rattle.gtfs_tables.specs.Feed.{Feed, AreReaders};
 ghost use Rattle.commands.specs.World.{World};
 
@@ -17,12 +17,13 @@ use std::io::Read;
 use std::sync::Wait;
 use std::thread::Threads;
 use store_audit::AuditProgress;
+use told_matrix::MatrixProgress;
 
 /// What the program finds on its system: folders of feeds, files of stores, threads and randomness. It also has who makes texts in formats,
-/// and who reports the progress of a build, of the audits of all trees, of a migration or of a merge. A call is made at its turn, or not at
-/// all.
+/// and who reports the progress of a build, of the audits of all trees, of a migration, of a merge or of a table. A call is made at its
+/// turn, or not at all.
 pub trait System {
-    /// Reads a file of a feed.
+    /// Reads a file of a feed, or one that lists stops.
     type Reader: Read + Drop;
 
     /// The disk of a store.
@@ -31,8 +32,13 @@ pub trait System {
     /// In which workers build.
     type Threads: Threads + Wait + Sync;
 
-    /// Reports the progress of a build, of the audits of all trees, of a migration, or of a merge.
-    type Meter: Progress + AuditProgress + MigrationProgress + MergeProgress + Drop;
+    /// Reports the progress of a build, of the audits of all trees, of a migration, of a merge, or of a table.
+    type Meter: Progress
+        + AuditProgress
+        + MigrationProgress
+        + MergeProgress
+        + MatrixProgress
+        + Drop;
 
     /// Makes the texts of formats.
     type Teller: Teller;
@@ -55,6 +61,11 @@ pub trait System {
     fn open_feed(&self, alloc: Global, folder: &str) -> io::Result<Files<Self::Reader>>
         ensures { IfOk result (λ files. (feed : Feed) → (world self.now).holds folder.now feed
             → AreReaders Self.Reader.remaining files feed) };
+
+    /// Opens a file that lists stops.
+    fn open_list(&self, path: &str) -> io::Result<Self::Reader>
+        ensures { IfOk result (λ reader. (bytes : List ℕ) → (world self.now).has path.now bytes
+            → Self.Reader.remaining reader ≡ Some bytes) };
 
     /// The names in a folder; none if the system doesn't list it. It fails only if memory runs out.
     fn list_folder(&self, folder: &str) -> io::Result<Option<Vec<String>>>

@@ -34,6 +34,7 @@ search_places (searches.Stored store task) = task_places task
 
 abbrev pub command_places : Command → Option Places
 command_places (commands.Find search) = search_places search
+command_places (commands.Matrix question workers progress) = None
 command_places (commands.Serve store workers) = None
 
 -- the words of a plan: the feed, the zone and the places

@@ -91,7 +91,7 @@ fn command_places<'a>(command: &Command<'a>) -> Option<Places<'a>>
 {
     match command {
         Command::Find(search) => search_places(search),
-        Command::Serve { .. } => None,
+        Command::Matrix { .. } | Command::Serve { .. } => None,
     }
 }
 

@@ -9,9 +9,9 @@ use gtfs_tables::Files;
 use recovery::is_begun;
 use std::alloc::Global;
 use std::hash::RandomState;
-use std::io;
 use std::sync::Wait;
 use std::thread::Threads;
+use std::{fs, io};
 
 /// The files, the randomness and the threads of the runtime. Nothing is claimed of what is there.
 #[derive(Drop)]
@@ -38,6 +38,7 @@ impl<'r, T: Threads + Wait + Sync> System for HostSystem<'r, T> {
     ghost world = { λ system. record {
       holds = λ _ _. ⊥;
       lists = λ _ _. Unit {0};
+      has = λ _ _. ⊥;
       keyed = is_some system.keys;
       opens = λ _ _. Unit {0};
     } };
@@ -60,6 +61,10 @@ impl<'r, T: Threads + Wait + Sync> System for HostSystem<'r, T> {
 
     fn open_feed(&self, alloc: Global, folder: &str) -> io::Result<Files<FeedReader>> {
         open_feed(self.rt, alloc, folder)
+    }
+
+    fn open_list(&self, path: &str) -> io::Result<FeedReader> {
+        Ok(FeedReader::Opened(fs::open(self.rt, path)?))
     }
 
     fn list_folder(&self, folder: &str) -> io::Result<Option<Vec<String>>> {

@@ -63,3 +63,23 @@ pub fn feed(failure: Failure) -> Files<Source> {
         frequencies: reader_of(FeedFile::Frequencies, FREQUENCIES, failure),
     }
 }
+
+/// The file of that path that lists stops: both at `stops`, and the first of them at `broken` and `starved`, whose readers fail then. There is
+/// no other.
+pub fn list_of(path: &str) -> io::Result<Source> {
+    match path {
+        "stops" => Ok(Source {
+            bytes: b"A\nB\n",
+            fails: None,
+        }),
+        "broken" => Ok(Source {
+            bytes: b"A\n",
+            fails: Some(ErrorKind::Other),
+        }),
+        "starved" => Ok(Source {
+            bytes: b"A\n",
+            fails: Some(ErrorKind::OutOfMemory),
+        }),
+        _ => Err(io::Error::from(ErrorKind::NotFound)),
+    }
+}

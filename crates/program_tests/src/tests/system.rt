@@ -1,6 +1,6 @@
 //! A system in memory.
 
-use super::feed::{Failure, Source, feed};
+use super::feed::{Failure, Source, feed, list_of};
 use super::teller::Saying;
 use commands::System;
 use disk_model::{FileFault, MemDisk};
@@ -15,6 +15,7 @@ use std::io;
 use std::sync::Wait;
 use std::thread::Threads;
 use store_audit::AuditProgress;
+use told_matrix::MatrixProgress;
 
 /// Hears how far a build is, the audits, a migration or a merge, and does nothing.
 #[derive(Clone, Copy, Debug)]
@@ -40,6 +41,12 @@ impl MigrationProgress for Deaf {
 
 impl MergeProgress for Deaf {
     fn merged(&mut self, _stored: usize, _of: usize) {}
+
+    fn ended(&mut self) {}
+}
+
+impl MatrixProgress for Deaf {
+    fn printed(&mut self, _printed: usize, _of: usize) {}
 
     fn ended(&mut self) {}
 }
@@ -72,6 +79,7 @@ impl<'t, T: Threads + Wait + Sync> System for FakeSystem<'t, T> {
     ghost world = { λ system. record {
       holds = λ _ _. ⊥;
       lists = λ _ _. Unit {0};
+      has = λ _ _. ⊥;
       keyed = is_some system.hash_keys;
       opens = λ _ _. Unit {0};
     } };
@@ -94,6 +102,10 @@ impl<'t, T: Threads + Wait + Sync> System for FakeSystem<'t, T> {
 
     fn open_feed(&self, _alloc: Global, _folder: &str) -> io::Result<Files<Source>> {
         Ok(feed(self.failure))
+    }
+
+    fn open_list(&self, path: &str) -> io::Result<Source> {
+        list_of(path)
     }
 
     fn list_folder(&self, _folder: &str) -> io::Result<Option<Vec<String>>> {

@@ -3,6 +3,7 @@ use Rattle.command_grammar.proofs.program.program.Goals as goal
 pub returns : goal.returns
 returns c =
     c.with_command.ensures _ _ (
+    c.with_command-program-13.ensures _ _ (
     c.with_command-program-12.ensures _ _ (
     c.with_command-program-11.ensures _ _ (
     c.with_command-program-10.ensures _ _ (
@@ -19,6 +20,7 @@ returns c =
     ) c.journey.ensures
     ) c.scan.ensures
     ) c.reach.ensures
+    ) c.matrix.ensures
     ) c.build.ensures
     ) c.list.ensures
     ) c.ask.ensures

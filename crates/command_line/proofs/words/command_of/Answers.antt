@@ -11,4 +11,4 @@ returns-in-Err-clause-fault c =
     let name = c.args.name.now in
     let rows = rows_of (found_of c.args.found.now) in
     of_part (IsSearch name rows) search_question (IsCommand name rows) question_of (λ search. commands.Find search)
-    (λ search is. is) (λ search. refl) (found_command name rows c.in_default.not-serve) rows c.args.first c.in-Err.fault c.in-Err.ensures.fault
+    (λ search is. is) (λ search. refl) (found_command name rows c.in_default.not-serve c.in_default.not-matrix) rows c.args.first c.in-Err.fault c.in-Err.ensures.fault

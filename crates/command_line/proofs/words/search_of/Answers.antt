@@ -10,14 +10,14 @@ pub returns-in-Err-clause-fault : goal.returns-in-Err-clause-fault
 returns-in-Err-clause-fault c =
     let name = c.args.name.now in
     let rows = rows_of (found_of c.args.found.now) in
-    of_question (IsSearch name rows) search_question (λ question. searches.Direct question) (codes "to") rows c.args.first
+    of_question (IsSearch name rows) search_question (λ question. searches.Direct question) (codes "from") (codes "to") rows c.args.first
     c.in-Some.places c.in-Some.ensures.places (λ question is. (c.in-direct.is, is)) (λ question. refl) c.in-Err.fault c.in-Err.ensures.fault
 
 pub returns-in-Err-question_of-clause-fault : goal.returns-in-Err-question_of-clause-fault
 returns-in-Err-question_of-clause-fault c =
     let name = c.args.name.now in
     let rows = rows_of (found_of c.args.found.now) in
-    of_question (IsSearch name rows) search_question (λ question. searches.Scan question c.flag_of-legs.result) (codes "to") rows c.args.first
+    of_question (IsSearch name rows) search_question (λ question. searches.Scan question c.flag_of-legs.result) (codes "from") (codes "to") rows c.args.first
     c.in-Some-places_of.places c.in-Some-places_of.ensures.places (λ question is. (c.in-scan.is, (is, c.flag_of-legs.ensures)))
     (λ question. refl) c.in-Err-question_of.fault c.in-Err-question_of.ensures.fault
 
@@ -25,7 +25,7 @@ pub returns-in-Err-question_of-2-clause-fault : goal.returns-in-Err-question_of-
 returns-in-Err-question_of-2-clause-fault c =
     let name = c.args.name.now in
     let rows = rows_of (found_of c.args.found.now) in
-    of_question (IsSearch name rows) search_question (λ question. searches.Reach question c.in-Some-minutes_of.minutes) (codes "from") rows c.args.first
+    of_question (IsSearch name rows) search_question (λ question. searches.Reach question c.in-Some-minutes_of.minutes) (codes "from") (codes "from") rows c.args.first
     c.in-Some-places_of-2.places c.in-Some-places_of-2.ensures.places (λ question is. (c.in-reach.is, (is, c.in-Some-minutes_of.ensures.minutes)))
     (λ question. refl) c.in-Err-question_of-2.fault c.in-Err-question_of-2.ensures.fault
 

@@ -1,6 +1,7 @@
 use Rattle.std.proofs.Common.{ℕ, subst}
 use Rattle.printing.specs.Finished.{streams_of}
 use Rattle.printing.specs.declared.fault.Voice.{Voice}
+use Rattle.commands.specs.Matrices.{IsMatrixRun}
 use Rattle.commands.specs.Runs.{IsFoundRun, IsServed, voice_of}
 use Rattle.commands.specs.World.{view_of}
 use Rattle.commands.proofs.running.run_command.Goals as goal
@@ -29,3 +30,16 @@ returns-in-Serve g c =
     c.voice_of.ensures c.run_serve.ensures in
     rw c.in-Serve.is (subst (λ (k : ℕ). IsServed v input plan.style (voice_of plan) basis k path.now old new ended.status ended.store)
     c.new-rides.ensures voiced)
+
+pub returns-in-Matrix : goal.returns-in-Matrix
+returns-in-Matrix g c =
+    let plan = c.args.plan.now in
+    let basis = c.args.basis.now in
+    let v = view_of (g.S.System.world c.args.system.now) g.S.Store.Disk.honest g.S.Store.Disk.state g.S.Store.Disk.failures g.S.Teller.Teller.telling in
+    let ended = c.run_matrix.result in
+    let old = streams_of c.args.streams.out c.args.streams.err in
+    let new = streams_of ended.streams.out ended.streams.err in
+    let question = c.in-Matrix.question in
+    let voiced = subst (λ (voice : Voice). IsMatrixRun v voice basis c.new-rides.result question old new ended.status ended.store)
+    c.voice_of-in-Matrix.ensures c.run_matrix.ensures in
+    rw c.in-Matrix.is (subst (λ (k : ℕ). IsMatrixRun v (voice_of plan) basis k question old new ended.status ended.store) c.new-rides.ensures voiced)

@@ -1,0 +1,2 @@
+pub mod MarkFacts
+pub mod ListFacts

@@ -1,0 +1,4 @@
+pub mod ZipFacts
+pub mod AskedFacts
+pub mod LineFacts
+pub mod BatchFacts
