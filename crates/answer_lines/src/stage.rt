@@ -51,7 +51,10 @@ impl fmt::Display for Stage {
                 Shown(to.as_str())
             ),
             Stage::Walk {
-                from, to, arrives, ..
+                from,
+                to,
+                arrives,
+                ..
             } => write!(
                 f,
                 "  walk {} {} {arrives}",

@@ -1,5 +1,5 @@
 -- Answers between single stops, and journeys of trees between places.
-use Rattle.std.proofs.Common.{Option, Some, ◌≡◌, ℕ, zero, suc, ◌<◌, Bool, false, true≢false, List, [], ◌∷◌, map, get_or, Contains, All, arith, refl, sym, subst, subst₂}
+use Rattle.std.proofs.Common.{◌≡◌, ℕ, zero, suc, ◌<◌, Bool, false, true≢false, List, [], ◌∷◌, map, get_or, Contains, All, arith, refl, sym, subst, subst₂}
 use Rattle.std.specs.List.{AllZip}
 use Rattle.std.proofs.lemmas.List.Elements.{All-cons, All-nil, All-tail, at_from_Contains}
 use Rattle.timetable.specs.declared.parts.Leg.{Leg}

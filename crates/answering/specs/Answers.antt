@@ -1,13 +1,12 @@
 -- What the program answers to a question, by the timetable and the covered days.
 -- RAPTOR (Delling, Pajor, Werneck, ALENEX 2012), section 2: the Pareto set of arrival time and number of trips.
-use Rattle.std.specs.Prelude.{◌≡◌, ℕ, ◌≤◌, Bool, true, false, List, [], length, Option, Some}
+use Rattle.std.specs.Prelude.{◌≡◌, ℕ, ◌≤◌, Bool, true, false, List, [], Option, Some}
 use Rattle.std.specs.List.{All, AllZip, Contains}
 use Rattle.timetable.specs.declared.parts.Leg.{Leg}
 use Rattle.timetable.specs.declared.parts.Numbers.{Numbers}
 use Rattle.timetable.specs.Journeys.{Serves, arrives}
 use Rattle.timetable.specs.Table.{Table}
 use Rattle.timetable.specs.Front.{AreBest}
-use Rattle.pattern_tree.specs.Content.{Content}
 use Rattle.pattern_query.specs.Answer.{PointData, numbers, IsJourney}
 use Rattle.pattern_query.specs.Leaving.{IsLatest, LeavesLast}
 use Rattle.pattern_query.specs.Questions.{AreComplete, AskedReaches, Held, IsAskedPoint, IsStored, ReachesBetween}

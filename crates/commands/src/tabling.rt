@@ -1,6 +1,6 @@
 //! A table of travel times between the stops of two files.
 
-ghost use Rattle.std.specs.Prelude.{◌≡◌, List, MatchResult, ℕ};
+ghost use Rattle.std.specs.Prelude.{List, MatchResult, ℕ};
 ghost use Rattle.commands.specs.Matrices.{IsListFaultSaid, IsMatrixRun, IsMatrixTold, IsTabled, IsWindow};
 ghost use Rattle.commands.specs.World.{view_of};
 ghost use Rattle.printing.specs.Finished.{streams_of};

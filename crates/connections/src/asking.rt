@@ -1,6 +1,6 @@
 //! The connections of a window between places, by the patterns of trees.
 
-ghost use Rattle.std.specs.Prelude.{Option, ◌≡◌, ℕ, ◌+◌, ◌<◌, ◌≤◌, ◌↔◌, IfOk, IsTrue, OnOk, length, map};
+ghost use Rattle.std.specs.Prelude.{Option, ◌≡◌, ℕ, ◌+◌, ◌<◌, ◌≤◌, ◌↔◌, IfOk, IsTrue, OnOk, map};
 ghost use Rattle.std.specs.List.{All};
 ghost use Rattle.timetable.specs.Front.{AreBest};
 ghost use Rattle.timetable.specs.Table.{stops_of};

@@ -1,7 +1,6 @@
 //! Answers to questions between two places.
 
-ghost use Rattle.std.specs.Prelude.{◌≡◌, ◌≤◌, MatchResult};
-ghost use Rattle.feed_ids.specs.Names.{stops_in};
+ghost use Rattle.std.specs.Prelude.{◌≤◌, MatchResult};
 ghost use Rattle.pattern_query.specs.Questions.{IsAnswer, IsRefusal};
 ghost use Rattle.pattern_query.specs.Gathered.{IsTo, AddsAsked};
 

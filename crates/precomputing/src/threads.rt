@@ -2,8 +2,6 @@
 
 ghost use Rattle.std.specs.Prelude.{◌≡◌, ◌<◌, ◌≤◌, ◌+◌, [], MatchOption};
 ghost use denote.Param.Send.{IsSend, IsSync};
-ghost use Rattle.std.specs.Arc.{arc_value};
-ghost use Rattle.timetable.specs.Table.{stops_of};
 ghost use Rattle.section_store.specs.Sections.{form_of};
 ghost use Rattle.precomputing.specs.Flushed.{Flushed, ShowsTo};
 

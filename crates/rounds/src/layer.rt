@@ -1,7 +1,7 @@
 //! What is known after so many rides.
 
 ghost use Rattle.std.specs.Prelude.{◌≡◌, ℕ, ◌<◌, ◌≤◌, IfOk, length, None};
-ghost use Rattle.timetable.specs.Table.{Table, IsTable, stops_of};
+ghost use Rattle.timetable.specs.Table.{IsTable, stops_of};
 ghost use Rattle.timetable.specs.Journeys.{foot, link};
 ghost use Rattle.lines.specs.Lines.{AreLines};
 ghost use Rattle.rounds.specs.Mark.{AllShort, AllEarly, at};

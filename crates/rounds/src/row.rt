@@ -1,10 +1,10 @@
 //! Labels of all stops, and which of them were lowered.
 
-ghost use Rattle.std.specs.Prelude.{◌≡◌, ℕ, ◌+◌, ◌<◌, ◌≤◌, ◌↔◌, ◌⊎◌, ◌++◌, ◌∷◌, [], length, slice_set, replicate, Option, Some, None, IfOk, IfSome, IsNone, IsSome, IsTrue, vec_len, vec_capacity};
+ghost use Rattle.std.specs.Prelude.{◌≡◌, ℕ, ◌+◌, ◌<◌, ◌≤◌, ◌↔◌, ◌⊎◌, ◌++◌, ◌∷◌, [], length, slice_set, Option, Some, None, IfOk, IfSome, IsNone, IsSome, IsTrue, vec_len, vec_capacity};
 ghost use Rattle.std.specs.List.{Contains};
 ghost use Rattle.timetable.specs.Front.{IsSooner};
 ghost use Rattle.rounds.specs.Labels.{never};
-ghost use Rattle.rounds.specs.Mark.{AllEarly, Mark, By, at, arrival_of, is_by, moved};
+ghost use Rattle.rounds.specs.Mark.{AllEarly, By, at, arrival_of, is_by, moved};
 ghost use Rattle.rounds.specs.Moves.{ridden_to};
 ghost use Rattle.rounds.specs.Row.{SameRow, arrivals_of, settled_of, lowered_in, when};
 ghost use Rattle.rounds.specs.Layers.{Joined, IsBelow};

@@ -3,7 +3,7 @@ use Rattle.std.proofs.Common.{◌≡◌, ◌∙◌, ℕ, ◌+◌, ◌≤◌, Boo
 use Rattle.std.proofs.lemmas.List.{length-take, take_all}
 use Rattle.std.specs.Str.{IsUtf8}
 use Rattle.csv.specs.Reading.{strip_bom}
-use Rattle.stop_lists.specs.Lists.{IsContent, IsList}
+use Rattle.stop_lists.specs.Lists.{IsContent}
 use Rattle.stop_lists.specs.declared.reading.TheConstants.{LONGEST}
 
 -- what is read of the items that pass is what passes of what is read

@@ -1,6 +1,6 @@
 //! Reading a file of stops.
 
-ghost use Rattle.std.specs.Prelude.{◌≡◌, IfErr, IfOk, IfSome};
+ghost use Rattle.std.specs.Prelude.{IfErr, IfOk, IfSome};
 ghost use Rattle.stop_lists.specs.Lists.{Explains, IsContent};
 
 use crate::fault::ListFault;

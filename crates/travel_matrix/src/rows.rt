@@ -73,7 +73,8 @@ pub fn rows_of<R: Threads + Sync>(
 ) -> Result<Vec<Row>, AllocError>
     requires lines { AreLines window.now.table.now (arc_value window.now.lines) }
     requires known { All (λ s. s < stops_of window.now.table.now) origins.now }
-    ensures { IfOk result (λ rows. AreRows window.now.table.now window.now.rides window.now.first window.now.last goals.now origins.now rows.items) }
+    ensures { IfOk result
+        (λ rows. AreRows window.now.table.now window.now.rides window.now.first window.now.last goals.now origins.now rows.items) }
 {
     if origins.is_empty() {
         return Ok(Vec::new(crew.alloc));
