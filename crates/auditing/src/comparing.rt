@@ -10,7 +10,7 @@ ghost use Rattle.auditing.specs.Comparing.{IsFirstStop, ridden};
 ghost use Rattle.auditing.specs.Lacks.{AgreeUnmarked, is_marked};
 
 use direct_connections::Network;
-use pattern_query::{Patterns, Point, ask};
+use pattern_query::{Patterns, Point, ask_any};
 use rounds::{RoundView, points};
 use std::alloc::{AllocError, Global};
 use timetable::{LATEST_MOMENT, Numbers, Rides, StopId};
@@ -71,7 +71,7 @@ fn agree(
     ensures { IfOk result (λ agree. IsTrue agree ↔ Agrees network.now patterns.now rides depart to) }
 {
     let source = patterns.source();
-    let asked = ask(network, patterns, to, depart);
+    let asked = ask_any(network, patterns, to, depart);
     let asked = ridden_points(alloc, asked.points())?;
     let found = points(network.timetable(), view, source, to, depart, rides);
     let found = ridden_numbers(alloc, found.as_slice())?;
