@@ -9,7 +9,7 @@ ghost use Rattle.told_matrix.specs.Batches.{HasLines, HasLinesCut, IsLinesBroken
 ghost use Rattle.told_matrix.specs.Tables.{HasTable, IsBrokenOff, IsCutOff};
 
 use crate::asking::Matrix;
-use crate::lines::lines_of;
+use crate::csv_lines::lines_of;
 use crate::place::{Place, stops_of};
 use crate::progress::MatrixProgress;
 use feed_basis::Basis;
@@ -31,7 +31,7 @@ const CELLS: usize = 65_536;
 // How many rows a worker works out in a batch at most.
 const SHARE: usize = 16;
 
-// How many rows are worked out at once, of so many cells each.
+// How many rows of `cells` cells are worked out at once.
 fn batch_size(workers: u8, cells: usize) -> usize
     requires { 0 < workers }
     ensures { 0 < result }

@@ -3,7 +3,7 @@
 
 mod asking;
 mod batches;
-mod lines;
+mod csv_lines;
 mod place;
 mod progress;
 

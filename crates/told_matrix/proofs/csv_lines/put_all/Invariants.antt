@@ -1,7 +1,7 @@
 use Rattle.std.proofs.Common.{take}
 use Rattle.told_matrix.specs.Lines.{lines_of}
 use Rattle.told_matrix.specs.Writers.{Adds}
-use Rattle.told_matrix.proofs.lines.put_all.Given as goal
+use Rattle.told_matrix.proofs.csv_lines.put_all.Given as goal
 
 abbrev pub invariant-loop-number : goal.invariant-loop-number
 invariant-loop-number g l =

@@ -5,7 +5,7 @@ use Rattle.told_matrix.specs.Lines.{lines_from, lines_of}
 use Rattle.told_matrix.specs.Writers.{Adds}
 use Rattle.told_matrix.specs.declared.place.Place.{Place}
 use Rattle.told_matrix.proofs.LineFacts.{adds_more, all_more}
-use Rattle.told_matrix.proofs.lines.put_all.Goals as goal
+use Rattle.told_matrix.proofs.csv_lines.put_all.Goals as goal
 
 pub loop-number-preserved : goal.loop-number-preserved
 loop-number-preserved g c =

@@ -3,7 +3,7 @@ use Rattle.std.proofs.lemmas.List.{get_or_default}
 use Rattle.told_matrix.specs.Lines.{line_text, lines_from}
 use Rattle.told_matrix.specs.declared.place.Place.{Place}
 use Rattle.told_matrix.proofs.LineFacts.{adds_more, lines_more}
-use Rattle.told_matrix.proofs.lines.put_lines.Goals as goal
+use Rattle.told_matrix.proofs.csv_lines.put_lines.Goals as goal
 
 pub loop-number-preserved : goal.loop-number-preserved
 loop-number-preserved g c =
