@@ -1,6 +1,0 @@
-//! A module for each subject.
-
-mod calendars;
-mod changes;
-mod counts;
-mod listed;

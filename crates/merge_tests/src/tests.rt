@@ -1,6 +1,0 @@
-//! A module for each subject.
-
-mod refused;
-mod stopped;
-mod towns;
-mod whole;
