@@ -1,5 +1,7 @@
-pub mod PackedLines
 pub mod CommaFacts
+pub mod LinePlaces
+pub mod RowFacts
+pub mod TrimFacts
 pub mod LineFacts
 pub mod MarkFacts
 pub mod RecordFacts

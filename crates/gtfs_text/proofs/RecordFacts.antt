@@ -1,10 +1,11 @@
 -- All the records of a text, as csv reads them one by one.
-use Rattle.std.proofs.Common.{◌≡◌, ℕ, suc, ◌+◌, ◌-◌, ◌<◌, ◌≤◌, Bool, true, false, not, List, [], ◌∷◌, ◌++◌, length, map, refl, cond, arith, sym, ◌∙◌, ap, Option, Some, None, zero-add, add-zero, ◌&&◌, IsUtf8}
-use Rattle.std.proofs.lemmas.List.{append-nil, length-append, length-map}
+use Rattle.std.proofs.Common.{◌≡◌, ℕ, suc, ◌+◌, ◌-◌, ◌<◌, ◌≤◌, Bool, true, false, not, List, [], ◌∷◌, ◌++◌, length, map, refl, cond, arith, sym, ◌∙◌, ap, Option, Some, None, zero-add, add-zero, ◌&&◌, ◌^◌, Fits, w64, IsUtf8}
+use Rattle.std.proofs.lemmas.List.{append-nil, length-map}
 use Rattle.std.specs.List.{list_all, position_from}
 use Rattle.std.specs.Str.{is_utf8}
 use Rattle.std.proofs.lemmas.Str.{is_utf8-from_IsUtf8, IsUtf8-from_is_utf8}
 use Rattle.csv.specs.Records.{AllText}
+use Rattle.gtfs_text.specs.Packed.{unpacked}
 use Rattle.gtfs_text.specs.Sheets.{without_spaces, is_text, bad_record, table_of, Explains}
 use Rattle.gtfs_text.specs.Reading.{ExplainsAfter}
 use Rattle.gtfs_text.specs.declared.fault.SheetFault.{SheetFault}
@@ -155,11 +156,20 @@ fault_explained rem a b (kind.Serialize t) xs y rows ec ex h text why = tt
 fault_explained rem a b (kind.Deserialize pos err) xs y rows ec ex h text why = tt
 fault_explained rem a b kind.OutOfMemory xs y rows ec ex h text why = tt
 
--- packed records are as many as those before them, and those that they unpack to
-pub length_after : {X : Type 0} (f : X → List (List ℕ)) (xs ys : List X) (rows : List (List (List ℕ))) → map f xs ≡ map f ys ++ table_of rows → length xs ≡ length ys + length rows
-length_after f xs ys rows same =
-    sym (length-map xs f) ∙ ap length same ∙ length-append (map f ys) (table_of rows)
-    ∙ ap (λ (n : ℕ). n + length (table_of rows)) (length-map ys f) ∙ ap (λ (n : ℕ). length ys + n) (length-map rows (map without_spaces))
+-- packed records are as many as those that they unpack to
+pub packed_count : (packed : List (List ℕ)) (rows : List (List (List ℕ))) → map unpacked packed ≡ table_of rows → length packed ≡ length rows
+packed_count packed rows same = sym (length-map packed unpacked) ∙ ap length same ∙ length-map rows (map without_spaces)
+
+-- and no more than the text has bytes
+pub packed_few : (packed : List (List ℕ)) (rows : List (List (List ℕ))) (text : List ℕ) (s : State) (ys : List ℕ) → map unpacked packed ≡ table_of rows
+    → Reached default_config st.StartRecord text rows s ys → length packed ≤ length text
+packed_few packed rows text s ys same reached =
+    let few = reached_few st.StartRecord text rows s ys refl reached in
+    let count = packed_count packed rows same in
+    omega (arith, few, count)
+
+pub sum_fits : (before count most : ℕ) → before + most < 2 ^ 64 → count ≤ most → Fits w64 (before + count)
+sum_fits before count most few within = omega (arith, few, within)
 
 -- what a fault says of the records after others
 pub fault_after : (k : ErrorKind) (before at : ℕ) (found : List (List (List ℕ))) → Explains found (fault_at at k) → ExplainsAfter before found (fault_at (before + at) k)

@@ -1,6 +1,6 @@
 -- What a file of a feed is: records, as the crate csv states them, and cells by row and column (GTFS Schedule reference, "File
 -- requirements").
-use Rattle.std.specs.Prelude.{Bool, true, not, ℕ, ◌-◌, ◌≡◌, List, [], ◌∷◌, map, length, get_or, Option, Some, if◌then◌else◌, ◌==◌, ◌&&◌}
+use Rattle.std.specs.Prelude.{Bool, true, not, ℕ, ◌-◌, ◌^◌, ◌<◌, ◌≡◌, List, [], ◌∷◌, map, length, get_or, Option, Some, if◌then◌else◌, ◌==◌, ◌&&◌}
 use Rattle.std.specs.List.{list_all, position_from, range_with_len}
 use Rattle.std.specs.Str.{is_utf8, bytes_eq}
 use Rattle.csv.specs.Reading.{records, default_config, is_bom}
@@ -69,9 +69,10 @@ cell table row column = get_or (get_or table row []) column []
 abbrev pub is_blank : Table → ℕ → Bool
 is_blank table row = list_all (λ column. length (cell table row column) == 0) (range_with_len 0 (length (header_of table)))
 
--- what a sheet keeps: every field of a record is UTF-8, and this is the number of its columns
+-- what a sheet keeps: every field of a record is UTF-8, this is the number of its columns, and its rows can be counted
 pub record IsTextTable (table : Table) (columns : ℕ) : Type 0 where
   pub text : list_all is_text table ≡ true
+  pub few : length table < 2 ^ 64
   pub width : columns ≡ length (header_of table)
 
 -- what a fault says of the records: which is the first that isn't UTF-8, and nothing where memory was refused

@@ -11,6 +11,7 @@ mod lines;
 mod marks;
 mod packed;
 mod records;
+mod row;
 mod sheet;
 mod spaces;
 mod values;

@@ -1,23 +1,20 @@
 //! The lines of a file that have no quotes. Most files have no others, and these need no reader of CSV.
 
-ghost use Rattle.std.specs.Prelude.{◌≡◌, ◌≤◌, ◌<◌, ◌++◌, true, [], length, take, map, IfOk, IfSome, OnOk};
+ghost use Rattle.std.specs.Prelude.{◌≡◌, ◌≤◌, true, [], length, take, IfOk, IfSome};
 ghost use Rattle.std.specs.List.{list_all};
 ghost use Rattle.csv.specs.Reading.{strip_bom};
-ghost use Rattle.csv.specs.Records.{fields_of, partial_of};
-ghost use Rattle.gtfs_text.specs.Lines.{ArePacked, BeginsWith, IsFrontLine, is_plain, without_line_feed};
+ghost use Rattle.gtfs_text.specs.Lines.{AreLines, EndsWith, IsFrontLine, is_plain, without_line_feed};
 
 use crate::commas::COMMA_LIMIT;
-use crate::packed::pack_line;
-use csv::ByteRecord;
 use memchr::memchr3;
 use std::alloc::AllocError;
 use std::str;
 
-// A line without quotes, and the text after it, from its line feed on.
+/// Where a line stands in its file: the number of its first byte, and how many bytes it has.
 #[derive(Clone, Copy)]
-struct PlainLine<'a> {
-    text: &'a str,
-    rest: &'a [u8],
+pub(crate) struct Place {
+    pub(crate) start: u32,
+    pub(crate) size: u32,
 }
 
 // How many bytes there are before the first that quotes or ends a line.
@@ -53,42 +50,45 @@ fn front_line(text: &[u8]) -> Option<(&[u8], &[u8])>
     }
 }
 
-// The line with which a text begins, after a line feed that ended the line before. None if it isn't UTF-8 or can't be read without a
-// reader of CSV.
-fn plain_line(text: &[u8]) -> Option<PlainLine<'_>>
-    ensures begins { IfSome result (λ line. BeginsWith text.now line.text.now line.rest.now) }
-    ensures shorter { IfSome result (λ line. 0 < length text.now → length line.rest.now < length text.now) }
+// A place for a line, unless it stands beyond the first 4 GiB of its file.
+fn place_for(start: usize, size: usize) -> Option<Place>
+    ensures start { IfSome result (λ place. place.start ≡ start) }
+    ensures size { IfSome result (λ place. place.size ≡ size) }
 {
-    let (line, rest) = front_line(without_line_feed(text))?;
-    match str::from_utf8(line) {
-        Ok(text) => Some(PlainLine { text, rest }),
-        Err(_) => None,
+    match (u32::try_from(start), u32::try_from(size)) {
+        (Ok(start), Ok(size)) => Some(Place { start, size }),
+        _ => None,
     }
 }
 
-/// Adds the records of the lines with which a text begins, packed, each as one field, up to the first line that needs a reader of CSV.
-/// Gives the text that is left, with the line feed before it.
+/// Adds the places of the lines that have a record, from the front of a text, with which a file ends, up to the first line that needs a
+/// reader of CSV. Gives the text that is left, with the line feed before it.
 pub(crate) fn add_plain_lines<'a>(
+    file: &'a [u8],
     text: &'a [u8],
-    packed: &mut Vec<u8>,
-    records: &mut ByteRecord,
+    lines: &mut Vec<Place>,
 ) -> Result<&'a [u8], AllocError>
     requires no_mark { strip_bom text.now ≡ text.now }
-    requires empty { fields_of records.old ≡ [] }
-    requires whole { partial_of records.old ≡ [] }
-    ensures packed { IfOk result (λ rest. ArePacked text.now (fields_of records.new) rest.now) }
-    ensures whole { OnOk result (partial_of records.new ≡ []) }
+    requires end { EndsWith file.now text.now }
+    requires empty { lines.old.items ≡ [] }
+    ensures { IfOk result (λ rest. AreLines text.now file.now lines.new.items rest.now) }
 {
     let mut rest = text;
     'lines: while !rest.is_empty() {
-        let Some(line) = plain_line(rest) else {
+        let here = without_line_feed(rest);
+        let Some((line, after)) = front_line(here) else {
             return Ok(rest);
         };
-        if !line.text.is_empty() {
-            pack_line(line.text, packed)?;
-            records.push_field(packed)?;
+        if !line.is_empty() {
+            let Some(place) = place_for(file.len() - here.len(), line.len()) else {
+                return Ok(rest);
+            };
+            if str::from_utf8(line).is_err() {
+                return Ok(rest);
+            }
+            lines.push(place)?;
         }
-        rest = line.rest;
+        rest = after;
     }
     Ok(rest)
 }

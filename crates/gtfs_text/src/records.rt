@@ -1,17 +1,18 @@
 //! The records of a file, one by one.
 
-ghost use Rattle.std.specs.Prelude.{◌≡◌, ◌++◌, true, [], length, map, None, OnOk, IfOk, IfErr};
+ghost use Rattle.std.specs.Prelude.{◌≡◌, ◌<◌, ◌≤◌, ◌+◌, ◌^◌, true, [], length, map, None, OnOk, IfOk, IfErr};
 ghost use Rattle.std.specs.List.{list_all};
-ghost use Rattle.csv.specs.Reading.{error_kind};
+ghost use Rattle.csv.specs.Reading.{default_config, error_kind, records, strip_bom};
 ghost use Rattle.csv.specs.Records.{fields_of, partial_of};
 ghost use Rattle.gtfs_text.specs.Faults.{fault_at, IsPlain};
 ghost use Rattle.gtfs_text.specs.Packed.{unpacked};
-ghost use Rattle.gtfs_text.specs.Reading.{ExplainsAfter, IsAtStart, records_left};
+ghost use Rattle.gtfs_text.specs.Reading.{ExplainsAfter, IsAtStart, records_left, text_left};
+ghost use Rattle.gtfs_text.specs.Rows.{kept_table};
 ghost use Rattle.gtfs_text.specs.Sheets.{records_of, bad_record, table_of, is_text, Explains};
 
 use crate::commas::{COMMA_LIMIT, UpToCommas};
 use crate::fault::SheetFault;
-use crate::lines::add_plain_lines;
+use crate::lines::{Place, add_plain_lines};
 use crate::marks::after_marks;
 use crate::packed::pack;
 use csv::{ByteRecord, Error, ErrorKind, Reader, ReaderBuilder, StringRecord};
@@ -30,23 +31,25 @@ fn fault_of(error: &Error, row: usize) -> SheetFault
     }
 }
 
-// Adds the records that a reader gives, packed, each as one field, to those that are packed. Each is read into `record`, and packed in
-// `packed`.
+// Adds the records that a reader gives, packed, each as one field, to none. Each is read into `record`, and packed in `packed`. `before` is
+// how many records of the file come before them.
 fn add_records(
     reader: &mut Reader<UpToCommas<'_>>,
     left: &Cell<usize>,
+    before: usize,
     record: &mut StringRecord,
     packed: &mut Vec<u8>,
     records: &mut ByteRecord,
 ) -> Result<(), SheetFault>
     requires start { IsAtStart reader.old }
+    requires few { before + length (text_left reader.old) < 2 ^ 64 }
+    requires empty { fields_of records.old ≡ [] }
     requires whole { partial_of records.old ≡ [] }
-    requires utf8 { list_all is_text (map unpacked (fields_of records.old)) ≡ true }
-    ensures records { OnOk result
-        (map unpacked (fields_of records.new) ≡ map unpacked (fields_of records.old) ++ table_of (records_left reader.old)) }
+    ensures records { OnOk result (map unpacked (fields_of records.new) ≡ table_of (records_left reader.old)) }
     ensures packed_text { OnOk result (list_all is_text (map unpacked (fields_of records.new)) ≡ true) }
+    ensures few { OnOk result (length (fields_of records.new) ≤ length (text_left reader.old)) }
     ensures text { OnOk result (bad_record (records_left reader.old) ≡ None) }
-    ensures fault { IfErr result (ExplainsAfter (length (fields_of records.old)) (records_left reader.old)) }
+    ensures fault { IfErr result (ExplainsAfter before (records_left reader.old)) }
 {
     'records: loop {
         left.set(COMMA_LIMIT);
@@ -56,24 +59,27 @@ fn add_records(
                 records.push_field(packed)?;
             }
             Ok(false) => return Ok(()),
-            Err(error) => return Err(fault_of(&error, records.len())),
+            Err(error) => return Err(fault_of(&error, before + records.len())),
         }
     }
 }
 
-/// The records of a file, packed, each as one field. From the first line on that isn't plain, a reader of CSV reads them.
-pub(crate) fn packed_records(alloc: Global, bytes: &[u8]) -> Result<ByteRecord, SheetFault>
-    ensures records { IfOk result (λ records. map unpacked (fields_of records) ≡ table_of (records_of bytes.now)) }
-    ensures packed_text { IfOk result (λ records. list_all is_text (map unpacked (fields_of records)) ≡ true) }
-    ensures text { OnOk result (bad_record (records_of bytes.now) ≡ None) }
-    ensures fault { IfErr result (Explains (records_of bytes.now)) }
+// The records of a text that doesn't begin with a mark, packed, each as one field, as a reader of CSV reads them. `before` is how many
+// records of the file come before them.
+fn packed_records(alloc: Global, text: &[u8], before: usize) -> Result<ByteRecord, SheetFault>
+    requires no_mark { strip_bom text.now ≡ text.now }
+    requires few { before + length text.now < 2 ^ 64 }
+    ensures records { IfOk result (λ packed. map unpacked (fields_of packed) ≡ table_of (records default_config text.now)) }
+    ensures packed_text { IfOk result (λ packed. list_all is_text (map unpacked (fields_of packed)) ≡ true) }
+    ensures few { IfOk result (λ packed. length (fields_of packed) ≤ length text.now) }
+    ensures text { OnOk result (bad_record (records default_config text.now) ≡ None) }
+    ensures fault { IfErr result (ExplainsAfter before (records default_config text.now)) }
 {
-    let mut records = ByteRecord::with_capacity(alloc, bytes.len(), 0)?;
+    let mut records = ByteRecord::with_capacity(alloc, text.len(), 0)?;
     let mut packed = Vec::new(alloc);
-    let rest = add_plain_lines(after_marks(bytes), &mut packed, &mut records)?;
     let left = Cell::new(0);
     let source = UpToCommas {
-        bytes: rest,
+        bytes: text,
         left: &left,
     };
     let mut reader = ReaderBuilder::new()
@@ -81,6 +87,31 @@ pub(crate) fn packed_records(alloc: Global, bytes: &[u8]) -> Result<ByteRecord, 
         .flexible(true)
         .from_reader(alloc, source);
     let mut record = StringRecord::new(alloc);
-    add_records(&mut reader, &left, &mut record, &mut packed, &mut records)?;
+    add_records(
+        &mut reader,
+        &left,
+        before,
+        &mut record,
+        &mut packed,
+        &mut records,
+    )?;
     Ok(records)
+}
+
+/// The records of a file: the places of its plain lines, and the other records, packed. From the first line on that isn't plain, a reader of
+/// CSV reads them.
+pub(crate) fn kept_records(
+    alloc: Global,
+    file: &[u8],
+) -> Result<(Vec<Place>, ByteRecord), SheetFault>
+    ensures records { IfOk result (λ kept. kept_table file.now kept.0.items (fields_of kept.1) ≡ table_of (records_of file.now)) }
+    ensures few { IfOk result (λ kept. length kept.0.items + length (fields_of kept.1) ≤ length file.now) }
+    ensures table_text { IfOk result (λ kept. list_all is_text (kept_table file.now kept.0.items (fields_of kept.1)) ≡ true) }
+    ensures text { OnOk result (bad_record (records_of file.now) ≡ None) }
+    ensures fault { IfErr result (Explains (records_of file.now)) }
+{
+    let mut lines = Vec::new(alloc);
+    let rest = add_plain_lines(file, after_marks(file), &mut lines)?;
+    let packed = packed_records(alloc, rest, lines.len())?;
+    Ok((lines, packed))
 }

@@ -4,31 +4,29 @@ ghost use Rattle.std.specs.Prelude.{◌≡◌};
 ghost use Rattle.gtfs_text.specs.Sheets.{without_spaces, without_front_spaces, without_end_spaces};
 
 // The text from its first byte that isn't a space.
-fn without_front(text: &str) -> &str
+fn without_front(text: &[u8]) -> &[u8]
     ensures { result.now ≡ without_front_spaces text.now }
 {
-    let bytes = text.as_bytes();
     let mut start = 0;
-    while start < bytes.len() && bytes[start] == b' ' {
+    while start < text.len() && text[start] == b' ' {
         start += 1;
     }
     text.split_at(start).1
 }
 
 // The text up to its last byte that isn't a space.
-fn without_end(text: &str) -> &str
+fn without_end(text: &[u8]) -> &[u8]
     ensures { result.now ≡ without_end_spaces text.now }
 {
-    let bytes = text.as_bytes();
-    let mut end = bytes.len();
-    while end > 0 && bytes[end - 1] == b' ' {
+    let mut end = text.len();
+    while end > 0 && text[end - 1] == b' ' {
         end -= 1;
     }
     text.split_at(end).0
 }
 
 /// The text without the spaces at both ends.
-pub(crate) fn without_spaces(text: &str) -> &str
+pub(crate) fn without_spaces(text: &[u8]) -> &[u8]
     ensures { result.now ≡ without_spaces text.now }
 {
     without_end(without_front(text))

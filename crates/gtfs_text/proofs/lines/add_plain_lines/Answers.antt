@@ -1,25 +1,26 @@
-use Rattle.std.proofs.Common.{◌≡◌, ◌≢◌, [], ◌∷◌, ◌++◌, length, arith}
-use Rattle.csv.specs.Records.{fields_of}
-use Rattle.gtfs_text.proofs.PackedLines.{empty_line, packed_line}
+use Rattle.std.proofs.Common.{◌≡◌, ◌∙◌, ◌<◌, List, ℕ, Bor, false, length, sym, arith, IsUtf8}
+use Rattle.std.proofs.lemmas.Grind.{common_steps}
+use Rattle.gtfs_text.specs.Lines.{IsFrontLine, without_line_feed}
+use Rattle.gtfs_text.proofs.LinePlaces.{line_more, line_without, text_if_read}
 use Rattle.gtfs_text.proofs.lines.add_plain_lines.Goals as goal
-use Rattle.gtfs_text.proofs.lines.add_plain_lines.Goals.{then-not-is_empty+in_ok-pack_line+in_ok-push_field, else-not-is_empty}
+
+pub lines-preserved-in_ok-push : goal.lines-preserved-in_ok-push
+lines-preserved-in_ok-push c =
+    let rest = c.lines.rest.now in
+    let line = c.in-Some.line.now in
+    let left : 0 < length rest = grind (arith, common_steps) in
+    let some : 0 < length line = grind (arith, common_steps) in
+    let front = rw c.without_line_feed-here.ensures at c.in-Some.ensures.front in
+    let utf8 : IsUtf8 line = text_if_read c.from_utf8.result line (λ (s : Bor (List ℕ)). s.now ≡ line) _ c.from_utf8.ensures.cases (sym c.is_err.ensures.value ∙ c.if-is_err.false) in
+    let start = rw c.without_line_feed-here.ensures at c.in-Some-place_for.ensures.start in
+    rw c.in_ok-push.ensures.items (line_more c.args.text.now c.args.file.now rest line c.in-Some.after.now c.lines.lines.items c.in-Some-place_for.place c.lines.invariant left
+    c.in-Some.ensures.plain front some utf8 start c.in-Some-place_for.ensures.size)
 
 pub lines-preserved : goal.lines-preserved
 lines-preserved c =
-    let text = c.args.text.now in
     let rest = c.lines.rest.now in
-    let line = c.in-Some.line.text.now in
-    let after = c.in-Some.line.rest.now in
-    let inv = c.lines.invariant in
-    elim c.if-not-is_empty.branch [
-      | then-not-is_empty+in_ok-pack_line+in_ok-push_field w ↦
-          let some : length line ≢ 0 = λ none. grind (arith, none, c.is_empty-in-lines.ensures, w.if-not-is_empty.true) in
-          let kept : fields_of w.push_field.new.self ≡ fields_of c.lines.records ++ w.pack_line.new.packed.items ∷ [] = rw (inv.whole, w.deref.ensures.value) at w.in_ok-push_field.ensures.fields in
-          rw w.records-is (record {
-            packed = rw kept (packed_line text rest line after (fields_of c.lines.records) w.pack_line.new.packed.items inv.packed c.in-Some.ensures.begins some w.in_ok-pack_line.ensures.fields w.in_ok-pack_line.ensures.packed_text w.in_ok-pack_line.ensures.text);
-            whole = w.in_ok-push_field.ensures.partial;
-          })
-      | else-not-is_empty w ↦
-          let none : length line ≡ 0 = grind (arith, c.is_empty-in-lines.ensures, w.if-not-is_empty.false) in
-          rw w.records-is (record { packed = empty_line text rest line after (fields_of c.lines.records) inv.packed c.in-Some.ensures.begins none; whole = inv.whole })
-    ]
+    let line = c.in-Some.line.now in
+    let left : 0 < length rest = grind (arith, common_steps) in
+    let none : length line ≡ 0 = grind (arith, common_steps) in
+    let front = rw c.without_line_feed-here.ensures at c.in-Some.ensures.front in
+    line_without c.args.text.now c.args.file.now rest line c.in-Some.after.now c.lines.lines.items c.lines.invariant left c.in-Some.ensures.plain front none

@@ -7,6 +7,7 @@ use Rattle.gtfs_text.specs.Packed.{packed_field}
 use Rattle.gtfs_text.specs.Sheets.{is_text, without_spaces}
 use Rattle.gtfs_text.proofs.CellFacts.{field_is, field_reached}
 use Rattle.gtfs_text.proofs.PackedFacts.{fits, fits_below, unpacked-packed, packed_more, all_more, kept_more, take_whole}
+use Rattle.gtfs_text.proofs.TrimFacts.{trimmed_field}
 use Rattle.gtfs_text.proofs.packed.pack.Goals as goal
 use Rattle.gtfs_text.proofs.packed.pack.Goals.{in-Some+in_ok-push_field, in_default}
 
@@ -18,9 +19,9 @@ loop-column-preserved c =
     elim c.match-get.branch [
       | in-Some+in_ok-push_field w ↦
           let is : w.in-Some.field.now ≡ get_or (fields_of c.args.row.now) c.loop-column.column [] = ap (λ (o : Option (List ℕ)). unwrap_or o []) w.in-Some.ensures.value ∙ field_is (fields_of c.args.row.now) c.loop-column.column in
-          let bytes : w.as_bytes.result.now ≡ without_spaces w.in-Some.field.now = w.as_bytes.ensures.value ∙ w.without_spaces.ensures in
+          let bytes : w.without_spaces.result.now ≡ without_spaces w.in-Some.field.now = w.without_spaces.ensures ∙ ap without_spaces w.as_bytes.ensures.value in
           let more = kept_more (fields_of c.args.row.now) c.loop-column.column w.in-Some.field.now within is in
-          let text : is_utf8 (without_spaces w.in-Some.field.now) ≡ true = is_utf8-from_IsUtf8 (without_spaces w.in-Some.field.now) (rw bytes at w.as_bytes.ensures.utf8) in
+          let text : is_utf8 (without_spaces w.in-Some.field.now) ≡ true = is_utf8-from_IsUtf8 (without_spaces w.in-Some.field.now) (trimmed_field w.in-Some.field.now (rw w.as_bytes.ensures.value at w.as_bytes.ensures.utf8)) in
           let small : fits (without_spaces w.in-Some.field.now) ≡ true = fits_below (without_spaces w.in-Some.field.now) (rw bytes at w.push_field.ensures.size) in
           let items : c.match-get.packed.items ≡ c.loop-column.packed.items ++ packed_field (without_spaces w.in-Some.field.now) = rw w.packed-is (w.in_ok-push_field.ensures.field ∙ ap (λ (xs : List ℕ). c.loop-column.packed.items ++ packed_field xs) bytes) in
           record {

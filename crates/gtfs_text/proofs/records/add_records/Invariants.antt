@@ -20,9 +20,9 @@ invariant-records l = record {
   packed_text : list_all is_text (map unpacked (fields_of l.records)) ≡ true;
   reached : (y : List ℕ) × (rows : List (List (List ℕ))) × (source_of (λ (r : UpToCommas). Some r.bytes.now) l.reader ≡ Some y)
       × Reached default_config st.StartRecord (text_left l.fn.reader) rows l.reader.state y
-      × (map unpacked (fields_of l.records) ≡ map unpacked (fields_of l.fn.records) ++ table_of rows)
+      × (map unpacked (fields_of l.records) ≡ table_of rows)
       × (list_all is_text rows ≡ true);
 }
 
 abbrev pub decreases-records : goal.decreases-records
-decreases-records l = (length (text_left l.fn.reader) + length (fields_of l.fn.records)) - length (fields_of l.records)
+decreases-records l = length (text_left l.fn.reader) - length (fields_of l.records)

@@ -1,5 +1,4 @@
 use Rattle.std.proofs.Common.{◌≡◌, ◌≤◌, ◌-◌, length, drop}
-use Rattle.std.specs.Str.{IsCharBoundary}
 use Rattle.gtfs_text.specs.Sheets.{without_front_spaces}
 use Rattle.gtfs_text.proofs.spaces.without_front.Given as goal
 
@@ -7,7 +6,6 @@ abbrev pub invariant-loop-start : goal.invariant-loop-start
 invariant-loop-start l = record {
   within : l.start ≤ length l.text;
   same : without_front_spaces (drop l.start l.text) ≡ without_front_spaces l.text;
-  boundary : IsCharBoundary l.text l.start;
 }
 
 abbrev pub decreases-loop-start : goal.decreases-loop-start

@@ -8,6 +8,6 @@ pub returns : goal.returns
 returns c =
     let width : c.self.inside.columns ≡ length (header_of c.args.self.now) = c.self.invariant.width ∙ ap (λ (t : Table). length (header_of t)) c.self.view_is in
     c.is_empty_in.ensures
-    ∙ ap (λ (fields : List (List ℕ)). list_all (λ field. length field == 0) (take c.self.inside.columns fields)) c.record.ensures.fields
+    ∙ ap (λ (fields : List (List ℕ)). list_all (λ field. length field == 0) (take c.self.inside.columns fields)) c.row.ensures.fields
     ∙ ap (λ (n : ℕ). list_all (λ field. length field == 0) (take n (get_or c.args.self.now c.args.row []))) width
     ∙ blank_is (get_or c.args.self.now c.args.row []) (length (header_of c.args.self.now))

@@ -1,0 +1,163 @@
+//! A row of a sheet, and its fields one by one.
+
+ghost use Rattle.std.specs.Prelude.{◌≡◌, ◌<◌, ◌==◌, true, [], ◌∷◌, length, map, take, get_or, MatchOption, IfOk, OnOk, IfSome};
+ghost use Rattle.std.specs.List.{list_all, position_from, position_or_len};
+ghost use Rattle.std.specs.Str.{bytes_eq};
+ghost use Rattle.csv.specs.Records.{fields_of};
+ghost use Rattle.gtfs_text.specs.Lines.{is_comma, line_at};
+ghost use Rattle.gtfs_text.specs.Rows.{fields_in, kept_table};
+ghost use Rattle.gtfs_text.specs.Sheets.{is_text};
+
+use crate::lines::Place;
+use crate::packed::split_field;
+use crate::spaces::without_spaces;
+use csv::ByteRecord;
+use std::alloc::{AllocError, Global};
+use std::str;
+
+/// A row, or what is left of it.
+#[derive(Clone, Copy)]
+pub(crate) enum Row<'a> {
+    /// A line without quotes, as it stands in the file.
+    Line(&'a [u8]),
+    /// A packed record.
+    Packed(&'a [u8]),
+}
+
+// The line at a place of a file.
+fn text_at(file: &[u8], place: Place) -> &[u8]
+    ensures { result.now ≡ line_at file.now place }
+{
+    let text = file.split_at(file.len().min(place.start as usize)).1;
+    text.split_at(text.len().min(place.size as usize)).0
+}
+
+/// The row of a number: one of the lines of a file, or of the packed records after them. One without fields if there is no such row.
+pub(crate) fn row_at<'a>(
+    file: &'a [u8],
+    lines: &[Place],
+    packed: &'a ByteRecord,
+    number: usize,
+) -> Row<'a>
+    ensures { fields_in result ≡ get_or (kept_table file.now lines.now (fields_of packed.now)) number [] }
+{
+    if number < lines.len() {
+        return Row::Line(text_at(file, lines[number]));
+    }
+    match packed.get(number - lines.len()) {
+        Some(packed) => Row::Packed(packed),
+        None => Row::Packed(b""),
+    }
+}
+
+// Where the first comma of a line is, or else its end.
+fn field_end(line: &[u8]) -> usize
+    ensures { result ≡ position_or_len is_comma line.now }
+{
+    for (at, byte) in line.iter().enumerate() {
+        if *byte == b',' {
+            return at;
+        }
+    }
+    line.len()
+}
+
+// The first field of a row, without the spaces round it, and the fields after it. None if it has no field.
+fn split_first(row: Row<'_>) -> Option<(&[u8], Row<'_>)>
+    ensures { MatchOption result (fields_in row.entry ≡ []) (λ parts. fields_in row.entry ≡ parts.0.now ∷ fields_in parts.1) }
+{
+    match row {
+        Row::Line(line) => {
+            let (field, rest) = line.split_at(field_end(line));
+            let after = match rest.split_first() {
+                Some((_, after)) => Row::Line(after),
+                None => Row::Packed(b""),
+            };
+            Some((without_spaces(field), after))
+        }
+        Row::Packed(packed) => {
+            if packed.is_empty() {
+                return None;
+            }
+            let (field, after) = split_field(packed);
+            Some((field, Row::Packed(after)))
+        }
+    }
+}
+
+/// The field in a column of a row; nothing if the row doesn't reach the column.
+pub(crate) fn field_at(row: Row<'_>, column: usize) -> &[u8]
+    ensures { result.now ≡ get_or (fields_in row.entry) column [] }
+{
+    let mut rest = row;
+    let mut before = column;
+    'fields: while let Some((field, after)) = split_first(rest) {
+        if before == 0 {
+            return field;
+        }
+        before -= 1;
+        rest = after;
+    }
+    b""
+}
+
+/// The fields of a row of text, in place of what `fields` held.
+pub(crate) fn put_fields<'a>(row: Row<'a>, fields: &mut Vec<&'a str>) -> Result<(), AllocError>
+    requires { is_text (fields_in row) ≡ true }
+    ensures { OnOk result (map (λ field. field.now) fields.new.items ≡ fields_in row.entry) }
+{
+    fields.clear();
+    let mut rest = row;
+    'fields: while let Some((field, after)) = split_first(rest) {
+        // The row is text, and so is each field of it.
+        fields.push(unsafe { str::from_utf8_unchecked(field) })?;
+        rest = after;
+    }
+    Ok(())
+}
+
+/// The number of fields of a row of text.
+pub(crate) fn field_count(alloc: Global, row: Row<'_>) -> Result<usize, AllocError>
+    requires { is_text (fields_in row) ≡ true }
+    ensures { IfOk result (λ count. count ≡ length (fields_in row.entry)) }
+{
+    let mut fields = Vec::new(alloc);
+    put_fields(row, &mut fields)?;
+    Ok(fields.len())
+}
+
+/// The first field of a row of this many fields that is this text, by its column.
+pub(crate) fn position_of(row: Row<'_>, columns: usize, text: &str) -> Option<usize>
+    requires { columns ≡ length (fields_in row) }
+    ensures value { result ≡ position_from (λ field. bytes_eq field text.now) 0 (fields_in row.entry) }
+    ensures within { IfSome result (λ column. column < length (fields_in row.entry)) }
+{
+    let mut rest = row;
+    for column in 0..columns {
+        let Some((field, after)) = split_first(rest) else {
+            return None;
+        };
+        if field == text.as_bytes() {
+            return Some(column);
+        }
+        rest = after;
+    }
+    None
+}
+
+/// Whether each of the first fields of a row is empty: as many as there are columns.
+pub(crate) fn is_empty_in(row: Row<'_>, columns: usize) -> bool
+    ensures { result ≡ list_all (λ field. length field == 0) (take columns (fields_in row.entry)) }
+{
+    let mut rest = row;
+    'columns: for _ in 0..columns {
+        let Some((field, after)) = split_first(rest) else {
+            return true;
+        };
+        if !field.is_empty() {
+            return false;
+        }
+        rest = after;
+    }
+    true
+}
