@@ -1,5 +1,5 @@
 -- The texts between the commas of a line, one after the other.
-use Rattle.std.proofs.Common.{◌≡◌, ℕ, zero, suc, ◌+◌, ◌<◌, ◌≤◌, true, false, List, [], ◌∷◌, length, get_or, refl, arith, nat_lt, IsUtf8}
+use Rattle.std.proofs.Common.{◌≡◌, ℕ, zero, suc, ◌+◌, ◌<◌, ◌≤◌, true, false, List, length, get_or, refl, arith, nat_lt, IsUtf8}
 use Rattle.std.specs.List.{All, position_or_len, before_first, after_first}
 use Rattle.std.specs.Str.{IsCharBoundary, is_utf8}
 use Rattle.std.proofs.lemmas.Bool.{ltb-true}

@@ -1,15 +1,17 @@
 -- The records of lines where they stand in a file.
-use Rattle.std.proofs.Common.{◌≡◌, ◌⊎◌, inl, inr, ℕ, zero, suc, ◌+◌, ◌-◌, ◌<◌, ◌≤◌, true, false, Bool, List, [], ◌∷◌, ◌++◌, length, take, drop, map, refl, arith, sym, ◌∙◌, ap, append_assoc, length-append, cond, nat_eq, nat_lt, IsUtf8}
+use Rattle.std.proofs.Common.{◌≡◌, inl, inr, ℕ, zero, suc, ◌+◌, ◌-◌, ◌<◌, ◌≤◌, true, false, List, [], ◌∷◌, ◌++◌, length, take, drop, refl, arith, sym, ◌∙◌, ap, append_assoc, length-append, cond, nat_eq, nat_le, IsUtf8}
 use Rattle.std.specs.Prelude.{Result, Ok, Err, MatchResult, is_err}
 use Rattle.std.specs.List.{list_all}
 use Rattle.std.proofs.Math.Seq.{take-append_seam, drop-append_seam}
-use Rattle.std.proofs.lemmas.List.{append-nil, map-append}
+use Rattle.std.proofs.lemmas.List.{drop-take, map-append}
+use Rattle.std.proofs.lemmas.Bool.{leb-true, le-leb}
 use Rattle.std.proofs.lemmas.List.Folds.{list_all-append}
 use Rattle.csv.specs.Reading.{records, default_config}
 use Rattle.gtfs_text.specs.Lines.{AreLines, EndsWith, IsFrontLine, between_commas, is_plain, line_at, records_in, rows_at, without_line_feed}
 use Rattle.gtfs_text.specs.Sheets.{is_text}
 use Rattle.gtfs_text.specs.declared.lines.Place.{Place}
 use Rattle.gtfs_text.proofs.CommaFacts.{between_is_text}
+use Rattle.gtfs_text.proofs.TestFacts.{both}
 use Rattle.gtfs_text.proofs.LineFacts.{feed_gone, front_records, rest_is_no_mark, rest_shorter}
 
 -- what was found to be UTF-8 is a text
@@ -63,6 +65,45 @@ line_stands file here line after place ends front start size =
     let whole = ap length ends.whole ∙ length-append ends.front here in
     between file ends.front line (tail.0 ++ after) place.start place.size (ends.whole ∙ ap (λ (xs : List ℕ). ends.front ++ xs) tail.1) (omega (arith, whole, start)) size
 
+-- places that lie before one place lie before a later one
+later : (most more : ℕ) (places : List Place) → most ≤ more → list_all (λ place. nat_le (place.start + place.size) most) places ≡ true
+    → list_all (λ place. nat_le (place.start + place.size) more) places ≡ true
+later most more [] up all = refl
+later most more (p ∷ ps) up all =
+    let each = both (nat_le (p.start + p.size) most) (list_all (λ (place : Place). nat_le (place.start + place.size) most) ps) all in
+    let here : nat_le (p.start + p.size) more ≡ true = le-leb (p.start + p.size) more (omega (arith, leb-true (p.start + p.size) most each.0, up)) in
+    rw here (later most more ps up each.1)
+
+-- the bytes before that place have the same lines
+take_within : (size n : ℕ) (xs : List ℕ) → size ≤ n → take size (take n xs) ≡ take size xs
+take_within zero n xs within = refl
+take_within (suc size) zero xs within = absurd (omega (arith, within))
+take_within (suc size) (suc n) [] within = refl
+take_within (suc size) (suc n) (x ∷ xs) within = ap (λ (ys : List ℕ). x ∷ ys) (take_within size n xs (omega (arith, within)))
+
+same_line : (most : ℕ) (file : List ℕ) (place : Place) → place.start + place.size ≤ most → line_at (take most file) place ≡ line_at file place
+same_line most file place within =
+    let split : most ≡ place.start + (most - place.start) = omega (arith, within) in
+    ap (λ (n : ℕ). take place.size (drop place.start (take n file))) split
+    ∙ ap (λ (xs : List ℕ). take place.size xs) (drop-take place.start (most - place.start) file)
+    ∙ take_within place.size (most - place.start) (drop place.start file) (omega (arith, within))
+
+pub same_rows : (most : ℕ) (file : List ℕ) (places : List Place) → list_all (λ place. nat_le (place.start + place.size) most) places ≡ true
+    → rows_at (take most file) places ≡ rows_at file places
+same_rows most file [] all = refl
+same_rows most file (p ∷ ps) all =
+    let each = both (nat_le (p.start + p.size) most) (list_all (λ (place : Place). nat_le (place.start + place.size) most) ps) all in
+    rw (same_line most file p (leb-true (p.start + p.size) most each.0), same_rows most file ps each.1) refl
+
+-- a line ends before the rest begins
+line_before : (file here line after : List ℕ) (place : Place) → EndsWith file here → IsFrontLine here line after → place.start ≡ length file - length here
+    → place.size ≡ length line → place.start + place.size ≤ length file - length after
+line_before file here line after place ends front start size =
+    let tail = tail_of here line after front in
+    let whole = ap length ends.whole ∙ length-append ends.front here in
+    let parts = ap length tail.1 ∙ length-append line (tail.0 ++ after) in
+    omega (arith, whole, parts, length-append tail.0 after, start, size)
+
 -- one more line with a record
 pub line_more : (text file rest line after : List ℕ) (places : List Place) (place : Place) → AreLines text file places rest → 0 < length rest
     → list_all is_plain line ≡ true → IsFrontLine (without_line_feed rest) line after → 0 < length line → IsUtf8 line
@@ -84,6 +125,11 @@ line_more text file rest line after places place before left plain front some ut
       utf8 = rw (rows, list_all-append is_text (rows_at file places) (between_commas line ∷ []), before.utf8, between_is_text line utf8) refl;
       no_mark = rest_is_no_mark here line after front;
       end = after_ends file here line after ends front;
+      before = rw (
+        list_all-append (λ (p : Place). nat_le (p.start + p.size) (length file - length after)) places (place ∷ []),
+        later (length file - length rest) (length file - length after) places (omega (arith, shorter)) before.before,
+        le-leb (place.start + place.size) (length file - length after) (line_before file here line after place ends front start size),
+      ) refl;
       few = omega (arith, shorter, before.few, length-append places (place ∷ []));
     }
 
@@ -101,5 +147,6 @@ line_without text file rest line after places before left plain front none =
       utf8 = before.utf8;
       no_mark = rest_is_no_mark here line after front;
       end = after_ends file here line after (here_ends file rest before.end) front;
+      before = later (length file - length rest) (length file - length after) places (omega (arith, shorter)) before.before;
       few = omega (arith, shorter, before.few);
     }

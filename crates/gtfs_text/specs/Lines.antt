@@ -1,6 +1,6 @@
 -- Lines of a file that have no quotes: commas part their fields (RFC 4180, section 2, rules 1 to 4; GTFS Schedule reference, "File
 -- requirements").
-use Rattle.std.specs.Prelude.{◌≡◌, ◌⊎◌, ◌≤◌, ◌+◌, Bool, true, not, ℕ, List, [], ◌∷◌, ◌++◌, length, take, drop, map, if◌then◌else◌, ◌==◌, ◌||◌}
+use Rattle.std.specs.Prelude.{◌≡◌, ◌⊎◌, ◌≤◌, ◌+◌, ◌-◌, Bool, true, not, ℕ, List, [], ◌∷◌, ◌++◌, length, take, drop, map, nat_le, if◌then◌else◌, ◌==◌, ◌||◌}
 use Rattle.std.specs.List.{list_all, slice_split}
 use Rattle.csv.specs.Reading.{records, default_config, strip_bom}
 use Rattle.gtfs_text.specs.Sheets.{is_text}
@@ -47,10 +47,11 @@ pub record EndsWith (file text : List ℕ) : Type 0 where
   pub whole : file ≡ front ++ text
 
 -- the first records of a text, all UTF-8, are those of the lines at these places of a file; its other records are those of the rest, with
--- which the file ends, and which doesn't begin with a mark
+-- which the file ends, which comes after the lines, and which doesn't begin with a mark
 pub record AreLines (text file : List ℕ) (places : List Place) (rest : List ℕ) : Type 0 where
   pub whole : records default_config text ≡ rows_at file places ++ records default_config rest
   pub utf8 : list_all is_text (rows_at file places) ≡ true
   pub no_mark : strip_bom rest ≡ rest
   pub end : EndsWith file rest
+  pub before : list_all (λ place. nat_le (place.start + place.size) (length file - length rest)) places ≡ true
   pub few : length places + length rest ≤ length file

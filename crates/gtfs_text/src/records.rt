@@ -1,6 +1,6 @@
 //! The records of a file, one by one.
 
-ghost use Rattle.std.specs.Prelude.{◌≡◌, ◌<◌, ◌≤◌, ◌+◌, ◌^◌, true, [], length, map, None, OnOk, IfOk, IfErr};
+ghost use Rattle.std.specs.Prelude.{◌≡◌, ◌<◌, ◌≤◌, ◌+◌, ◌^◌, true, [], length, take, map, None, OnOk, IfOk, IfErr};
 ghost use Rattle.std.specs.List.{list_all};
 ghost use Rattle.csv.specs.Reading.{default_config, error_kind, records, strip_bom};
 ghost use Rattle.csv.specs.Records.{fields_of, partial_of};
@@ -98,20 +98,21 @@ fn packed_records(alloc: Global, text: &[u8], before: usize) -> Result<ByteRecor
     Ok(records)
 }
 
-/// The records of a file: the places of its plain lines, and the other records, packed. From the first line on that isn't plain, a reader of
-/// CSV reads them.
+/// The records of a file: the places of its plain lines, how many bytes these lines take with all that stands before and between them, and
+/// the other records, packed. From the first line on that isn't plain, a reader of CSV reads them.
 pub(crate) fn kept_records(
     alloc: Global,
     file: &[u8],
-) -> Result<(Vec<Place>, ByteRecord), SheetFault>
-    ensures records { IfOk result (λ kept. kept_table file.now kept.0.items (fields_of kept.1) ≡ table_of (records_of file.now)) }
-    ensures few { IfOk result (λ kept. length kept.0.items + length (fields_of kept.1) ≤ length file.now) }
-    ensures table_text { IfOk result (λ kept. list_all is_text (kept_table file.now kept.0.items (fields_of kept.1)) ≡ true) }
+) -> Result<(Vec<Place>, usize, ByteRecord), SheetFault>
+    ensures records { IfOk result
+        (λ kept. kept_table (take kept.1 file.now) kept.0.items (fields_of kept.2) ≡ table_of (records_of file.now)) }
+    ensures table_text { IfOk result (λ kept. list_all is_text (kept_table (take kept.1 file.now) kept.0.items (fields_of kept.2)) ≡ true) }
+    ensures few { IfOk result (λ kept. length kept.0.items + length (fields_of kept.2) ≤ length file.now) }
     ensures text { OnOk result (bad_record (records_of file.now) ≡ None) }
     ensures fault { IfErr result (Explains (records_of file.now)) }
 {
     let mut lines = Vec::new(alloc);
     let rest = add_plain_lines(file, after_marks(file), &mut lines)?;
     let packed = packed_records(alloc, rest, lines.len())?;
-    Ok((lines, packed))
+    Ok((lines, file.len() - rest.len(), packed))
 }

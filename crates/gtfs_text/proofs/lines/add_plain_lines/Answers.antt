@@ -1,6 +1,5 @@
-use Rattle.std.proofs.Common.{◌≡◌, ◌∙◌, ◌<◌, List, ℕ, Bor, false, length, sym, arith, IsUtf8}
+use Rattle.std.proofs.Common.{◌≡◌, ◌∙◌, ◌<◌, List, ℕ, Bor, length, sym, arith, IsUtf8}
 use Rattle.std.proofs.lemmas.Grind.{common_steps}
-use Rattle.gtfs_text.specs.Lines.{IsFrontLine, without_line_feed}
 use Rattle.gtfs_text.proofs.LinePlaces.{line_more, line_without, text_if_read}
 use Rattle.gtfs_text.proofs.lines.add_plain_lines.Goals as goal
 

@@ -1,4 +1,4 @@
-use Rattle.std.proofs.Common.{◌≡◌, true, map, [], ◌++◌, List, ℕ, Some, ◌+◌, ◌-◌, length}
+use Rattle.std.proofs.Common.{◌≡◌, true, map, [], List, ℕ, Some, ◌-◌, length}
 use Rattle.std.specs.List.{list_all}
 use Rattle.csv.specs.Reading.{Reached, Ready, default_config, source_of}
 use Rattle.csv.specs.Records.{fields_of, partial_of}

@@ -1,5 +1,5 @@
-use Rattle.std.proofs.Common.{◌≡◌, ◌∙◌, ap, [], List, ℕ}
-use Rattle.std.specs.Prelude.{Option, unwrap_or, ◌-◌}
+use Rattle.std.proofs.Common.{◌∙◌, ap, [], List, ℕ}
+use Rattle.std.specs.Prelude.{Option, unwrap_or}
 use Rattle.csv.specs.Records.{fields_of}
 use Rattle.gtfs_text.proofs.CellFacts.{row_is, field_is}
 use Rattle.gtfs_text.proofs.RowFacts.{line_row, packed_row}

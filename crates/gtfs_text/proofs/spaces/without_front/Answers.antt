@@ -1,4 +1,4 @@
-use Rattle.std.proofs.Common.{◌∙◌, refl, arith}
+use Rattle.std.proofs.Common.{◌∙◌, arith}
 use Rattle.gtfs_text.proofs.SpaceFacts.{more_front, front_at, front_at_end}
 use Rattle.gtfs_text.proofs.spaces.without_front.Goals as goal
 use Rattle.gtfs_text.proofs.spaces.without_front.Goals.{then-loop-start-test+else-text-start-eq32, else-loop-start-test}
