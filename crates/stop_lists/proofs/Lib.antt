@@ -1,2 +1,3 @@
 pub mod MarkFacts
 pub mod ListFacts
+pub mod PlaceFacts

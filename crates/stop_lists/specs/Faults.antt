@@ -1,5 +1,6 @@
--- The lines by which `tp` reports that a file of stops isn't read.
+-- The lines by which `tp` reports that a file of stops isn't read, and where an id stands in one.
 use Rattle.std.specs.Prelude.{ℕ, List, [], ◌∷◌, ◌++◌, codes}
+use Rattle.std.specs.Fmt.{decimal}
 use Rattle.shown_ids.specs.Shown.{shown}
 use Rattle.stop_lists.specs.declared.fault.ListFault.{ListFault}
 use Rattle.stop_lists.specs.declared.fault.ListFault.TheVariants as faults
@@ -22,3 +23,7 @@ advice_text faults.Memory = OUT_OF_MEMORY.now
 -- the program's name with the fault and the file, and a line beneath it that says what to do
 abbrev pub fault_lines : List ℕ → ListFault → List ℕ
 fault_lines path fault = codes "tp: " ++ (fault_text fault ++ (32 ∷ (shown path ++ (10 ∷ (advice_text fault ++ 10 ∷ [])))))
+
+-- the file, and the number of its line
+abbrev pub place_line : List ℕ → ℕ → List ℕ
+place_line path n = codes "given: " ++ (shown path ++ (codes " line " ++ (decimal n ++ 10 ∷ [])))

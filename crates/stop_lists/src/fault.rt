@@ -1,7 +1,7 @@
-//! Why a file of stops isn't read.
+//! Why a file of stops isn't read, and where an id stands in one.
 
 ghost use Rattle.std.specs.Prelude.{◌≡◌, Some};
-ghost use Rattle.stop_lists.specs.Faults.{advice_text, fault_lines, fault_text};
+ghost use Rattle.stop_lists.specs.Faults.{advice_text, fault_lines, fault_text, place_line};
 
 use shown_ids::Shown;
 use std::fmt;
@@ -70,5 +70,21 @@ impl fmt::Display for ListFaultLines<'_> {
         let (text, advice) = (self.fault.text(), self.fault.advice());
         writeln!(f, "tp: {text} {}", Shown(self.path))?;
         writeln!(f, "{advice}")
+    }
+}
+
+/// Where an id stands in the file of a path, as `tp` prints it on standard error: a line with the path and the number of a line of the file,
+/// counted from 1.
+#[derive(Clone, Copy, Debug)]
+pub struct PlaceLine<'a> {
+    pub path: &'a str,
+    pub line: usize,
+}
+
+impl fmt::Display for PlaceLine<'_> {
+    ghost output = { λ place. Some (place_line place.path.now place.line) };
+
+    fn fmt<W: fmt::Write>(&self, f: &mut fmt::Formatter<W>) -> fmt::Result {
+        writeln!(f, "given: {} line {}", Shown(self.path), self.line)
     }
 }

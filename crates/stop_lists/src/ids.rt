@@ -1,10 +1,10 @@
-//! The ids that a file lists.
+//! The ids that a file lists, and the lines that they stand on.
 
-ghost use Rattle.std.specs.Prelude.{◌≡◌, ◌==◌, not, IfErr, IfOk, MatchBool, filter, length, map};
+ghost use Rattle.std.specs.Prelude.{◌≡◌, ◌==◌, not, Contains, IfErr, IfNone, IfOk, IfSome, MatchBool, filter, length, map};
 ghost use Rattle.std.specs.Str.{IsUtf8};
 ghost use Rattle.std.specs.Str.Lines.{lines};
 ghost use Rattle.csv.specs.Reading.{strip_bom};
-ghost use Rattle.stop_lists.specs.Lists.{Explains, ids_in};
+ghost use Rattle.stop_lists.specs.Lists.{Explains, IsLineOf, ids_in};
 
 use crate::fault::ListFault;
 use std::alloc::{AllocError, Global};
@@ -62,4 +62,17 @@ pub fn ids_of(alloc: Global, bytes: &[u8]) -> Result<Vec<&str>, ListFault>
     };
     drop_empty(&mut ids);
     Ok(ids)
+}
+
+/// The number of the first line that is the id, in a file of these bytes; empty lines count too. None if the file doesn't list the id, or
+/// isn't UTF-8. It takes no memory.
+pub fn line_of(bytes: &[u8], id: &str) -> Option<usize>
+    ensures line { IfSome result (IsLineOf bytes.now id.now) }
+    ensures none { IfNone result (IsUtf8 (strip_bom bytes.now) → ¬ Contains (ids_in bytes.now) id.now) }
+{
+    let Ok(text) = str::from_utf8(after_mark(bytes)) else {
+        return None;
+    };
+    let before = text.lines().position(|line| line == id)?;
+    Some(before + 1)
 }

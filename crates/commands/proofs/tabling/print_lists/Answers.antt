@@ -1,5 +1,5 @@
 use Rattle.std.proofs.Common.{◌∙◌, ℕ, List, Option, Bor, map, ap, inl, inr, refl, subst, sym}
-use Rattle.commands.specs.Matrices.{IsWindow}
+use Rattle.commands.specs.Matrices.{AreListed, IsWindow}
 use Rattle.commands.proofs.tabling.print_lists.Goals as goal
 
 pub returns-in-Err : goal.returns-in-Err
@@ -21,16 +21,17 @@ returns g c = λ from to.
     let window = subst (λ (first : Option ℕ). IsWindow basis question question.within first asked.last) (sym c.new-asked.ensures.first)
     (subst (λ (last : Option ℕ). IsWindow basis question question.within c.window_of-first.result.0 last) (sym c.new-asked.ensures.last)
     c.window_of-first.ensures) in
+    let listed : AreListed c.args.lists.now.from.now c.args.lists.now.to.now asked = record {
+      origins = ap (map now) (c.new-asked.ensures.origins ∙ c.deref.ensures.value) ∙ c.in-Ok.ensures.ids;
+      goals = ap (map now) (c.new-asked.ensures.goals ∙ c.deref-2.ensures.value) ∙ c.in-Ok-ids_of.ensures.ids;
+    } in
     inr (inr (
       from,
       to,
       (
         asked,
-        record {
-          origins = ap (map now) (c.new-asked.ensures.origins ∙ c.deref.ensures.value) ∙ c.in-Ok.ensures.ids;
-          goals = ap (map now) (c.new-asked.ensures.goals ∙ c.deref-2.ensures.value) ∙ c.in-Ok-ids_of.ensures.ids;
-        },
+        listed,
         window,
-        c.print_table.ensures,
+        c.print_table.ensures from to listed,
       ),
     ))
