@@ -9,7 +9,7 @@ use Rattle.pattern_query.specs.Leaving.{walked, on_foot}
 
 -- q is a journey between the stops of p that leaves no earlier, with the numbers of p; and no journey with these that leaves no earlier
 -- than p walks less
-pub record WalksLeast (table : Table) (p q : PointData) : Type 0 where
+pub record IsLeastLike (table : Table) (p q : PointData) : Type 0 where
   pub is : IsJourney table p.from p.to p.departure q
   pub alike : numbers q ≡ numbers p
   pub least : (o : PointData) → IsJourney table p.from p.to p.departure o → numbers o ≡ numbers p → on_foot table q ≤ on_foot table o

@@ -8,7 +8,7 @@ ghost use Rattle.timetable.specs.Journeys.{Reaches, Unbeaten};
 ghost use Rattle.rounds.specs.Scratch.{IsMadeFor, IsAlike, rides_of};
 ghost use Rattle.pattern_query.specs.Answer.{numbers, IsJourney};
 ghost use Rattle.pattern_query.specs.Leaving.{walked, on_foot};
-ghost use Rattle.least_walks.specs.Least.{WalksLeast, IsPathLike};
+ghost use Rattle.least_walks.specs.Least.{IsLeastLike, IsPathLike};
 
 use crate::feet::walk_of;
 use crate::search::shorter_path;
@@ -82,7 +82,7 @@ pub fn least_walk(
     requires is { IsJourney network.now point.now.from point.now.to point.now.departure point.now }
     requires best { Unbeaten (Reaches network.now 0 (rides_of scratch.old) point.now.from point.now.to point.now.departure) (numbers point.now) }
     ensures same { IsAlike scratch.old scratch.new }
-    ensures least { IfOk result (WalksLeast network.now point.now) }
+    ensures least { IfOk result (IsLeastLike network.now point.now) }
 {
     let bound = walk_of(network, point);
     if bound == 0 || point.rides() == 0 {

@@ -10,7 +10,7 @@ use Rattle.direct_connections.proofs.LatestFacts.{departs_early}
 use Rattle.pattern_query.specs.Answer.{PointData, numbers, IsJourney}
 use Rattle.pattern_query.specs.Leaving.{LeavesLast}
 use Rattle.pattern_query.proofs.LastSteps.{best_later, ridden_later}
-use Rattle.least_walks.specs.Least.{WalksLeast}
+use Rattle.least_walks.specs.Least.{IsLeastLike}
 use Rattle.scanned_journeys.specs.Latest.{IsLastLike}
 
 -- a journey is one at its own departure
@@ -73,7 +73,7 @@ module _ (table : Table) (k s t d : ℕ) (p last : PointData) (best : Unbeaten (
         early_ride table s last.departure last.legs t last.arrival valid some like.is.in_time
   ]
 
-  module _ (q : PointData) (least : WalksLeast table last q) where
+  module _ (q : PointData) (least : IsLeastLike table last q) where
     in_time : Journey table s q.departure q.legs t q.arrival
     in_time = subst (λ (s : ℕ). Journey table s q.departure q.legs t q.arrival) like.is.starts (subst (λ (t : ℕ). Journey table last.from q.departure q.legs t q.arrival) like.is.ends least.is.in_time)
 
