@@ -1,3 +1,4 @@
 pub mod FewFacts
 pub mod ScanFacts
 pub mod LatestFacts
+pub mod LeastFacts

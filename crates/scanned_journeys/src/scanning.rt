@@ -3,7 +3,7 @@
 ghost use Rattle.std.specs.Prelude.{◌≤◌, ◌<◌, IfOk, map};
 ghost use Rattle.std.specs.List.{All};
 ghost use Rattle.pattern_query.specs.Answer.{numbers, IsJourney};
-ghost use Rattle.pattern_query.specs.Leaving.{IsLatest};
+ghost use Rattle.pattern_query.specs.Leaving.{IsLatest, LeavesLast};
 ghost use Rattle.timetable.specs.Front.{AreFront};
 ghost use Rattle.timetable.specs.Journeys.{Reaches};
 ghost use Rattle.timetable.specs.Table.{stops_of};
@@ -13,6 +13,7 @@ ghost use Rattle.rounds.specs.Scratch.{rounds_of};
 use crate::latest::latest_like;
 use crate::patterns::patterns_to;
 use direct_connections::Network;
+use least_walks::least_walk;
 use pattern_query::{Answer, ask};
 use rounds::{RoundView, Scratch};
 use std::alloc::{AllocError, Global};
@@ -42,11 +43,12 @@ pub fn journeys_of(
 
 /// The best journeys from a stop to a stop at a moment of at most `LATEST_MOMENT`, by rising rides: one for each of the best
 /// numbers over all journeys of at most `rides` rides, the way on foot among them, with its rides. No journey with the same numbers leaves
-/// later.
+/// later, and none that leaves as late walks less.
 ///
 /// The rounds find the numbers (RAPTOR), and the pattern of a journey that has them; along each such pattern the earliest rides are
 /// taken (Transfer Patterns). For each journey with a ride it runs the rounds once more at the first event after its departure, and again
-/// if one can leave then. All runs are of one scratch. It fails only where memory runs out.
+/// if one can leave then. If the one that leaves last walks, one that walks less is sought. All runs are of one scratch. It fails only if
+/// memory runs out.
 pub fn scan_journeys(
     alloc: Global,
     network: &Network,
@@ -61,6 +63,7 @@ pub fn scan_journeys(
     ensures journeys { IfOk result (λ answer. All (IsJourney network.now from to depart) answer) }
     ensures best { IfOk result (λ answer. AreFront network.now rides from to depart (map numbers answer)) }
     ensures latest { IfOk result (λ answer. All (IsLatest (Reaches network.now 0 rides from to)) answer) }
+    ensures last { IfOk result (λ answer. All (LeavesLast network.now (IsJourney network.now from to depart)) answer) }
 {
     let table = network.timetable();
     let lines = Arc::try_clone(network.shared_lines())?;
@@ -71,7 +74,8 @@ pub fn scan_journeys(
     for index in 0..answer.points().len() {
         let point = &answer.points()[index];
         let last = latest_like(alloc, network, &mut scratch, &events, from, to, point)?;
-        answer.put(index, last);
+        let least = least_walk(alloc, network, &mut scratch, &last)?;
+        answer.put(index, least);
     }
     Ok(answer)
 }

@@ -3,7 +3,7 @@ use Rattle.std.specs.List.{All}
 use Rattle.timetable.specs.Journeys.{Reaches}
 use Rattle.rounds.specs.Scratch.{IsMadeFor, rides_of}
 use Rattle.pattern_query.specs.Answer.{PointData, numbers, IsJourney}
-use Rattle.pattern_query.specs.Leaving.{IsLatest}
+use Rattle.pattern_query.specs.Leaving.{IsLatest, LeavesLast}
 use Rattle.scanned_journeys.proofs.scanning.scan_journeys.Given as goal
 
 abbrev pub invariant-loop-index : goal.invariant-loop-index
@@ -13,4 +13,5 @@ invariant-loop-index l = record {
   journeys : All (IsJourney l.network l.from l.to l.depart) l.answer;
   alike : map numbers l.answer ≡ map numbers l.initial.answer;
   latest : (i : ℕ) (p : PointData) → i < l.index → IsLatest (Reaches l.network 0 l.fn.rides l.from l.to) (get_or l.answer i p);
+  last : (i : ℕ) (p : PointData) → i < l.index → LeavesLast l.network (IsJourney l.network l.from l.to l.depart) (get_or l.answer i p);
 }
