@@ -80,11 +80,12 @@ last_asked table held froms tos d points are last latest = λ i p lt. record {
 pub single_point : (table : Table) (s t d : ℕ) (p : PointData) → IsJourney table s t d p → IsPointBetween table (s ∷ []) (t ∷ []) d p
 single_point table s t d p h = (s, t, contains_one s, contains_one t, h)
 
--- none between two single stops leaves later
-pub single_last : (table : Table) (k s t d : ℕ) (p : PointData) → IsJourney table s t d p → IsLatest (Reaches table 0 k s t) p
-    → IsLastBetween table k (s ∷ []) (t ∷ []) d p
-single_last table k s t d p h latest = record {
+-- none between two single stops leaves later, and none that leaves as late walks less
+pub single_last : (table : Table) (k s t d : ℕ) (p : PointData) → IsJourney table s t d p → LeavesLast table (IsJourney table s t d) p
+    → IsLatest (Reaches table 0 k s t) p → IsLastBetween table k (s ∷ []) (t ∷ []) d p
+single_last table k s t d p h last latest = record {
   is = single_point table s t d p h;
+  last = λ q of same. last q (subst₂ (λ x y. IsJourney table x y d q) (sym (is_one s of.0 of.2)) (sym (is_one t of.1 of.3)) of.4) same;
   latest = λ e of. latest e (between_reaches table k s t e (numbers p) of);
 }
 
