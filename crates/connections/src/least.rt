@@ -27,9 +27,10 @@ fn with_least(
     ensures same { IsAlike scratch.old scratch.new }
     ensures least { IfOk result (WalksLeastFor network.now connection.now) }
 {
+    let least = least_walk(alloc, network, scratch, &connection.journey)?;
     Ok(Connection {
         departure: connection.departure,
-        journey: least_walk(alloc, network, scratch, &connection.journey)?,
+        journey: least,
     })
 }
 

@@ -13,5 +13,5 @@ least_walk-requires-clause-best c = own_best c.args.network.now (rides_of c.args
 
 pub returns-clause-least : goal.returns-clause-least
 returns-clause-least c =
-    least_for c.args.network.now (rides_of c.args.scratch.now) c.args.connection.now c.requires.is c.in_ok-least_walk.field-0
-    c.in_ok-least_walk.ensures.least
+    least_for c.args.network.now (rides_of c.args.scratch.now) c.args.connection.now c.requires.is c.in_ok-least.least
+    c.in_ok-least.ensures.least
