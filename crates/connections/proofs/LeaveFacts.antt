@@ -11,7 +11,7 @@ use Rattle.connections.specs.declared.connection.Window.{Window}
 use Rattle.connections.specs.Connections.{Connects, IsConnection, LeavesThen}
 
 -- one can't leave later for a connection, and its journey is one at its departure
-leaves_then : (Of : ℕ → Numbers → Type 0) (d : ℕ) (p : PointData) → Connects Of d (numbers p) → d ≤ p.departure → Of p.departure (numbers p) → p.departure ≡ d
+pub leaves_then : (Of : ℕ → Numbers → Type 0) (d : ℕ) (p : PointData) → Connects Of d (numbers p) → d ≤ p.departure → Of p.departure (numbers p) → p.departure ≡ d
 leaves_then Of d p is after of = elim (cases_lt d p.departure) [
   | inl lt ↦ absurd (is.last p.departure (numbers p) lt is.ridden (le_refl p.rides) (le_refl p.arrival) of)
   | inr le ↦ omega (arith, le, after)

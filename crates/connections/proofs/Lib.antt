@@ -6,3 +6,4 @@ pub mod TreeFacts
 pub mod FirstFacts
 pub mod MomentFacts
 pub mod LeaveFacts
+pub mod LeastFacts

@@ -4,9 +4,9 @@
 use Rattle.std.specs.Prelude.{◌≡◌, ℕ, ◌<◌, ◌≤◌, ◌⊎◌, List, length}
 use Rattle.std.specs.List.{All, AllPairs, Contains}
 use Rattle.timetable.specs.declared.parts.Numbers.{Numbers}
-use Rattle.timetable.specs.Journeys.{Unbeaten}
+use Rattle.timetable.specs.Journeys.{Reaches, Unbeaten}
 use Rattle.timetable.specs.Table.{Table}
-use Rattle.pattern_query.specs.Answer.{numbers}
+use Rattle.pattern_query.specs.Answer.{numbers, IsJourney}
 use Rattle.pattern_query.specs.Leaving.{LeavesLast}
 use Rattle.pattern_query.specs.Questions.{Held, IsAskedPoint}
 use Rattle.connections.specs.declared.connection.Connection.{Connection}
@@ -36,6 +36,24 @@ LeavesThen c = c.journey.departure ≡ c.departure
 -- walks least
 abbrev pub WalksLeast : Table → Held → List ℕ → List ℕ → Connection → Type 0
 WalksLeast table held froms tos c = LeavesLast table (IsAskedPoint table held froms tos c.departure) c.journey
+
+-- e departs with c, and has its numbers
+abbrev pub IsLike : Connection → Connection → Type 0
+IsLike c e = (e.departure ≡ c.departure) × (numbers e.journey ≡ numbers c.journey)
+
+-- it is a connection of all journeys of at most k rides between its stops, and its journey is one of them
+pub record IsScanned (table : Table) (k : ℕ) (c : Connection) : Type 0 where
+  pub is : IsJourney table c.journey.from c.journey.to c.departure c.journey
+  pub then : LeavesThen c
+  pub connects : Connects (Reaches table 0 k c.journey.from c.journey.to) c.departure (numbers c.journey)
+
+-- e is like c, and between the same stops; of all journeys at its departure or later with its numbers, its journey leaves last, and of
+-- those that leave as late it walks least
+pub record WalksLeastFor (table : Table) (c e : Connection) : Type 0 where
+  pub like : IsLike c e
+  pub is : IsJourney table c.journey.from c.journey.to c.departure e.journey
+  pub then : LeavesThen e
+  pub least : LeavesLast table (IsJourney table c.journey.from c.journey.to c.departure) e.journey
 
 -- one departs earlier than the other, or with it and arrives earlier
 abbrev pub IsBefore : Connection → Connection → Type 0

@@ -6,6 +6,7 @@ mod asking;
 mod connection;
 mod first;
 mod first_asked;
+mod least;
 mod moments;
 mod scanning;
 
@@ -13,4 +14,5 @@ pub use asking::ask_connections;
 pub use connection::{Connection, Window};
 pub use first::{First, scan_first};
 pub use first_asked::ask_first;
+pub use least::walk_least;
 pub use scanning::scan_connections;

@@ -1,3 +1,4 @@
+pub mod LikeFacts
 pub mod NextFacts
 pub mod ToldFacts
 pub mod WalkFacts

@@ -1,9 +1,10 @@
 -- The first connections of a window, by their number.
-use Rattle.std.specs.Prelude.{◌≡◌, ◌⊎◌, ℕ, ◌≤◌, ◌<◌, List, Option, None, Some, length, slice_index_or, take}
-use Rattle.std.specs.List.{All, AllPairs, Contains}
+use Rattle.std.specs.Prelude.{◌≡◌, ◌⊎◌, ℕ, ◌≤◌, ◌<◌, Bool, true, false, List, Option, None, Some, length, slice_index_or, take}
+use Rattle.std.specs.List.{All, AllPairs, AllZip, Contains}
 use Rattle.timetable.specs.declared.parts.Numbers.{Numbers}
+use Rattle.timetable.specs.Table.{Table}
 use Rattle.pattern_query.specs.Answer.{numbers}
-use Rattle.connections.specs.Connections.{AreFirst, IsBefore, IsConnection}
+use Rattle.connections.specs.Connections.{AreFirst, IsBefore, IsConnection, WalksLeastFor}
 use Rattle.connections.specs.declared.connection.Connection.{Connection}
 use Rattle.connections.specs.declared.connection.Window.{Window}
 use Rattle.told_connections.specs.declared.choosing.TheConstants.{ENOUGH}
@@ -49,3 +50,8 @@ IsLeftFrom (Some n) list next new =
 pub record Chooses (asked : Option ℕ) (list : List Connection) (next : ℕ) (chosen : List Connection) (new : ℕ) : Type 0 where
   pub items : chosen ≡ chosen_of asked list
   pub next_is : IsLeftFrom asked list next new
+
+-- those that are told instead of the ones that are chosen: if their rides are wanted, with the journeys that walk least
+abbrev pub AreWalked : Table → Bool → List Connection → List Connection → Type 0
+AreWalked table false chosen told = told ≡ chosen
+AreWalked table true chosen told = AllZip (WalksLeastFor table) chosen told

@@ -1,9 +1,10 @@
 -- The connections of a window, as they are told.
-use Rattle.std.specs.Prelude.{◌≡◌, ◌⊎◌, ℕ, ◌<◌, ◌≤◌, Bool, List, [], ◌∷◌, Option, None, Some}
+use Rattle.std.specs.Prelude.{◌≡◌, ◌⊎◌, ℕ, ◌<◌, ◌≤◌, Bool, true, List, [], ◌∷◌, Option, None, Some}
 use Rattle.std.specs.List.{All, AllZip, Contains}
 use Rattle.timetable.specs.Journeys.{IsLeast, Reaches, foot}
 use Rattle.timetable.specs.Table.{Table}
 use Rattle.pattern_query.specs.Answer.{IsJourney}
+use Rattle.pattern_query.specs.Leaving.{LeavesLast}
 use Rattle.pattern_query.specs.Questions.{AreComplete, AskedReaches, Held, IsAskedPoint, IsStored, ReachesBetween}
 use Rattle.answer_lines.specs.Moments.{TellsMoment}
 use Rattle.answer_lines.specs.declared.moment.DayTime.{DayTime}
@@ -38,11 +39,13 @@ abbrev pub between : ℕ → ℕ → Window
 between first last = record { first = first; last = last }
 
 -- The connections from s to t of at most k rides that depart from `first` to `last` are told, and the way on foot: all connections, or
--- else those before the told moment, which are enough; or the first ones, as many as are asked for.
+-- else those before the told moment, which are enough; or the first ones, as many as are asked for. If their rides are wanted, then of all
+-- journeys with its numbers and its departure each is one that walks least.
 pub record AreTold (basis : BasisData) (k : ℕ) (wanted : Bool) (s t first last : ℕ) (asked : Option ℕ) (shown : Connections) : Type 0 where
   pub found : List Connection
   pub next : ℕ
   pub journeys : All (λ c. IsJourney basis.timetable s t c.departure c.journey) found
+  pub least : wanted ≡ true → All (λ c. LeavesLast basis.timetable (IsJourney basis.timetable s t c.departure) c.journey) found
   pub right : AreChosen (Reaches basis.timetable 0 k s t) (between first last) asked found next
   pub told : AllZip (TellsConnection basis wanted) found shown.list.items
   pub rest : TellsNext basis.cover next last shown.next

@@ -1,8 +1,12 @@
 //! Connections between two places.
 
 ghost use Rattle.std.specs.Prelude.{◌<◌, ◌≤◌, IfErr, IfOk};
+ghost use Rattle.std.specs.List.{All};
+ghost use Rattle.connections.specs.Connections.{IsScanned};
 ghost use Rattle.feed_basis.specs.Basis.{IsSound};
+ghost use Rattle.rounds.specs.Scratch.{IsMadeFor, rides_of};
 ghost use Rattle.timetable.specs.Table.{stops_of};
+ghost use Rattle.told_connections.specs.Next.{AreWalked};
 ghost use Rattle.told_connections.specs.Windows.{AreTold, IsAnsweredWithin, IsUnansweredWithin};
 
 use crate::choosing::{chosen, enough_for};
@@ -10,7 +14,8 @@ use crate::telling::{foot, tell_connections, tell_next};
 use crate::times::Times;
 use answering::{Asked, between, covered_moment};
 use connection_lines::Connections;
-use connections::{Window, scan_first};
+use connections::{Connection, Window, scan_first, walk_least};
+use direct_connections::Network;
 use faults::Fault;
 use feed_basis::Basis;
 use pattern_query::Refusal;
@@ -19,6 +24,27 @@ use rounds::Scratch;
 use std::alloc::{AllocError, Global};
 use std::sync::Arc;
 use timetable::{LATEST_MOMENT, Rides};
+
+// The connections as they are told: if their rides are wanted, with the journeys that walk least.
+fn walked(
+    alloc: Global,
+    network: &Network,
+    scratch: &mut Scratch,
+    connections: Vec<Connection>,
+    legs: bool,
+) -> Result<Vec<Connection>, AllocError>
+    requires made { IsMadeFor scratch.old network.now }
+    requires from { All (λ c. c.journey.from < stops_of network.now) connections.items }
+    requires early { All (λ c. c.departure ≤ LATEST_MOMENT) connections.items }
+    requires scanned { All (IsScanned network.now (rides_of scratch.old)) connections.items }
+    ensures { IfOk result (λ list. AreWalked network.now legs connections.items list.items) }
+{
+    if legs {
+        walk_least(alloc, network, scratch, &connections)
+    } else {
+        Ok(connections)
+    }
+}
 
 // The connections between the stops that depart from the moment to `last`, or the first of them if `next` says how many.
 fn found_within(
@@ -53,9 +79,10 @@ fn found_within(
         enough_for(next),
     )?;
     let told = chosen(first, next);
+    let connections = walked(alloc, &network, &mut scratch, told.connections, legs)?;
     Ok(Connections {
         walk: foot(basis.timetable(), asked.from, asked.to),
-        list: tell_connections(alloc, basis, legs, &told.connections)?,
+        list: tell_connections(alloc, basis, legs, &connections)?,
         next: tell_next(basis, told.next, last),
     })
 }
