@@ -76,8 +76,8 @@ fn boards_at(
     Ok(ways)
 }
 
-/// For each stop the ways on from there that begin with a ride, behind which one of the ways on from its stop of alighting follows. Each has
-/// less than `bound` seconds on foot. It fails only if memory runs out.
+/// For each stop the ways on from there that begin with a ride, behind which one of the ways on from its stop of alighting follows. Each
+/// has less than `bound` seconds on foot. It fails only if memory runs out.
 pub(crate) fn boards_of(
     alloc: Global,
     network: &Network,

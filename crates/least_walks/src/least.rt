@@ -80,7 +80,8 @@ pub fn least_walk(
     requires from { point.now.from < stops_of network.now }
     requires early { point.now.departure ≤ LATEST_MOMENT }
     requires is { IsJourney network.now point.now.from point.now.to point.now.departure point.now }
-    requires best { Unbeaten (Reaches network.now 0 (rides_of scratch.old) point.now.from point.now.to point.now.departure) (numbers point.now) }
+    requires best { Unbeaten (Reaches network.now 0 (rides_of scratch.old) point.now.from point.now.to point.now.departure)
+        (numbers point.now) }
     ensures same { IsAlike scratch.old scratch.new }
     ensures least { IfOk result (IsLeastLike network.now point.now) }
 {
