@@ -34,11 +34,11 @@ fn with_least(
     })
 }
 
-/// The connections with the same departures and numbers whose journeys walk least, over all journeys between their stops that leave as late.
-/// They are connections of at most as many rides as the scratch has, and depart at `LATEST_MOMENT` or earlier.
+/// The connections with the same departures and numbers whose journeys walk least, over all journeys between their stops that leave as
+/// late. They are connections of at most as many rides as the scratch has, and depart at `LATEST_MOMENT` or earlier.
 ///
-/// For each connection whose journey walks, the rounds are run once at its departure, and a path that walks less is sought backward from its
-/// end. It fails only if memory runs out. The scratch serves any further runs, also after an error.
+/// For each connection whose journey walks, the rounds are run once at its departure, and a path that walks less is sought backward from
+/// its end. It fails only if memory runs out. The scratch serves any further runs, also after an error.
 pub fn walk_least(
     alloc: Global,
     network: &Network,

@@ -22,7 +22,7 @@ use Rattle.least_walks.proofs.LayerFacts.{found_way, least_of}
 
 -- ---- the search
 
--- the ways of so many rides have paths of as many
+-- the ways of n rides have paths of n steps
 pub path_short : (table : Table) (s d t by bound i n : ℕ) (rows : List (List WayData)) → n < 8 → AreWays table s d t by bound i n rows
     → (p : ℕ) → All (λ (w : WayData). length w.path < 8) (ways_at rows p)
 path_short table s d t by bound i n rows few are p k w lt =

@@ -23,7 +23,7 @@ pub record IsPathLike (table : Table) (p : PointData) (path : List Step) : Type 
   pub in_time : arrival ≤ p.arrival
   pub along : pattern table legs ≡ path
 
--- whoever leaves with the point and is there no later by as many rides walks at least so much
+-- one who leaves with the point, and is there no later by as many rides, walks at least these seconds
 abbrev pub WalksAtLeast : Table → PointData → ℕ → Type 0
 WalksAtLeast table p feet =
     (legs : List Leg) (z : ℕ) → Journey table p.from p.departure legs p.to z → length legs ≡ p.rides → z ≤ p.arrival

@@ -59,7 +59,7 @@ pub record RidesTo (table : Table) (b e : ℕ) (Rest : WayData → Type 0) (w : 
 abbrev pub RidesAmong : Table → ℕ → (ℕ → Type 0) → List (List WayData) → WayData → Type 0
 RidesAmong table b Stops rows w = (e : ℕ) × Stops e × RidesTo table b e (Contains (ways_at rows e)) w
 
--- so many seconds of which so many are on foot, and then one of these ways
+-- some seconds, of which `feet` are on foot, and then one of these ways
 pub record HopsTo (seconds feet : ℕ) (Rest : WayData → Type 0) (w : WayData) : Type 0 where
   pub rest : WayData
   pub goes_on : Rest rest

@@ -36,7 +36,7 @@ pub(crate) fn last_walks(
     Ok(rows)
 }
 
-// The ways on from a stop after so many rides. If one can't be there after these, there is none.
+// The ways on from a stop after `rides` rides. If one can't be there after these, there is none.
 fn hops_at(
     alloc: Global,
     network: &Network,
@@ -57,7 +57,7 @@ fn hops_at(
     }
 }
 
-/// The ways on from each stop with one ride more, if one is there after so many rides. The rounds say when one can be there at the
+/// The ways on from each stop with one ride more, if one is there after `rides` rides. The rounds say when one can be there at the
 /// earliest. It fails only if memory runs out.
 pub(crate) fn one_ride_more(
     alloc: Global,

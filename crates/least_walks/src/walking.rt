@@ -32,7 +32,7 @@ pub(crate) fn last_walk(
     Ok(ways)
 }
 
-// Adds the ways of the row with so many seconds before them, of which so many are on foot.
+// Adds the ways of the row with `seconds` before them, of which `feet` are on foot.
 fn add_hops(
     row: &[Way],
     seconds: u32,

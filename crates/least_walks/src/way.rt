@@ -23,7 +23,7 @@ impl Model for Way {
 }
 
 impl Way {
-    /// The way without a ride, and so many seconds on foot.
+    /// The way without a ride, with its seconds on foot.
     pub(crate) fn on_foot(moment: u32, seconds: u32) -> Way
         ensures { result ≡ record { moment = moment; walked = seconds; path = [] } }
     {
@@ -68,7 +68,7 @@ impl Way {
         }
     }
 
-    /// The way from another moment on, with so many seconds on foot.
+    /// The way from another moment on, with other seconds on foot.
     pub(crate) fn after_hop(&self, moment: u32, walked: u32) -> Way
         ensures { result ≡ record { moment = moment; walked = walked; path = self.now.path } }
     {
