@@ -1,15 +1,16 @@
 -- The fields of a row, one by one, and the rows of a sheet.
-use Rattle.std.proofs.Common.{◌≡◌, ℕ, zero, suc, ◌+◌, ◌-◌, ◌<◌, ◌≤◌, Bool, true, false, List, [], ◌∷◌, ◌++◌, length, take, drop, get_or, map, refl, arith, sym, ◌∙◌, ap, not, drop-cons, add-one, length-append}
-use Rattle.std.specs.List.{All, list_all, position_or_len}
+use Rattle.std.proofs.Common.{◌≡◌, ◌≢◌, ℕ, zero, suc, ◌+◌, ◌-◌, ◌<◌, ◌≤◌, Bool, true, false, List, [], ◌∷◌, ◌++◌, length, take, drop, get_or, map, refl, arith, sym, ◌∙◌, ap, not, drop-cons, add-one, length-append, nat_eq, ◌==◌}
+use Rattle.std.specs.List.{All, list_all, onto_first, position_or_len}
 use Rattle.std.proofs.Math.Seq.{get_or-append_right}
 use Rattle.std.proofs.lemmas.List.{length-drop, length-map, take_all}
-use Rattle.std.proofs.lemmas.List.Splits.{slice_split_first, slice_split_none}
+use Rattle.std.proofs.lemmas.List.Splits.{slice_split_first, slice_split_none, slice_split-cons_no, length-slice_split}
 use Rattle.std.proofs.lemmas.List.Sums.{fails_before_first, prefix_len-le-length}
 use Rattle.gtfs_text.specs.Lines.{between_commas, is_comma, line_at, rows_at}
 use Rattle.gtfs_text.specs.Packed.{unpacked}
 use Rattle.gtfs_text.specs.Rows.{kept_table}
 use Rattle.gtfs_text.specs.Sheets.{Table, table_of, without_spaces}
 use Rattle.gtfs_text.specs.declared.lines.Place.{Place}
+use Rattle.gtfs_text.proofs.SpaceFacts.{end_keeps, front_other}
 
 -- the first comma is within a line, or at its end
 pub comma_within : (line : List ℕ) → position_or_len is_comma line ≤ length line
@@ -47,6 +48,22 @@ pub first_passes : (p : List ℕ → Bool) (fields after : List (List ℕ)) (fie
     → list_all p (take (n - 1) after) ≡ list_all p (take n fields)
 first_passes p fields after field n is some passes =
     let m : n ≡ suc (n - 1) = omega arith in rw (is, m) (rw passes (let k : suc (n - 1) - 1 ≡ n - 1 = omega arith in rw k refl))
+
+-- a text that begins neither with a comma nor with a space has a first field that isn't empty
+filled_here : (c : ℕ) (parts : List (List ℕ)) (n : ℕ) → nat_eq c 32 ≡ false → 0 < length parts → 0 < n
+    → list_all (λ field. length field == 0) (take n (map without_spaces (onto_first c parts))) ≡ false
+filled_here c [] n other some more = absurd (omega (arith, some))
+filled_here c (p ∷ ps) zero other some more = absurd (omega (arith, more))
+filled_here c (p ∷ ps) (suc n) other some more = rw (front_other c p other, end_keeps c p other) refl
+
+pub filled_first : (line : List ℕ) (n : ℕ) → 0 < length line → get_or line 0 0 ≢ 44 → get_or line 0 0 ≢ 32 → 0 < n
+    → list_all (λ field. length field == 0) (take n (map without_spaces (between_commas line))) ≡ false
+filled_first [] n some plain other more = absurd (omega (arith, some))
+filled_first (c ∷ line) n some plain other more =
+    let comma : is_comma c ≡ false = grind (arith, plain) in
+    let space : nat_eq c 32 ≡ false = grind (arith, other) in
+    rw (slice_split-cons_no is_comma c line comma)
+    (filled_here c (between_commas line) n space (omega (arith, length-slice_split is_comma line)) more)
 
 -- a row of the lines
 line_here : (file : List ℕ) (places : List Place) (more : Table) (number : ℕ) (d : Place) → number < length places

@@ -12,7 +12,7 @@ front_cons c xs e = rw e refl
 pub front_step : (s : List ℕ) (i : ℕ) → i < length s → get_or s i 0 ≡ 32 → without_front_spaces (drop (i + 1) s) ≡ without_front_spaces (drop i s)
 front_step s i h e = rw (add-one, drop-cons s i 0 h) (sym (front_cons (get_or s i 0) (drop (suc i) s) e))
 
-front_other : (c : ℕ) (xs : List ℕ) → nat_eq c 32 ≡ false → without_front_spaces (c ∷ xs) ≡ c ∷ xs
+pub front_other : (c : ℕ) (xs : List ℕ) → nat_eq c 32 ≡ false → without_front_spaces (c ∷ xs) ≡ c ∷ xs
 unfolding without_front_spaces
 front_other c xs e = rw e refl
 
@@ -22,6 +22,11 @@ front_stop s i h e = rw (drop-cons s i 0 h) (sym (front_other (get_or s i 0) (dr
 pub front_none : without_front_spaces [] ≡ []
 unfolding without_front_spaces
 front_none = refl
+
+-- a text that begins with another byte keeps it
+pub end_keeps : (c : ℕ) (xs : List ℕ) → nat_eq c 32 ≡ false → nat_eq (length (without_end_spaces (c ∷ xs))) 0 ≡ false
+unfolding without_end_spaces
+end_keeps c xs e = rw e (grind arith)
 
 -- a space at the end goes
 pub end_space : (xs : List ℕ) → without_end_spaces (xs ++ 32 ∷ []) ≡ without_end_spaces xs

@@ -1,6 +1,6 @@
 //! A row of a sheet, and its fields one by one.
 
-ghost use Rattle.std.specs.Prelude.{◌≡◌, ◌<◌, ◌==◌, true, [], ◌∷◌, length, map, take, get_or, MatchOption, IfOk, OnOk, IfSome};
+ghost use Rattle.std.specs.Prelude.{◌≡◌, ◌<◌, ◌==◌, ◌≢◌, true, [], ◌∷◌, length, map, take, get_or, MatchOption, IfOk, OnOk, IfSome, IsTrue};
 ghost use Rattle.std.specs.List.{list_all, position_from, position_or_len};
 ghost use Rattle.std.specs.Str.{bytes_eq};
 ghost use Rattle.csv.specs.Records.{fields_of};
@@ -145,10 +145,23 @@ pub(crate) fn position_of(row: Row<'_>, columns: usize, text: &str) -> Option<us
     None
 }
 
+// Whether a line begins with a byte that neither ends its first field nor may go from its front.
+fn begins_filled(line: &[u8]) -> bool
+    ensures { IsTrue result → (0 < length line.now) × (get_or line.now 0 0 ≢ 44) × (get_or line.now 0 0 ≢ 32) }
+{
+    !line.is_empty() && line[0] != b',' && line[0] != b' '
+}
+
 /// Whether each of the first fields of a row is empty: as many as there are columns.
 pub(crate) fn is_empty_in(row: Row<'_>, columns: usize) -> bool
     ensures { result ≡ list_all (λ field. length field == 0) (take columns (fields_in row.entry)) }
 {
+    if let Row::Line(line) = row
+        && columns > 0
+        && begins_filled(line)
+    {
+        return false;
+    }
     let mut rest = row;
     'columns: for _ in 0..columns {
         let Some((field, after)) = split_first(rest) else {

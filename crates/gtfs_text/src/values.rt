@@ -51,6 +51,12 @@ pub fn whole(text: &str) -> Option<u32>
 fn hours(text: &[u8]) -> Option<u32>
     ensures { result ≡ (if is_digits 1 3 text.now && nat_le (decimal text.now) 167 then Some (decimal text.now) else None) }
 {
+    if let [tens, ones] = text
+        && tens.is_ascii_digit()
+        && ones.is_ascii_digit()
+    {
+        return Some(10 * (*tens - b'0') as u32 + (*ones - b'0') as u32);
+    }
     if !is_digits(1, 3, text) {
         return None;
     }
