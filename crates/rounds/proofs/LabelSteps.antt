@@ -1,7 +1,7 @@
 -- Labels beside moments.
 use Rattle.std.proofs.Common.{Option, ◌≡◌, ℕ, zero, suc, ◌<◌, replicate, List, [], ◌∷◌, length, Some, None, set, get_or, arith, inl, inr, refl, sym, ◌∙◌, ap, subst}
 use Rattle.std.proofs.lemmas.Bool.{cases_eq, cases_lt}
-use Rattle.std.proofs.lemmas.List.{get_or_past, get_or-set_same, get_or-set_other, length-set}
+use Rattle.std.proofs.lemmas.List.{get_or_default, get_or_past, get_or-set_same, get_or-set_other, length-set}
 use Rattle.rounds.specs.Mark.{Mark, at, arrival_of}
 use Rattle.rounds.specs.Row.{when}
 use Rattle.rounds.specs.Labels.{kept, with_moments, AreAgreed}
@@ -78,3 +78,18 @@ moment_within moments p a e = elim (cases_lt p (length moments)) [
 ] where
   apart : (a : ℕ) → None ≡ Some a → ⊥
   apart a e = cc
+
+-- each stop of the row has a moment's place
+pub stop_within : (moments : List (Option ℕ)) (labels : List Mark) (marks : List (Option Mark)) (stop : ℕ) → AreAgreed moments labels
+    → with_moments moments labels ≡ marks → stop < length marks → stop < length moments
+stop_within moments labels marks stop is same lt =
+    let long = with_length moments labels is.size in
+    let size = ap (length {A = Option Mark}) same in
+    omega (arith, long, size, lt)
+
+-- the moment that lies there
+pub moment_read : (moments : List (Option ℕ)) (labels : List Mark) (marks : List (Option Mark)) (stop : ℕ) (moment : Option ℕ) → AreAgreed moments labels
+    → with_moments moments labels ≡ marks → stop < length marks → moment ≡ get_or moments stop moment → moment ≡ arrival_of (at marks stop)
+moment_read moments labels marks stop moment is same lt read =
+    read ∙ (get_or_default moments stop moment None (stop_within moments labels marks stop is same lt)
+    ∙ (is.same stop ∙ ap (λ (ms : List (Option Mark)). arrival_of (at ms stop)) same))

@@ -103,6 +103,14 @@ impl Labels {
         }
     }
 
+    /// When one is at the stop of this number, where it lies.
+    pub fn moment(&self, stop: usize) -> &Moment
+        requires { stop < length self.now }
+        ensures { result.now ≡ arrival_of (at self.now stop) }
+    {
+        &self.arrivals[stop]
+    }
+
     /// Puts the label at the stop of this number, at another moment and with one ride more if there is one.
     pub fn put(&mut self, stop: usize, label: &Label, arrival: u32, ride: Option<(StopId, StopId)>)
         requires known { stop < length self.old }

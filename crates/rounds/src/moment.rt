@@ -1,7 +1,9 @@
 //! Moments that may be missing.
 
-ghost use Rattle.std.specs.Prelude.{◌≡◌, ◌<◌, IfSome, None};
+ghost use Rattle.std.specs.Prelude.{◌≡◌, ◌<◌, ◌↔◌, IfSome, IsTrue, None};
+ghost use Rattle.timetable.specs.Front.{IsSooner};
 ghost use Rattle.rounds.specs.Labels.{never};
+ghost use Rattle.rounds.specs.Row.{ByThen};
 
 use std::marker::Model;
 
@@ -52,5 +54,20 @@ impl Moment {
         } else {
             None
         }
+    }
+
+    /// Whether it is there, and no later than `latest`. One comparison says so, as none is later than any moment.
+    pub fn is_by(&self, latest: u32) -> bool
+        requires { latest < never }
+        ensures { IsTrue result ↔ ByThen self.now latest }
+    {
+        self.number <= latest
+    }
+
+    /// Whether it is sooner than the other, where none is later than any moment.
+    pub fn is_sooner(&self, other: &Moment) -> bool
+        ensures { IsTrue result ↔ IsSooner self.now other.now }
+    {
+        self.number < other.number
     }
 }

@@ -138,14 +138,22 @@ impl Row {
 
     /// Whether there is a label of the moment or an earlier one at the stop.
     pub fn is_by(&self, stop: StopId, moment: u32) -> bool
-        requires { stop < length self.now.marks }
+        requires known { stop < length self.now.marks }
+        requires early { moment < never }
         ensures value { result ≡ is_by (at self.now.marks stop) moment }
         ensures by { IsTrue result ↔ By (at self.now.marks stop) moment }
     {
-        match self.arrival(stop) {
-            Some(arrival) => arrival <= moment,
-            None => false,
-        }
+        self.labels.moment(stop.number()).is_by(moment)
+    }
+
+    /// Whether one is at the stop sooner than in the other row.
+    pub fn is_sooner(&self, other: &Row, stop: StopId) -> bool
+        requires known { stop < length self.now.marks }
+        requires other { stop < length other.now.marks }
+        ensures { IsTrue result ↔ IsSooner (arrivals_of self.now stop) (arrivals_of other.now stop) }
+    {
+        let there = other.labels.moment(stop.number());
+        self.labels.moment(stop.number()).is_sooner(there)
     }
 
     // Puts the label at the stop, at a moment where none is as early, and with one ride more if there is one.
@@ -159,7 +167,7 @@ impl Row {
         ensures settled { self.new.settled ≡ self.old.settled }
     {
         let number = stop.number();
-        if !is_sooner(self.labels.arrival(number), self.settled[number].get()) {
+        if !self.labels.moment(number).is_sooner(&self.settled[number]) {
             list(stop, &mut self.lowered);
         }
         self.labels.put(number, label, arrival, ride);

@@ -14,6 +14,11 @@ note-requires-clause-known c =
     let in' = sooner_within c.args.ready.now.marks stop (settled_of c.args.ready.now stop) (c.lowered-stop-items.ensures.sooner stop (c.loop-stop.stop-index, c.loop-stop-test.true, sym c.stop-item.is)) in
     omega (arith, in', c.requires.readies)
 
+pub note-requires-clause-ready : goal.note-requires-clause-ready
+note-requires-clause-ready c =
+    sooner_within c.args.ready.now.marks c.stop-item.result (settled_of c.args.ready.now c.stop-item.result)
+    (c.lowered-stop-items.ensures.sooner c.stop-item.result (c.loop-stop.stop-index, c.loop-stop-test.true, sym c.stop-item.is))
+
 pub loop-stop-init : goal.loop-stop-init
 loop-stop-init c = record {
   noted = noted_none c.args.lines.now.lines c.args.ready.now c.args.before.now.marks c.lowered-stop-items.result.now c.clear.new.self;

@@ -1,28 +1,19 @@
-use Rattle.std.proofs.Common.{Option, ◌≡◌, ◌<◌, ℕ, Some, List, length, set, arith, refl, ◌∙◌, ap}
+use Rattle.std.proofs.Common.{Option, Some, List, set, arith, refl, ◌∙◌, ap}
 use Rattle.rounds.specs.Mark.{Mark, moved}
-use Rattle.rounds.specs.Labels.{AreAgreed, with_moments}
-use Rattle.rounds.proofs.LabelSteps.{with_length, with_put, agreed_put}
+use Rattle.rounds.proofs.LabelSteps.{stop_within, with_put, agreed_put}
 use Rattle.rounds.proofs.labels.Labels.put.Goals as goal
-
--- the stop has a moment's position
-within : (moments : List (Option ℕ)) (labels : List Mark) (marks : List (Option Mark)) (stop : ℕ) → AreAgreed moments labels → with_moments moments labels ≡ marks → stop < length marks
-    → stop < length moments
-within moments labels marks stop is same lt =
-    let long = with_length moments labels is.size in
-    let size = ap (length {A = Option Mark}) same in
-    omega (arith, long, size, lt)
 
 pub index_mut-requires : goal.index_mut-requires
 index_mut-requires c =
     let i = c.self.inside in
-    let lt = within i.arrivals.items i.labels.items c.args.self.now c.args.stop c.self.invariant c.self.view_is c.requires.known in
+    let lt = stop_within i.arrivals.items i.labels.items c.args.self.now c.args.stop c.self.invariant c.self.view_is c.requires.known in
     let len = i.arrivals.ok.0 in
     omega (arith, lt, len)
 
 pub index_mut-requires-2 : goal.index_mut-requires-2
 index_mut-requires-2 c =
     let i = c.self.inside in
-    let lt = within i.arrivals.items i.labels.items c.args.self.now c.args.stop c.self.invariant c.self.view_is c.requires.known in
+    let lt = stop_within i.arrivals.items i.labels.items c.args.self.now c.args.stop c.self.invariant c.self.view_is c.requires.known in
     let size = c.self.invariant.size in
     let len = i.labels.ok.0 in
     omega (arith, lt, size, len)
@@ -30,7 +21,7 @@ index_mut-requires-2 c =
 pub invariant_of-self : goal.invariant_of-self
 invariant_of-self c =
     let i = c.self.inside in
-    let lt = within i.arrivals.items i.labels.items c.args.self.now c.args.stop c.self.invariant c.self.view_is c.requires.known in
+    let lt = stop_within i.arrivals.items i.labels.items c.args.self.now c.args.stop c.self.invariant c.self.view_is c.requires.known in
     rw (c.of.ensures, c.set.ensures) (agreed_put i.arrivals.items i.labels.items c.args.stop c.args.arrival (moved c.args.label.now c.args.arrival c.args.ride) refl lt c.self.invariant)
 
 pub returns : goal.returns

@@ -31,7 +31,7 @@ list-requires c =
     let is = c.self.invariant in
     let known = within c.args.self.now i.labels c.args.stop n c.number-number.ensures.value (ap (λ (x : RowData). x.marks) c.self.view_is) c.requires.known in
     let room = has_room i.labels i.settled.items i.lowered.items _ n is known
-    (λ h. true≢false (sym (c.is_sooner.ensures.1 ((sooner_read i.labels i.settled.items n _ _ known is.size c.arrival.ensures.value (c.get.ensures.value ∙ (c.index.ensures ∙ ap (λ d. get_or i.settled.items n d) (sym c.get.ensures.value)))).0 h)) ∙ c.if-not-is_sooner.true)) in
+    (λ h. true≢false (sym (c.is_sooner.ensures.1 ((sooner_read i.labels i.settled.items n _ _ known is.size c.moment.ensures c.index.ensures).0 h)) ∙ c.if-not-is_sooner.true)) in
     let len = i.lowered.ok.0 in
     omega (arith, room, len)
 
@@ -45,11 +45,11 @@ invariant_of-self c =
     let none = no_sooner c.args.self.now i.labels c.args.stop n c.args.arrival c.number-number.ensures.value marks c.requires.sooner in
     elim c.if-not-is_sooner.branch [
       | then-not-is_sooner w ↦
-          let here = λ (h : IsSooner (arrival_of (at i.labels n)) (when i.settled.items n)). true≢false (sym (c.is_sooner.ensures.1 ((sooner_read i.labels i.settled.items n _ _ known is.size c.arrival.ensures.value (c.get.ensures.value ∙ (c.index.ensures ∙ ap (λ d. get_or i.settled.items n d) (sym c.get.ensures.value)))).0 h)) ∙ w.if-not-is_sooner.true) in
+          let here = λ (h : IsSooner (arrival_of (at i.labels n)) (when i.settled.items n)). true≢false (sym (c.is_sooner.ensures.1 ((sooner_read i.labels i.settled.items n _ _ known is.size c.moment.ensures c.index.ensures).0 h)) ∙ w.if-not-is_sooner.true) in
           rw (c.put.ensures, w.self-inside-is, w.list.ensures.items)
           (subst (λ k. IsRow (slice_set i.labels n (Some (moved c.args.label.now c.args.arrival c.args.ride))) i.settled.items (i.lowered.items ++ k ∷ []) (vec_capacity w.list.new.listed)) c.number-number.ensures.value
           (put_new i.labels i.settled.items i.lowered.items _ n is known here _ (moved c.args.label.now c.args.arrival c.args.ride) w.list.ensures.room none))
       | else-not-is_sooner w ↦
           rw (c.put.ensures, w.self-inside-is) (put_again i.labels i.settled.items i.lowered.items _ n (moved c.args.label.now c.args.arrival c.args.ride) is known none
-          ((sooner_read i.labels i.settled.items n _ _ known is.size c.arrival.ensures.value (c.get.ensures.value ∙ (c.index.ensures ∙ ap (λ d. get_or i.settled.items n d) (sym c.get.ensures.value)))).1 (c.is_sooner.ensures.0 w.if-not-is_sooner.false)))
+          ((sooner_read i.labels i.settled.items n _ _ known is.size c.moment.ensures c.index.ensures).1 (c.is_sooner.ensures.0 w.if-not-is_sooner.false)))
     ]
