@@ -27,8 +27,8 @@ departs_early table leg is ride =
     le_trans (le_of_eq (ap (λ o. unwrap_or (option_map (λ (c : Call). c.departure) o) 0) f.1)) k.early
 
 -- a ride as late as any that boards at one of the first m positions, which departs just before `since`
-pub record IsLatestTo (table : Table) (lines : List LineData) (p q by : ℕ) (boards alights : List LinePosition) (m next : ℕ) (best : Option Leg) (since : ℕ) : Type 0 where
-  pub attained : MatchOption best (since ≡ 0) (λ leg. ServesBy table p q by leg × (since ≡ departs table leg + 1))
+pub record IsLatestTo (table : Table) (lines : List LineData) (p q by : ℕ) (boards alights : List LinePosition) (m next : ℕ) (best : Option LastRide) (since : ℕ) : Type 0 where
+  pub attained : MatchOption best (since ≡ 0) (λ ride. ServesBy table p q by ride.leg × (ride.departure ≡ departs table ride.leg) × (since ≡ ride.departure + 1))
   pub most : (k : ℕ) (at : LinePosition) → k < m → k < length boards → get_or boards k at ≡ at → (other : Leg) → ServesBy table p q by other → BoardsAt lines at other → departs table other < since
   pub walked : HasPassed boards alights m next
 
@@ -42,34 +42,38 @@ latest_none table lines p q by boards alights = record {
 module _ (table : Table) (lines : LineTable) (valid : IsTable table) (are : AreLines table lines) (p q by : ℕ) (boards alights : List LinePosition)
     (boards_are : AreExactly (Allows Board lines.lines p) boards) (alights_are : AreExactly (Allows Alight lines.lines q) alights) where
   -- every ride boards at one of the positions
-  latest_all : (m next since : ℕ) (best : Option Leg) → length boards ≤ m → IsLatestTo table lines.lines p q by boards alights m next best since
+  latest_all : (m next since : ℕ) (best : Option LastRide) → length boards ≤ m → IsLatestTo table lines.lines p q by boards alights m next best since
       → (other : Leg) → ServesBy table p q by other → departs table other < since
   latest_all m next since best long is other s =
       let b = boards_on table lines valid are p q (departs table other) other (serves_of table p q by other s) in
       let has = boards_are.all b.0 b.1 in
       is.most has.0 b.0 (let f = has.1 in omega arith) has.1 has.2 other s b.2
 
-  pub latest_is : (m next since : ℕ) (best : Option Leg) → length boards ≤ m → IsLatestTo table lines.lines p q by boards alights m next best since
-      → IfSome best (λ leg. (other : Leg) → ServesBy table p q by other → departs table other ≤ departs table leg)
+  pub latest_is : (m next since : ℕ) (best : Option LastRide) → length boards ≤ m → IsLatestTo table lines.lines p q by boards alights m next best since
+      → IfSome best (λ ride. (other : Leg) → ServesBy table p q by other → departs table other ≤ ride.departure)
   latest_is m next since None long is = tt
-  latest_is m next since (Some leg) long is = λ other s.
-      let less = latest_all m next since (Some leg) long is other s in
-      let same : since ≡ departs table leg + 1 = is.attained.1 in
-      let z : departs table other ≤ departs table leg = omega (arith, less, same) in z
+  latest_is m next since (Some ride) long is = λ other s.
+      let less = latest_all m next since (Some ride) long is other s in
+      let same : since ≡ ride.departure + 1 = is.attained.2 in
+      let z : departs table other ≤ ride.departure = omega (arith, less, same) in z
 
-  pub none_latest : (m next since : ℕ) (best : Option Leg) → length boards ≤ m → IsLatestTo table lines.lines p q by boards alights m next best since
+  pub none_latest : (m next since : ℕ) (best : Option LastRide) → length boards ≤ m → IsLatestTo table lines.lines p q by boards alights m next best since
       → IfNone best ((leg : Leg) → ¬ ServesBy table p q by leg)
   none_latest m next since None long is = λ leg s.
       let less = latest_all m next since None long is leg s in
       let e : since ≡ 0 = is.attained in
       absurd (omega (arith, less, e))
-  none_latest m next since (Some leg) long is = tt
+  none_latest m next since (Some ride) long is = tt
 
-  pub latest_serves : (m next since : ℕ) (best : Option Leg) → IsLatestTo table lines.lines p q by boards alights m next best since → IfSome best (ServesBy table p q by)
+  pub latest_serves : (m next since : ℕ) (best : Option LastRide) → IsLatestTo table lines.lines p q by boards alights m next best since → IfSome best (λ ride. ServesBy table p q by ride.leg)
   latest_serves m next since None is = tt
-  latest_serves m next since (Some leg) is = is.attained.0
+  latest_serves m next since (Some ride) is = is.attained.0
 
-  module _ (m next : ℕ) (best : Option Leg) (since : ℕ) (is : IsLatestTo table lines.lines p q by boards alights m next best since) (x : LinePosition) (h : m < length boards)
+  pub latest_departs : (m next since : ℕ) (best : Option LastRide) → IsLatestTo table lines.lines p q by boards alights m next best since → IfSome best (λ ride. ride.departure ≡ departs table ride.leg)
+  latest_departs m next since None is = tt
+  latest_departs m next since (Some ride) is = is.attained.1
+
+  module _ (m next : ℕ) (best : Option LastRide) (since : ℕ) (is : IsLatestTo table lines.lines p q by boards alights m next best since) (x : LinePosition) (h : m < length boards)
       (at : x ≡ get_or boards m x) (n : ℕ) (first : IsFirstBehind alights next x n) where
     here_or_before : (since' : ℕ) → since ≤ since' → ((other : Leg) → ServesBy table p q by other → BoardsAt lines.lines x other → departs table other < since')
         → (k : ℕ) (y : LinePosition) → k < m + 1 → k < length boards → get_or boards k y ≡ y → (other : Leg) → ServesBy table p q by other → BoardsAt lines.lines y other → departs table other < since'
@@ -89,9 +93,9 @@ module _ (table : Table) (lines : LineTable) (valid : IsTable table) (are : AreL
 
     -- a ride that boards here departs later
     pub latest_improves : (ride : LastRide) → IsLastRide table lines.lines p q by since x ride
-        → IsLatestTo table lines.lines p q by boards alights (m + 1) n (Some ride.leg) (ride.departure + 1)
+        → IsLatestTo table lines.lines p q by boards alights (m + 1) n (Some ride) (ride.departure + 1)
     latest_improves ride last_here = record {
-      attained = (last_here.serves, ap (λ z. z + 1) last_here.departure);
+      attained = (last_here.serves, last_here.departure, refl);
       most = here_or_before (ride.departure + 1) (let late = last_here.late in omega (arith, late))
           (λ other s on. let le = last_here.most other s on in let z : departs table other < ride.departure + 1 = omega (arith, le) in z);
       walked = one_passed table lines valid are p q 0 boards alights boards_are alights_are m next is.walked x h at n first;

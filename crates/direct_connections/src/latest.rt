@@ -15,11 +15,11 @@ use crate::positions::first_behind;
 use lines::{LinePosition, Lines, Times};
 use timetable::{Leg, StopId, Timetable};
 
-// A ride, and when it departs.
+/// A ride, and when it departs.
 #[derive(Clone, Copy, Debug, PartialEq, Eq)]
-struct LastRide {
-    leg: Leg,
-    departure: u32,
+pub struct LastRide {
+    pub leg: Leg,
+    pub departure: u32,
 }
 
 // How many of the times, which never fall, arrive by the moment.
@@ -30,8 +30,8 @@ fn count_arriving(times: &[Times], by: u32) -> usize
     times.partition_point(|times| times.arrival <= by)
 }
 
-// The ride of the line's last instance that arrives at the one position by the moment `by`, from the other position, where it departs
-// at `since` or later. No instance departs later than the line's last, so a line whose last departs before isn't searched.
+// The ride of the line's last instance that arrives at the one position by the moment `by`, from the other position, if it departs there
+// at `since` or later.
 fn last_ride(
     table: &Timetable,
     lines: &Lines,
@@ -52,9 +52,6 @@ fn last_ride(
 {
     let line = lines.line(board.line as usize);
     let departing = line.times_at(board.position as usize);
-    if departing[departing.len() - 1].departure < since {
-        return None;
-    }
     let count = count_arriving(line.times_at(alight.position as usize), by);
     if count == 0 {
         return None;
@@ -77,8 +74,7 @@ impl Direct {
     /// as late as any; none only if there is none. It was made for this timetable, of these lines. It takes no memory.
     ///
     /// The positions of both stops are gone through once, side by side, as `earliest` does it. On a line the last instance is found by
-    /// binary search. What can't be better isn't searched: later positions of alighting, since no instance arrives there earlier, and
-    /// lines whose last instance doesn't depart after the best ride so far does.
+    /// binary search. Later positions of alighting aren't searched, since no instance arrives there earlier.
     pub fn latest(
         &self,
         table: &Timetable,
@@ -86,15 +82,16 @@ impl Direct {
         from: StopId,
         to: StopId,
         by: u32,
-    ) -> Option<Leg>
+    ) -> Option<LastRide>
         requires { IsMadeFor table.now lines.now self.now }
-        ensures ride { IfSome result (ServesBy table.now from to by) }
-        ensures most { IfSome result (λ leg. (other : LegData) → ServesBy table.now from to by other
-            → departs table.now other ≤ departs table.now leg) }
+        ensures ride { IfSome result (λ ride. ServesBy table.now from to by ride.leg) }
+        ensures departure { IfSome result (λ ride. ride.departure ≡ departs table.now ride.leg) }
+        ensures most { IfSome result (λ ride. (other : LegData) → ServesBy table.now from to by other
+            → departs table.now other ≤ ride.departure) }
         ensures none { IfNone result ((leg : LegData) → ¬ ServesBy table.now from to by leg) }
     {
         let alights = self.alights_at(to);
-        let mut best: Option<Leg> = None;
+        let mut best: Option<LastRide> = None;
         let mut since = 0;
         let mut next = 0;
         for board in self.boards_at(from) {
@@ -106,7 +103,7 @@ impl Direct {
             if alight.line == board.line {
                 if let Some(ride) = last_ride(table, lines, *board, alight, by, since) {
                     since = ride.departure + 1;
-                    best = Some(ride.leg);
+                    best = Some(ride);
                 }
             }
         }

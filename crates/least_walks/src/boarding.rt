@@ -26,9 +26,8 @@ fn add_rides(
     ensures { OnOk result (Gathers (RidesTo network.now board alight (Contains row.now)) 0 bound ways.old ways.new) }
 {
     for way in row {
-        if let Some(leg) = network.latest(board, alight, way.moment()) {
-            let departure = network.timetable().departure_of(leg);
-            ways.offer(0, bound, way.after_ride((board, alight), departure))?;
+        if let Some(ride) = network.latest_ride(board, alight, way.moment()) {
+            ways.offer(0, bound, way.after_ride((board, alight), ride.departure))?;
         }
     }
     Ok(())

@@ -10,10 +10,9 @@ ghost use Rattle.pattern_query.specs.Answer.{numbers, IsJourney};
 ghost use Rattle.pattern_query.specs.Leaving.{walked, on_foot};
 ghost use Rattle.least_walks.specs.Least.{IsLeastLike, IsPathLike};
 
-use crate::feet::walk_of;
 use crate::search::shorter_path;
 use direct_connections::Network;
-use pattern_query::{Patterns, Point, ask_any};
+use pattern_query::{Patterns, Point, ask_any, walk_of};
 use pattern_tree::{PatternTree, TreeFault};
 use rounds::Scratch;
 use std::alloc::{AllocError, Global};

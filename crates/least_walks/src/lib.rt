@@ -2,7 +2,6 @@
 #![tactic(auto)]
 
 mod boarding;
-mod feet;
 mod layers;
 mod least;
 mod path;

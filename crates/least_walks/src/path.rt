@@ -2,11 +2,8 @@
 
 ghost use Rattle.std.specs.Prelude.{◌≡◌, ◌<◌, ◌≤◌, ◌∷◌, length};
 
-use arrayvec::ArrayVec;
+use rounds::Path;
 use timetable::StopId;
-
-/// The stops of boarding and alighting, ride by ride.
-pub(crate) type Path = ArrayVec<(StopId, StopId), 8>;
 
 /// The path of these rides.
 pub(crate) fn path_of(rides: &[(StopId, StopId)]) -> Path

@@ -10,12 +10,12 @@ ghost use Rattle.least_walks.specs.Least.{IsPathLike, WalksAtLeast};
 
 use crate::boarding::boards_of;
 use crate::layers::{last_walks, one_ride_more};
-use crate::path::{Path, path_of};
+use crate::path::path_of;
 use crate::walking::hops_from;
 use crate::way::Way;
 use direct_connections::Network;
 use pattern_query::Point;
-use rounds::RoundView;
+use rounds::{Path, RoundView};
 use std::alloc::{AllocError, Global};
 
 // The first of the ways that has the least on foot.

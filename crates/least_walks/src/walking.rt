@@ -5,10 +5,10 @@ ghost use Rattle.std.specs.List.{Contains};
 ghost use Rattle.timetable.specs.Table.{stops_of};
 ghost use Rattle.least_walks.specs.Ways.{Gathers, WalksTo, HopsTo, HopsAmong, Anywhere};
 
-use crate::feet::foot;
 use crate::way::Way;
 use crate::ways::{Ways, row_at};
 use direct_connections::Network;
+use pattern_query::foot;
 use std::alloc::{AllocError, Global};
 use timetable::StopId;
 

@@ -2,7 +2,8 @@
 
 ghost use Rattle.std.specs.Prelude.{◌≡◌, ◌<◌, ◌≤◌, ◌∷◌, [], length};
 
-use crate::path::{Path, path_from, path_of};
+use crate::path::{path_from, path_of};
+use rounds::Path;
 use std::marker::Model;
 use timetable::StopId;
 

@@ -1,6 +1,6 @@
 //! The second pass of a search: of the journeys with the same numbers the one that leaves last, and of those one that walks least.
 
-ghost use Rattle.std.specs.Prelude.{◌≡◌, ℕ, ◌+◌, ◌*◌, ◌<◌, ◌≤◌, ◌↔◌, length, Some, IfSome, IfNone, IsTrue};
+ghost use Rattle.std.specs.Prelude.{◌≡◌, ℕ, ◌+◌, ◌<◌, ◌≤◌, ◌↔◌, length, Some, IfSome, IfNone, IsTrue};
 ghost use Rattle.timetable.specs.Table.{IsTable};
 ghost use Rattle.pattern_query.specs.Answer.{PointData};
 ghost use Rattle.pattern_query.specs.Patterns.{paths_of};
@@ -10,31 +10,11 @@ ghost use Rattle.pattern_query.specs.Leaving.{walked, on_foot, CanTake, IsLastMo
 
 use crate::answer::Point;
 use crate::best_so_far::{is_there_by, no_points};
-use crate::packing::{Beginning, Pattern, rides_of};
+use crate::feet::{foot, walk_along, walk_of};
+use crate::packing::rides_of;
+use crate::patterns::Ending;
 use crate::search::{Search, hop};
-use direct_connections::Network;
 use timetable::StopId;
-
-// The seconds on foot from a stop to another, by the rides of the path.
-fn walk_along(network: &Network, from: StopId, path: &[(StopId, StopId)], to: StopId) -> u32
-    requires { length path.now ≤ 8 }
-    ensures value { result ≡ walked network.now from path.now to }
-    ensures short { result ≤ 86_400 * (length path.now + 1) }
-{
-    let Some((step, rest)) = path.split_first() else {
-        return hop(network, false, from, to).unwrap_or(0);
-    };
-    let seconds = hop(network, false, from, step.0).unwrap_or(0);
-    seconds + walk_along(network, step.1, rest, to)
-}
-
-// The seconds on foot of a journey.
-fn walk_of(network: &Network, point: &Point) -> u32
-    ensures { result ≡ on_foot network.now point.now }
-{
-    let path = point.path(network.timetable());
-    walk_along(network, point.from(), path.as_slice(), point.to())
-}
 
 impl Search<'_> {
     // The same search at another moment.
@@ -79,16 +59,12 @@ impl Search<'_> {
         ensures none { IfNone result ((e : ℕ) → CanTake self.now.network.now ridden at path.now self.now.to by e → e < self.now.depart) }
         ensures valid { IsTable self.now.network.now }
     {
-        let table = self.network.timetable();
         let Some((step, rest)) = path.split_first() else {
-            return self.back(by, hop(self.network, false, at, self.to));
+            return self.back(by, foot(self.network, at, self.to));
         };
         let alighted = self.last_moment(true, step.1, rest, by)?;
-        let leg = self.network.latest(step.0, step.1, alighted)?;
-        self.back(
-            table.departure_of(leg),
-            hop(self.network, ridden, at, step.0),
-        )
+        let ride = self.network.latest_ride(step.0, step.1, alighted)?;
+        self.back(ride.departure, hop(self.network, ridden, at, step.0))
     }
 
     // Whether one who leaves for the path at the moment leaves with the point, and walks no less.
@@ -161,21 +137,16 @@ impl Search<'_> {
     }
 
     /// Puts in place of the points the journeys along the paths of the patterns that are preferred. All journeys along these were searched.
-    pub(crate) fn leave_last(
-        &self,
-        beginnings: &[Beginning],
-        patterns: &[Pattern],
-        points: &mut [Option<Point>],
-    )
+    pub(crate) fn leave_last(&self, ending: &Ending<'_>, points: &mut [Option<Point>])
         requires slots { AreSlots points.old }
         requires each { AreJourneys self.now.network.now self.now.depart points.old }
         requires least { AreThere self.now.network.now self.now.source self.now.to self.now.depart
-            (EmptyOrIn (paths_of beginnings.now patterns.now)) points.old }
+            (EmptyOrIn (paths_of ending.now.beginnings.now ending.now.patterns.now)) points.old }
         ensures { LeaveLast self.now.network.now (IsAlong self.now.network.now self.now.source self.now.to self.now.depart
-            (EmptyOrIn (paths_of beginnings.now patterns.now))) points.old points.new }
+            (EmptyOrIn (paths_of ending.now.beginnings.now ending.now.patterns.now))) points.old points.new }
     {
-        for pattern in patterns {
-            let path = rides_of(beginnings, pattern.last);
+        for pattern in ending.patterns {
+            let path = rides_of(ending.beginnings, pattern.last);
             self.leave_along(path.as_slice(), points);
         }
     }

@@ -9,9 +9,11 @@ ghost use Rattle.pattern_query.specs.BestSoFar.{Searched, AreThere};
 
 use crate::answer::{Legs, Point};
 use crate::best_so_far::{is_there_by, offer};
-use crate::packing::{Beginning, Pattern, rides_of};
-use direct_connections::Network;
-use timetable::{LATEST_MOMENT, Leg, StopId};
+use crate::feet::foot;
+use crate::packing::rides_of;
+use crate::patterns::Ending;
+use direct_connections::{Network, Ride};
+use timetable::{LATEST_MOMENT, StopId};
 
 /// What is sought, and where: journeys from a source to a stop.
 #[derive(Clone, Copy)]
@@ -28,25 +30,13 @@ pub(crate) fn hop(network: &Network, ridden: bool, from: StopId, to: StopId) -> 
     ensures short { IfSome result (λ seconds. seconds ≤ 86_400) }
     ensures valid { IsTable network.now }
 {
-    let table = network.timetable();
-    if from != to {
-        table.walk(from, to)
-    } else if ridden {
-        table.change(from)
-    } else {
-        Some(0)
+    if ridden && from == to {
+        return network.timetable().change(from);
     }
+    foot(network, from, to)
 }
 
 impl Search<'_> {
-    // When a ride arrives.
-    fn arrival_of(&self, leg: Leg) -> u32
-        ensures value { result ≡ arrives self.now.network.now leg }
-        ensures valid { IsTable self.now.network.now }
-    {
-        self.network.timetable().arrival_of(leg)
-    }
-
     // The earliest ride along a step behind the legs, on a path of so many rides. None where there is none, or where a journey that
     // was found arrives no later than one could board, or than the ride does, with no more rides than the path: then no journey
     // along the path is better.
@@ -58,11 +48,13 @@ impl Search<'_> {
         legs: &Legs,
         rides: usize,
         points: &[Option<Point>],
-    ) -> Option<Leg>
+    ) -> Option<Ride>
         requires way { Earliest self.now.network.now self.now.source self.now.depart legs.now.items at since }
         requires early { since ≤ LATEST_MOMENT }
         requires room { rides < length points.now }
-        ensures boards { IfSome result (Boards self.now.network.now (is_some legs.now.items) at since step.0 step.1) }
+        ensures boards { IfSome result (λ ride. Boards self.now.network.now (is_some legs.now.items) at since step.0 step.1 ride.leg) }
+        ensures arrival { IfSome result (λ ride. ride.arrival ≡ arrives self.now.network.now ride.leg) }
+        ensures valid { IsTable self.now.network.now }
         ensures none { IfNone result (AreThere self.now.network.now self.now.source self.now.to self.now.depart
             (HasFront rides (pattern self.now.network.now legs.now.items ++ step ∷ [])) points.now) }
     {
@@ -71,11 +63,11 @@ impl Search<'_> {
         if is_there_by(points, rides + 1, ready) {
             return None;
         }
-        let leg = self.network.earliest(board, alight, ready)?;
-        if is_there_by(points, rides + 1, self.arrival_of(leg)) {
+        let ride = self.network.earliest_ride(board, alight, ready)?;
+        if is_there_by(points, rides + 1, ride.arrival) {
             return None;
         }
-        Some(leg)
+        Some(ride)
     }
 
     // When one leaves for the legs: so that the walk to the first ends just in time. Without legs one leaves when asked.
@@ -88,7 +80,7 @@ impl Search<'_> {
             return self.depart;
         };
         let board = table.boarding_stop(*leg);
-        let walk = hop(self.network, false, self.source, board).unwrap_or(0);
+        let walk = foot(self.network, self.source, board).unwrap_or(0);
         table.departure_of(*leg) - walk
     }
 
@@ -100,7 +92,7 @@ impl Search<'_> {
         ensures { Searched self.now.network.now self.now.source self.now.to self.now.depart
             (Exactly (pattern self.now.network.now legs.now.items)) points.old points.new }
     {
-        if let Some(seconds) = hop(self.network, false, at, self.to) {
+        if let Some(seconds) = foot(self.network, at, self.to) {
             let departure = self.departure_of(legs);
             let point = Point::new(self.source, self.to, departure, since + seconds, legs);
             offer(points, point);
@@ -118,31 +110,26 @@ impl Search<'_> {
         let mut at = self.source;
         let mut since = self.depart;
         for step in path {
-            let Some(leg) = self.ride(*step, at, since, &legs, path.len(), points) else {
+            let Some(ride) = self.ride(*step, at, since, &legs, path.len(), points) else {
                 return;
             };
-            legs.push(leg);
+            legs.push(ride.leg);
             at = step.1;
-            since = self.arrival_of(leg);
+            since = ride.arrival;
         }
         self.arrive(at, since, &legs, points);
     }
 
-    /// Puts in the journeys from the source to the stop on foot, and along the paths of the patterns. The beginnings have their rides.
-    pub(crate) fn run(
-        &self,
-        beginnings: &[Beginning],
-        patterns: &[Pattern],
-        points: &mut [Option<Point>],
-    )
+    /// Puts in the journeys from the source to the stop on foot, and along the paths of the patterns.
+    pub(crate) fn run(&self, ending: &Ending<'_>, points: &mut [Option<Point>])
         requires early { self.now.depart ≤ LATEST_MOMENT }
         requires nine { length points.old ≡ 9 }
         ensures { Searched self.now.network.now self.now.source self.now.to self.now.depart
-            (EmptyOrIn (paths_of beginnings.now patterns.now)) points.old points.new }
+            (EmptyOrIn (paths_of ending.now.beginnings.now ending.now.patterns.now)) points.old points.new }
     {
         self.follow(&[], points);
-        for pattern in patterns {
-            let path = rides_of(beginnings, pattern.last);
+        for pattern in ending.patterns {
+            let path = rides_of(ending.beginnings, pattern.last);
             self.follow(path.as_slice(), points);
         }
     }

@@ -3,23 +3,8 @@ use Rattle.lines.specs.declared.line.Times.{Times}
 use Rattle.lines.specs.Lines.{column}
 use Rattle.timetable.specs.Journeys.{departs}
 use Rattle.direct_connections.specs.Latest.{ArriveBy, IsLastRide}
-use Rattle.direct_connections.proofs.RideFacts.{line_there, column_long, line_most, none_by, last_most, last_rides}
+use Rattle.direct_connections.proofs.RideFacts.{line_there, column_long, none_by, last_most, last_rides}
 use Rattle.direct_connections.proofs.latest.last_ride.Goals as goal
-
-pub returns-then-departing-since-clause-none : goal.returns-then-departing-since-clause-none
-returns-then-departing-since-clause-none c = λ p q near other s on.
-    let T = c.args.table.now in
-    let lines = c.args.lines.now.lines in
-    let line = c.line-line.result.now in
-    let there = line_there T lines c.args.board c.args.alight line c.requires.lines.each c.line-line.ensures c.requires.board c.requires.alight c.requires.same in
-    let blank : Times = record { arrival = 0; departure = 0 } in
-    let valid = c.times_at-departing.ensures.valid in
-    let long = column_long T line c.args.board.position there.valid there.boards in
-    let some = valid.some in
-    let n : ℕ = length (column line c.args.board.position) - 1 in
-    let le = line_most T lines line p q c.args.by c.args.board c.args.alight c.requires.table there.valid valid there.is near n blank (omega (arith, long, some)) other s on in
-    let less = subst (λ (ts : List Times). (get_or ts (length ts - 1) blank).departure < c.args.since) c.times_at-departing.ensures.value c.if-departing-since.true in
-    let z : departs T other < c.args.since = omega (arith, le, less) in z
 
 pub times_at-requires : goal.times_at-requires
 times_at-requires c =

@@ -1,4 +1,4 @@
-use Rattle.std.proofs.Common.{◌≡◌, ℕ, ◌∷◌, ◌≤◌, ◌∙◌, ap, subst, arith}
+use Rattle.std.proofs.Common.{◌≡◌, ℕ, ◌∷◌, ◌≤◌, ◌∙◌, ap, subst, arith, le_trans, le_of_eq}
 use Rattle.timetable.specs.declared.parts.Leg.{Leg}
 use Rattle.timetable.specs.Journeys.{departs}
 use Rattle.direct_connections.specs.Latest.{ServesBy}
@@ -17,12 +17,14 @@ loop-way-preserved c =
     let y : WayData = c.way-item.result in
     let by = c.moment.result in
     let at : by ≡ y.moment = c.moment.ensures in
-    elim c.match-latest.branch [
+    elim c.match-latest_ride.branch [
       | in-Some+in_ok-offer w ↦
-          let leg = w.in-Some.leg in
+          let ride = w.in-Some.ride in
+          let leg = ride.leg in
+          let departure : ride.departure ≡ departs T leg = w.in-Some.ensures.departure in
           let serves = subst (λ (m : ℕ). ServesBy T b e m leg) at w.in-Some.ensures.ride in
-          let most = subst (λ (m : ℕ). (other : Leg) → ServesBy T b e m other → departs T other ≤ departs T leg) at w.in-Some.ensures.most in
-          let departure : w.departure_of-departure.result ≡ departs T leg = cc (w.departure_of-departure.ensures, w.timetable.ensures.value) in
+          let most = subst (λ (m : ℕ). (other : Leg) → ServesBy T b e m other → departs T other ≤ departs T leg) at
+          (λ other s. le_trans (w.in-Some.ensures.most other s) (le_of_eq departure)) in
           let way : WayData = w.after_ride.result in
           let shape : way ≡ record { moment = departs T leg; walked = y.walked; path = (b, e) ∷ y.path } =
           w.after_ride.ensures ∙ ap (λ (m : ℕ). record { moment = m; walked = y.walked; path = (b, e) ∷ y.path }) departure in

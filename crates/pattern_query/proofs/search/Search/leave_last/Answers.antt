@@ -23,7 +23,7 @@ leave_along-requires-clause-each c =
     let s = c.args.self.now.source in
     let t = c.args.self.now.to in
     let d = c.args.self.now.depart in
-    let Of : PointData → Type 0 = IsAlong T s t d (EmptyOrIn (take c.loop-pattern.pattern-index (paths_of c.args.beginnings.now c.args.patterns.now))) in
+    let Of : PointData → Type 0 = IsAlong T s t d (EmptyOrIn (take c.loop-pattern.pattern-index (paths_of c.args.ending.now.beginnings.now c.args.ending.now.patterns.now))) in
     journeys_still T d Of c.args.points.now c.loop-pattern.points c.loop-pattern.invariant (λ p is. (s, t, is.is)) c.requires.each
 
 pub leave_along-requires-clause-least : goal.leave_along-requires-clause-least
@@ -32,8 +32,8 @@ leave_along-requires-clause-least c =
     let s = c.args.self.now.source in
     let t = c.args.self.now.to in
     let d = c.args.self.now.depart in
-    let bs = c.args.beginnings.now in
-    let ps = c.args.patterns.now in
+    let bs = c.args.ending.now.beginnings.now in
+    let ps = c.args.ending.now.patterns.now in
     let i = c.loop-pattern.pattern-index in
     let p = c.pattern-item.result in
     let path = path_of bs p in
@@ -49,8 +49,8 @@ loop-pattern-preserved c =
     let s = c.args.self.now.source in
     let t = c.args.self.now.to in
     let d = c.args.self.now.depart in
-    let bs = c.args.beginnings.now in
-    let ps = c.args.patterns.now in
+    let bs = c.args.ending.now.beginnings.now in
+    let ps = c.args.ending.now.patterns.now in
     let i = c.loop-pattern.pattern-index in
     let p = c.pattern-item.result in
     let path = path_of bs p in

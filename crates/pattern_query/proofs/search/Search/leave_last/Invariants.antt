@@ -7,4 +7,4 @@ use Rattle.pattern_query.proofs.search.Search.leave_last.Given as goal
 
 abbrev pub invariant-loop-pattern : goal.invariant-loop-pattern
 invariant-loop-pattern l =
-    LeaveLast l.self.network.now (IsAlong l.self.network.now l.self.source l.self.to l.self.depart (EmptyOrIn (take l.pattern-index (paths_of l.beginnings l.patterns)))) l.fn.points l.points
+    LeaveLast l.self.network.now (IsAlong l.self.network.now l.self.source l.self.to l.self.depart (EmptyOrIn (take l.pattern-index (paths_of l.ending.beginnings.now l.ending.patterns.now)))) l.fn.points l.points

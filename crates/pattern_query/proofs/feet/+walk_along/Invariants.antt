@@ -1,5 +1,5 @@
 use Rattle.std.proofs.Common.{length}
-use Rattle.pattern_query.proofs.leaving.+walk_along.Given as goal
+use Rattle.pattern_query.proofs.feet.+walk_along.Given as goal
 
 abbrev pub decreases-walk_along : goal.decreases-walk_along
 decreases-walk_along l = length l.path.now

@@ -1,5 +1,0 @@
-use Rattle.std.proofs.Common.{length}
-use Rattle.least_walks.proofs.feet.+walk_along.Given as goal
-
-abbrev pub decreases-walk_along : goal.decreases-walk_along
-decreases-walk_along l = length l.legs.now
