@@ -60,15 +60,15 @@ TellsFront basis Of wanted front answers.NoRide = ⊥
 TellsFront basis Of wanted front (answers.Arrive time) = ⊥
 TellsFront basis Of wanted front (answers.Points points) = AllZip (TellsReached basis Of wanted) front points.items
 
--- A journey between these stops that is told: of all with its numbers it leaves last, and of those that leave as late it walks least. None
+-- A journey between these stops. Of all with its numbers none leaves later, and of those that leave as late none walks less. No journey
 -- of at most k rides leaves later for its numbers.
 pub record IsLastBetween (table : Table) (k : ℕ) (froms tos : List ℕ) (d : ℕ) (p : PointData) : Type 0 where
   pub is : IsPointBetween table froms tos d p
   pub last : LeavesLast table (IsPointBetween table froms tos d) p
   pub latest : IsLatest (ReachesBetween table k froms tos) p
 
--- A journey of the held trees that is told: of those with its numbers it leaves last, and of those that leave as late it walks least. If
--- the trees are complete, none of all journeys of at most k rides leaves later for its numbers.
+-- A journey of the held trees. Of those with its numbers none leaves later, and of those that leave as late none walks less. If the trees
+-- are complete, no journey of at most k rides leaves later for its numbers.
 pub record IsLastAsked (table : Table) (held : Held) (froms tos : List ℕ) (d : ℕ) (p : PointData) : Type 0 where
   pub is : IsAskedPoint table held froms tos d p
   pub last : LeavesLast table (IsAskedPoint table held froms tos d) p

@@ -18,8 +18,8 @@ module _ (table : Table) (k : ℕ) (c : Connection) (scanned : IsScanned table k
   pub own_best : Unbeaten (Reaches table 0 k c.journey.from c.journey.to c.journey.departure) (numbers c.journey)
   own_best = subst (λ (d : ℕ). Unbeaten (Reaches table 0 k c.journey.from c.journey.to d) (numbers c.journey)) (sym scanned.then) scanned.connects.best
 
-  pub own_early : c.departure ≤ LATEST_MOMENT → c.journey.departure ≤ LATEST_MOMENT
-  own_early early = subst (λ (d : ℕ). d ≤ LATEST_MOMENT) (sym scanned.then) early
+  pub own_early : c.journey.departure ≤ LATEST_MOMENT
+  own_early = subst (λ (d : ℕ). d ≤ LATEST_MOMENT) (sym scanned.then) scanned.early
 
   -- one with its numbers leaves with it
   leaves_with : (q : PointData) → IsJourney table c.journey.from c.journey.to c.departure q → numbers q ≡ numbers c.journey → q.departure ≡ c.departure

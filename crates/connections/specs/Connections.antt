@@ -5,7 +5,8 @@ use Rattle.std.specs.Prelude.{◌≡◌, ℕ, ◌<◌, ◌≤◌, ◌⊎◌, Lis
 use Rattle.std.specs.List.{All, AllPairs, Contains}
 use Rattle.timetable.specs.declared.parts.Numbers.{Numbers}
 use Rattle.timetable.specs.Journeys.{Reaches, Unbeaten}
-use Rattle.timetable.specs.Table.{Table}
+use Rattle.timetable.specs.Table.{Table, stops_of}
+use Rattle.timetable.specs.declared.parts.TheConstants.{LATEST_MOMENT}
 use Rattle.pattern_query.specs.Answer.{numbers, IsJourney}
 use Rattle.pattern_query.specs.Leaving.{LeavesLast}
 use Rattle.pattern_query.specs.Questions.{Held, IsAskedPoint}
@@ -41,8 +42,11 @@ WalksLeast table held froms tos c = LeavesLast table (IsAskedPoint table held fr
 abbrev pub IsLike : Connection → Connection → Type 0
 IsLike c e = (e.departure ≡ c.departure) × (numbers e.journey ≡ numbers c.journey)
 
--- it is a connection of all journeys of at most k rides between its stops, and its journey is one of them
+-- it is a connection of all journeys of at most k rides between two stops of the table, its journey is one of them, and its departure is a
+-- moment of the timetable
 pub record IsScanned (table : Table) (k : ℕ) (c : Connection) : Type 0 where
+  pub from : c.journey.from < stops_of table
+  pub early : c.departure ≤ LATEST_MOMENT
   pub is : IsJourney table c.journey.from c.journey.to c.departure c.journey
   pub then : LeavesThen c
   pub connects : Connects (Reaches table 0 k c.journey.from c.journey.to) c.departure (numbers c.journey)

@@ -1,8 +1,7 @@
 //! Connections whose journeys walk least.
 
-ghost use Rattle.std.specs.Prelude.{◌<◌, ◌≤◌, IfOk};
+ghost use Rattle.std.specs.Prelude.{IfOk};
 ghost use Rattle.std.specs.List.{All, AllZip};
-ghost use Rattle.timetable.specs.Table.{stops_of};
 ghost use Rattle.rounds.specs.Scratch.{IsMadeFor, IsAlike, rides_of};
 ghost use Rattle.connections.specs.Connections.{IsScanned, WalksLeastFor};
 
@@ -11,7 +10,6 @@ use direct_connections::Network;
 use least_walks::least_walk;
 use rounds::Scratch;
 use std::alloc::{AllocError, Global};
-use timetable::LATEST_MOMENT;
 
 // The connection with the journey that walks least.
 fn with_least(
@@ -21,8 +19,6 @@ fn with_least(
     connection: &Connection,
 ) -> Result<Connection, AllocError>
     requires made { IsMadeFor scratch.old network.now }
-    requires from { connection.now.journey.from < stops_of network.now }
-    requires early { connection.now.departure ≤ LATEST_MOMENT }
     requires is { IsScanned network.now (rides_of scratch.old) connection.now }
     ensures same { IsAlike scratch.old scratch.new }
     ensures least { IfOk result (WalksLeastFor network.now connection.now) }
@@ -35,7 +31,7 @@ fn with_least(
 }
 
 /// The connections with the same departures and numbers whose journeys walk least, over all journeys between their stops that leave as
-/// late. They are connections of at most as many rides as the scratch has, and depart at `LATEST_MOMENT` or earlier.
+/// late. The given ones have at most as many rides as the scratch and depart at `LATEST_MOMENT` or earlier, as `scan_first` finds them.
 ///
 /// For each connection whose journey walks, the rounds are run once at its departure, and a path that walks less is sought backward from
 /// its end. It fails only if memory runs out. The scratch serves any further runs, also after an error.
@@ -46,8 +42,6 @@ pub fn walk_least(
     connections: &[Connection],
 ) -> Result<Vec<Connection>, AllocError>
     requires table { IsMadeFor scratch.old network.now }
-    requires from { All (λ c. c.journey.from < stops_of network.now) connections.now }
-    requires early { All (λ c. c.departure ≤ LATEST_MOMENT) connections.now }
     requires scanned { All (IsScanned network.now (rides_of scratch.old)) connections.now }
     ensures same { IsAlike scratch.old scratch.new }
     ensures least { IfOk result (λ list. AllZip (WalksLeastFor network.now) connections.now list.items) }

@@ -73,8 +73,8 @@ impl fmt::Display for ListFaultLines<'_> {
     }
 }
 
-/// Where an id stands in the file of a path, as `tp` prints it on standard error: a line with the path and the number of a line of the file,
-/// counted from 1.
+/// Where an id stands in the file of a path, as `tp` prints it on standard error: a line with the path and the number of the file's line,
+/// from 1.
 #[derive(Clone, Copy, Debug)]
 pub struct PlaceLine<'a> {
     pub path: &'a str,

@@ -4,7 +4,8 @@ use Rattle.std.specs.List.{All, AllPairs, AllZip, Contains}
 use Rattle.std.proofs.lemmas.List.Elements.{AllZip-get_or, Contains-get_or, at_from_Contains, length_all_zip}
 use Rattle.timetable.specs.declared.parts.Numbers.{Numbers}
 use Rattle.timetable.specs.Journeys.{Reaches}
-use Rattle.timetable.specs.Table.{Table}
+use Rattle.timetable.specs.Table.{Table, stops_of}
+use Rattle.timetable.specs.declared.parts.TheConstants.{LATEST_MOMENT}
 use Rattle.pattern_query.specs.Answer.{numbers, IsJourney}
 use Rattle.pattern_query.specs.Leaving.{LeavesLast}
 use Rattle.connections.specs.Connections.{AreFirst, Connects, IsBefore, IsConnection, IsLike, IsScanned, LeavesThen, WalksLeastFor}
@@ -137,9 +138,11 @@ module _ (table : Table) where
         (λ x y from w. between_stops (λ p q d. LeavesLast table (IsJourney table p q d) y.journey) x y from w.like w.least) xs ys is all
 
     -- connections that the rounds found
-    module _ (k : ℕ) (window : Window) where
+    module _ (k : ℕ) (window : Window) (from : s < stops_of table) (early : window.last ≤ LATEST_MOMENT) where
       scanned_one : (c : Connection) → IsFrom c → LeavesThen c → IsConnection (Reaches table 0 k s t) window c → IsScanned table k c
       scanned_one c is then' of = record {
+        from = subst (λ (p : ℕ). p < stops_of table) (sym is.starts) from;
+        early = (let within = of.before in omega (arith, within, early));
         is = subst (λ (p : ℕ). IsJourney table p c.journey.to c.departure c.journey) (sym is.starts)
             (subst (λ (q : ℕ). IsJourney table s q c.departure c.journey) (sym is.ends) is);
         then = then';

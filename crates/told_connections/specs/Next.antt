@@ -51,7 +51,7 @@ pub record Chooses (asked : Option ℕ) (list : List Connection) (next : ℕ) (c
   pub items : chosen ≡ chosen_of asked list
   pub next_is : IsLeftFrom asked list next new
 
--- those that are told instead of the ones that are chosen: if their rides are wanted, with the journeys that walk least
+-- the chosen connections, with the journeys that walk least if their rides are wanted
 abbrev pub AreWalked : Table → Bool → List Connection → List Connection → Type 0
 AreWalked table false chosen told = told ≡ chosen
 AreWalked table true chosen told = AllZip (WalksLeastFor table) chosen told

@@ -25,7 +25,7 @@ use std::alloc::{AllocError, Global};
 use std::sync::Arc;
 use timetable::{LATEST_MOMENT, Rides};
 
-// The connections as they are told: if their rides are wanted, with the journeys that walk least.
+// The connections, with the journeys that walk least if their rides are wanted.
 fn walked(
     alloc: Global,
     network: &Network,
@@ -34,8 +34,6 @@ fn walked(
     legs: bool,
 ) -> Result<Vec<Connection>, AllocError>
     requires made { IsMadeFor scratch.old network.now }
-    requires from { All (λ c. c.journey.from < stops_of network.now) connections.items }
-    requires early { All (λ c. c.departure ≤ LATEST_MOMENT) connections.items }
     requires scanned { All (IsScanned network.now (rides_of scratch.old)) connections.items }
     ensures { IfOk result (λ list. AreWalked network.now legs connections.items list.items) }
 {

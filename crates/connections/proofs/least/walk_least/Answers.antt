@@ -1,23 +1,8 @@
-use Rattle.std.proofs.Common.{◌∙◌, ℕ, ◌<◌, ◌≤◌, sym, subst}
+use Rattle.std.proofs.Common.{◌∙◌, ℕ, sym, subst}
 use Rattle.std.proofs.lemmas.List.Elements.{all_zip_more}
-use Rattle.timetable.specs.declared.parts.TheConstants.{LATEST_MOMENT}
-use Rattle.timetable.specs.Table.{stops_of}
 use Rattle.rounds.specs.Scratch.{rides_of}
-use Rattle.connections.specs.declared.connection.Connection.{Connection}
 use Rattle.connections.specs.Connections.{IsScanned, WalksLeastFor}
 use Rattle.connections.proofs.least.walk_least.Goals as goal
-
-pub with_least-requires-clause-from : goal.with_least-requires-clause-from
-with_least-requires-clause-from c =
-    let x = c.connection-item.result in
-    subst (λ (x : Connection). x.journey.from < stops_of c.args.network.now) (sym c.connection-item.is)
-    (c.requires.from c.loop-connection.connection-index x c.loop-connection-test.true)
-
-pub with_least-requires-clause-early : goal.with_least-requires-clause-early
-with_least-requires-clause-early c =
-    let x = c.connection-item.result in
-    subst (λ (x : Connection). x.departure ≤ LATEST_MOMENT) (sym c.connection-item.is)
-    (c.requires.early c.loop-connection.connection-index x c.loop-connection-test.true)
 
 pub with_least-requires-clause-is : goal.with_least-requires-clause-is
 with_least-requires-clause-is c =

@@ -22,29 +22,6 @@ walked-requires-clause-made c =
     c.scan_first.ensures.same.made c.in_ok-network.network
     (subst (λ (table : Table). IsMadeFor c.in_ok-scratch.scratch table) c.timetable.ensures.value c.in_ok-scratch.ensures.table)
 
-pub walked-requires-clause-from : goal.walked-requires-clause-from
-walked-requires-clause-from c =
-    let T = c.in_ok-network.network in
-    let found = c.in_ok-first.first in
-    let told = c.chosen-told.result in
-    let Known = λ (x : Connection). x.journey.from < stops_of T in
-    let Is = λ (x : Connection). IsJourney T c.args.asked.from c.args.asked.to x.departure x.journey in
-    chosen_all Known c.args.next found.connections.items found.next told.connections.items told.next c.chosen-told.ensures
-    (All-weaker Is Known
-    (λ x is. subst (λ (s : ℕ). s < stops_of T) (sym is.starts)
-    (subst (λ (table : Table). c.args.asked.from < stops_of table) (sym c.in_ok-network.ensures) c.requires.from))
-    found.connections.items c.in_ok-first.ensures.journeys)
-
-pub walked-requires-clause-early : goal.walked-requires-clause-early
-walked-requires-clause-early c =
-    let found = c.in_ok-first.first in
-    let told = c.chosen-told.result in
-    chosen_all (λ (x : Connection). x.departure ≤ LATEST_MOMENT) c.args.next found.connections.items found.next told.connections.items told.next
-    c.chosen-told.ensures
-    (departs_early (Reaches c.in_ok-network.network 0 (rides_of c.in_ok-scratch.scratch) c.args.asked.from c.args.asked.to)
-    (between c.args.asked.depart c.args.last) c.enough_for.result found.connections.items found.next LATEST_MOMENT c.in_ok-first.ensures.right
-    c.requires.early)
-
 pub walked-requires-clause-scanned : goal.walked-requires-clause-scanned
 walked-requires-clause-scanned c =
     let T = c.in_ok-network.network in
@@ -52,8 +29,10 @@ walked-requires-clause-scanned c =
     let found = c.in_ok-first.first in
     let told = c.chosen-told.result in
     let list = told.connections.items in
-    let are = scanned_all T c.args.asked.from c.args.asked.to k (between c.args.asked.depart c.args.last) found.connections.items
-    c.in_ok-first.ensures.journeys c.in_ok-first.ensures.departures c.in_ok-first.ensures.right.are.each in
+    let from = subst (λ (table : Table). c.args.asked.from < stops_of table) (sym c.in_ok-network.ensures) c.requires.from in
+    let window = between c.args.asked.depart c.args.last in
+    let are = scanned_all T c.args.asked.from c.args.asked.to k window from c.requires.early found.connections.items c.in_ok-first.ensures.journeys
+    c.in_ok-first.ensures.departures c.in_ok-first.ensures.right.are.each in
     subst (λ (k : ℕ). All (IsScanned T k) list) (sym c.scan_first.ensures.same.rides)
     (chosen_all (IsScanned T k) c.args.next found.connections.items found.next list told.next c.chosen-told.ensures are)
 
