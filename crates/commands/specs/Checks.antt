@@ -19,7 +19,7 @@ use Rattle.gtfs_rows.specs.Faults.{Explains}
 use Rattle.gtfs_tables.specs.Feed.{Feed}
 use Rattle.printing.specs.declared.told.Told.{Told}
 use Rattle.printing.specs.declared.told.Told.TheVariants as tolds
-use Rattle.printing.specs.Given.{folder_given}
+use Rattle.command_line.specs.Given.{folder_given}
 use Rattle.printing.specs.Tellings.{IsStopsFault, Telling}
 use Rattle.commands.specs.World.{World}
 use denote.Ref.{Bor}

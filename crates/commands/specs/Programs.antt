@@ -17,7 +17,7 @@ use Rattle.printing.specs.declared.told.Told.{Told}
 use Rattle.printing.specs.declared.told.Told.TheVariants as tolds
 use Rattle.faults.specs.declared.fault.Fault.{Fault}
 use Rattle.faults.specs.declared.fault.Fault.TheVariants.{BadDate, BadTime, Memory}
-use Rattle.printing.specs.Given.{folder_given, word_given}
+use Rattle.command_line.specs.Given.{folder_given, word_given}
 use Rattle.printing.specs.Tellings.{Telling}
 use Rattle.commands.specs.Checks.{AreStops, IsFolderChecked}
 use Rattle.commands.specs.Runs.{IsPlanRun, voice_of}

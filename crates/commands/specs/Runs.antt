@@ -14,7 +14,7 @@ use Rattle.answering.specs.Answers.{IsDirect}
 use Rattle.printing.specs.Finished.{IsFaulted, StreamsData, streams_of}
 use Rattle.printing.specs.declared.fault.Voice.{Voice}
 use Rattle.streams.specs.Streams.{StreamData}
-use Rattle.printing.specs.Given.{given_by}
+use Rattle.command_line.specs.Given.{given_by}
 use Rattle.printing.specs.Tellings.{tells_legs, tells_reply}
 use Rattle.commands.specs.Feeds.{IsGround}
 use Rattle.commands.specs.Found.{IsFoundPrinted}

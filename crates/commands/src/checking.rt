@@ -7,13 +7,13 @@ ghost use Rattle.feed_report.specs.Counts.{IsCheckFault};
 ghost use Rattle.commands.specs.Checks.{AreStops, IsChecked, IsFeedTold, IsFolderChecked, IsListTold, IsRefusedFeed};
 
 use crate::system::System;
-use command_line::{FeedCheck, StopSearch, Style};
+use command_line::{FeedCheck, Given, StopSearch, Style};
 use faults::Fault;
 use feed_faults::laws::first_is_reported;
 use feed_faults::{FaultList, list_faults};
 use feed_report::{FeedReport, counts_of};
 use gtfs_tables::{FeedFault, Files};
-use printing::{Given, Teller, Told, fault_report};
+use printing::{Teller, Told, fault_report};
 use std::alloc::Global;
 
 // What the feed in a folder has, in the style.

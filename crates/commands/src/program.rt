@@ -12,12 +12,10 @@ use crate::running::{Ended, run_plan, voice_of};
 use crate::system::System;
 use clap::{ArgMatches, Error};
 use command_grammar::matches_of;
-use command_line::{Job, Style, Unread, Word, read_words};
+use command_line::{Given, Job, Style, Unread, Word, read_words};
 use disk_model::Disk;
 use faults::Fault;
-use printing::{
-    Given, Streams, Teller, Told, Voice, finish, print, say_no_memory, show, tell_fault,
-};
+use printing::{Streams, Teller, Told, Voice, finish, print, say_no_memory, show, tell_fault};
 use std::alloc::Global;
 use std::io::{BufRead, Write};
 

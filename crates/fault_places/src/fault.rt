@@ -2,12 +2,12 @@
 
 use crate::meant::{Meant, meant_by};
 use crate::parts::{Part, parts_of};
+use command_line::{Given, GivenPlaces};
 use faults::{Fault, file_name};
 use feed_names::open_names;
 use feed_texts::{FaultText, GivenText, NamedStop, fault_text_json};
 use gtfs_text::Sheet;
 use pattern_query::Refusal;
-use printing::{Given, Places};
 use question_lines::Question;
 use std::alloc::{AllocError, Global};
 use std::format;
@@ -58,7 +58,7 @@ fn id_of<'a>(fault: &Fault<'a>) -> Option<&'a str> {
 }
 
 // Which place of a question an unknown id is: the first place is looked at first.
-fn end_of(places: &Places<'_>, id: &str) -> Option<&'static str> {
+fn end_of(places: &GivenPlaces<'_>, id: &str) -> Option<&'static str> {
     if places.from == id {
         Some("from")
     } else if places.to == id {
@@ -69,7 +69,7 @@ fn end_of(places: &Places<'_>, id: &str) -> Option<&'static str> {
 }
 
 // Which place of the question a fault is about. Only a tree of the first place may be missing.
-fn end_meant(places: &Option<Places<'_>>, fault: &Fault<'_>) -> Option<&'static str> {
+fn end_meant(places: &Option<GivenPlaces<'_>>, fault: &Fault<'_>) -> Option<&'static str> {
     match (places, fault) {
         (Some(places), Fault::Question(Refusal::UnknownStop(id))) => end_of(places, id),
         (Some(_), Fault::Question(Refusal::NotStored(_))) => Some("from"),
@@ -101,9 +101,9 @@ pub fn named_fault_json(alloc: Global, shown: &str, status: u8) -> Result<String
 }
 
 // The places of a question, if one was asked.
-fn places_of<'a>(question: &Option<Question<'a>>) -> Option<Places<'a>> {
+fn places_of<'a>(question: &Option<Question<'a>>) -> Option<GivenPlaces<'a>> {
     match question {
-        Some(question) => Some(Places {
+        Some(question) => Some(GivenPlaces {
             from: question.from,
             to: question.to,
         }),

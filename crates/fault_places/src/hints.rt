@@ -2,12 +2,12 @@
 
 use crate::meant::{Meant, meant_by};
 use crate::parts::{PartsLine, parts_of};
+use command_line::Given;
 use faults::Fault;
 use feed_names::open_names;
 use gtfs_tables::FaultKind;
 use gtfs_text::Sheet;
 use pattern_query::Refusal;
-use printing::Given;
 use service_days::DayFault;
 use shown_ids::Shown;
 use std::alloc::{AllocError, Global};

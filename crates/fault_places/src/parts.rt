@@ -1,11 +1,10 @@
 //! What stands at the place of a fault.
 
-use command_line::Word;
+use command_line::{Given, Word};
 use faults::{Fault, file_name};
 use faulty_fields::{Field, fields_at, missing_columns};
 use feed_texts::GivenText;
 use gtfs_tables::{FaultKind, FeedFault, FeedFile};
-use printing::Given;
 use service_days::DayFault;
 use shown_ids::Shown;
 use std::alloc::{AllocError, Global};

@@ -12,7 +12,7 @@ use Rattle.service_days.specs.declared.fault.DayFault.{DayFault}
 use Rattle.service_days.specs.declared.fault.DayFault.TheVariants as days
 use Rattle.streams.specs.Streams.{IsSaid, StreamData}
 use Rattle.printing.specs.Tellings.{Telling}
-use Rattle.printing.specs.declared.given.Given.{Given}
+use Rattle.command_line.specs.declared.given.Given.{Given}
 
 -- of the faults of the days, lines are added to those of a zone that is none
 abbrev pub days_hint : DayFault → Bool

@@ -1,7 +1,6 @@
 pub mod Told
 pub mod Faults
 pub mod Finished
-pub mod Given
 pub mod Listed
 pub mod Reports
 pub mod Tellings

@@ -5,7 +5,7 @@ use Rattle.std.specs.List.{All}
 use Rattle.faults.specs.declared.fault.Fault.TheVariants as faults
 use Rattle.file_faults.specs.declared.list.FaultList.{FaultList}
 use Rattle.printing.specs.Tellings.{Telling}
-use Rattle.printing.specs.declared.given.Given.{Given}
+use Rattle.command_line.specs.declared.given.Given.{Given}
 use Rattle.printing.specs.declared.report.FaultReport.{FaultReport}
 use Rattle.printing.specs.declared.report.ListedFault.{ListedFault}
 

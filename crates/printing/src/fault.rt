@@ -5,9 +5,8 @@ ghost use Rattle.faults.specs.Faults.{status_of};
 ghost use Rattle.printing.specs.Faults.{AreFaultLines, IsFaultSaid, IsFormatText, IsHint, has_hint};
 ghost use Rattle.streams.specs.Streams.{IsSaid};
 
-use crate::given::Given;
 use crate::teller::Teller;
-use command_line::Style;
+use command_line::{Given, Style};
 use faults::{Fault, FaultLines};
 use pattern_query::Refusal;
 use service_days::DayFault;

@@ -5,7 +5,6 @@
 mod asked;
 mod fault;
 mod finishing;
-mod given;
 mod listing;
 mod output;
 mod report;
@@ -15,7 +14,6 @@ mod told;
 pub use asked::{Asked, copy_of};
 pub use fault::{Voice, tell_fault};
 pub use finishing::{NO_MEMORY, UNWRITTEN, finish, print, say_no_memory, say_unwritten, show};
-pub use given::{Given, Places, given_by};
 pub use listing::fault_report;
 pub use output::Streams;
 pub use report::{FaultReport, ListedFault};

@@ -3,9 +3,9 @@
 ghost use Rattle.std.specs.Prelude.{IfOk};
 ghost use Rattle.printing.specs.Listed.{IsReportOf};
 
-use crate::given::Given;
 use crate::report::{FaultReport, ListedFault};
 use crate::teller::Teller;
+use command_line::Given;
 use faults::Fault;
 use file_faults::FaultList;
 use std::alloc::{AllocError, Global};

@@ -3,13 +3,12 @@
 ghost use Rattle.std.specs.Prelude.{◌≡◌, Option, IfOk, IfErr, IfSome, string_bytes};
 ghost use Rattle.feed_basis.specs.Basis.{BasisData};
 ghost use Rattle.question_lines.specs.declared.question.Question.{Question};
-ghost use Rattle.serving.specs.Printed.{no_memory};
+ghost use Rattle.replies.specs.Printed.{no_memory};
 ghost use Rattle.printing.specs.Tellings.{IsStopsFault, Telling, tells_legs};
 
 use crate::asked::Asked;
-use crate::given::Given;
 use answer_lines::{Answer, Report};
-use command_line::{Format, Plan, StopSearch, Style};
+use command_line::{Format, Given, Plan, StopSearch, Style};
 use connection_lines::Connections;
 use faults::Fault;
 use feed_basis::Basis;
@@ -18,7 +17,7 @@ use file_faults::FaultList;
 use gtfs_rows::FeedFault;
 use options::Settings;
 use question_lines::Question;
-use serving::Reply;
+use replies::Reply;
 use std::alloc::{AllocError, Global};
 
 /// Makes the texts of answers, connections, reports, replies and faults in formats beside lines, of lists of stops, and what is added to

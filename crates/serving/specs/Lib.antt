@@ -1,4 +1,3 @@
 pub mod Answers
-pub mod Printed
 pub mod Runs
 pub mod Tellings

@@ -1,20 +1,13 @@
--- How replies are told, as text.
-use Rattle.std.specs.Prelude.{◌≡◌, ◌⊎◌, ℕ, List, Option, MatchOption}
+-- Replies to lines, as text, and what of them stands on the output.
+use Rattle.std.specs.Prelude.{◌⊎◌, ℕ, List, Option, MatchOption}
 use Rattle.std.specs.Io.KnownBytes.{Appends}
 use Rattle.board.specs.Ties.{BoardPart}
 use Rattle.answer_lines.specs.Printing.{AppendsBeginning}
 use Rattle.question_lines.specs.Questions.{IsQuestion, NotQuestion}
 use Rattle.question_lines.specs.declared.question.Question.{Question}
-use Rattle.serving.specs.Printed.{no_memory, reply_text}
-use Rattle.serving.specs.declared.reply.Reply.{Reply}
-
--- which texts tell a reply to a question, or to a line that is none
-abbrev pub Telling : Type 1
-Telling = Option Question → Reply → List ℕ → Type 0
-
--- as lines: those of an answer or a refusal, and then a line with a dot alone
-abbrev pub line_telling : Telling
-line_telling question reply text = text ≡ reply_text reply
+use Rattle.replies.specs.Printed.{no_memory}
+use Rattle.replies.specs.Tellings.{Telling}
+use Rattle.replies.specs.declared.reply.Reply.{Reply}
 
 -- the line is this question, or none
 abbrev pub IsAsking : List ℕ → Option Question → Type 0

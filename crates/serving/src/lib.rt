@@ -3,12 +3,8 @@
 
 mod look;
 mod printing;
-mod reply;
 mod replying;
 mod serving;
-mod telling;
 mod windows;
 
-pub use reply::{Refusal, Reply};
 pub use serving::{End, serve_lines};
-pub use telling::{Lines, ReplyTeller};

@@ -5,11 +5,10 @@ ghost use Rattle.std.specs.Io.KnownBytes.{Appends};
 ghost use Rattle.answer_lines.specs.Printing.{AppendsBeginning};
 ghost use Rattle.serving.specs.Tellings.{IsBegun, IsPrinted};
 
-use crate::reply::Reply;
-use crate::telling::ReplyTeller;
 use answer_lines::print_bytes;
 use feed_basis::Basis;
 use question_lines::Question;
+use replies::{Reply, ReplyTeller};
 use std::alloc::Global;
 use std::io::Write;
 

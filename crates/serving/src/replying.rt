@@ -7,13 +7,13 @@ ghost use Rattle.serving.specs.Answers.{IsOver, IsReply, IsTold};
 ghost use Rattle.serving.specs.Tellings.{IsAsking};
 ghost use Rattle.told_journeys.specs.Points.{IsKnownJourney};
 
-use crate::reply::{Refusal, Reply};
 use crate::windows::reply_within;
 use answer_lines::Answer;
 use board::Reader;
 use feed_basis::Basis;
 use planner::Planner;
 use question_lines::Question;
+use replies::{Refusal, Reply};
 use std::alloc::Global;
 use timetable::LATEST_MOMENT;
 use told_journeys::told;

@@ -5,13 +5,13 @@ ghost use Rattle.question_lines.specs.Questions.{IsQuestion};
 ghost use Rattle.serving.specs.Answers.{IsOver, IsReply, reply_of};
 
 use crate::look::Look;
-use crate::reply::{Refusal, Reply};
 use board::Reader;
 use connection_lines::Connections;
 use faults::Fault;
 use feed_basis::Basis;
 use planner::{AskFault, Planner};
 use question_lines::{Question, Within};
+use replies::{Refusal, Reply};
 use std::alloc::Global;
 use told_connections::{ask_within, times_of};
 

@@ -10,7 +10,8 @@ use Rattle.board.specs.Ties.{BoardPart}
 use Rattle.board.specs.Trees.{IsSameTree}
 use Rattle.serving.specs.Answers.{IsReply}
 use Rattle.serving.specs.Runs.{IsServed}
-use Rattle.serving.specs.Tellings.{IsReplyText, Telling}
+use Rattle.replies.specs.Tellings.{Telling}
+use Rattle.serving.specs.Tellings.{IsReplyText}
 use Rattle.serving.specs.declared.serving.End.{End}
 use Rattle.feed_basis.specs.Basis.{BasisData}
 use Rattle.store_building.specs.Builds.{IsBuilt, IsStopped}

@@ -1,6 +1,6 @@
 use Rattle.std.proofs.Common.{refl, inl, subst}
 use Rattle.printing.specs.Listed.{IsReportOf}
-use Rattle.printing.specs.declared.given.Given.{Given}
+use Rattle.command_line.specs.declared.given.Given.{Given}
 use Rattle.commands.proofs.checking.told_faults.Goals as goal
 
 pub returns-in-Ok : goal.returns-in-Ok

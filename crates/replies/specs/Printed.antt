@@ -3,10 +3,10 @@ use Rattle.std.specs.Prelude.{ℕ, List, [], ◌∷◌, ◌++◌, codes}
 use Rattle.planner.specs.AskTexts.{ask_text}
 use Rattle.answer_lines.specs.Printed.{answer_text}
 use Rattle.connection_lines.specs.Printed.{connections_text}
-use Rattle.serving.specs.declared.reply.Refusal.{Refusal}
-use Rattle.serving.specs.declared.reply.Refusal.TheVariants as refusals
-use Rattle.serving.specs.declared.reply.Reply.{Reply}
-use Rattle.serving.specs.declared.reply.Reply.TheVariants as replies
+use Rattle.replies.specs.declared.reply.Refusal.{Refusal}
+use Rattle.replies.specs.declared.reply.Refusal.TheVariants as refusals
+use Rattle.replies.specs.declared.reply.Reply.{Reply}
+use Rattle.replies.specs.declared.reply.Reply.TheVariants as replies
 
 -- the code and the name of a refusal, and the id that it is about, as far as it has them
 abbrev pub refusal_text : Refusal → List ℕ
@@ -14,7 +14,7 @@ refusal_text refusals.BadLine = codes "BadLine"
 refusal_text (refusals.Ask fault) = ask_text fault
 refusal_text refusals.Memory = codes "Memory"
 
--- a line with a dot alone
+-- a line with only a dot
 abbrev pub dot_line : List ℕ
 dot_line = 46 ∷ 10 ∷ []
 
@@ -22,7 +22,7 @@ dot_line = 46 ∷ 10 ∷ []
 abbrev pub closing : List ℕ
 closing = 10 ∷ dot_line
 
--- the lines of an answer, of connections or of a refusal, and then a line with a dot alone
+-- the lines of an answer, of connections or of a refusal, and then a line with only a dot
 abbrev pub reply_text : Reply → List ℕ
 reply_text (replies.Answer answer) = answer_text answer ++ closing
 reply_text (replies.Connections shown) = connections_text shown ++ dot_line

@@ -10,15 +10,15 @@ use Rattle.command_line.specs.declared.job.Search.TheVariants as searches
 use Rattle.command_line.specs.declared.job.Task.{Task}
 use Rattle.command_line.specs.declared.job.Task.TheVariants as tasks
 use Rattle.command_line.specs.declared.unread.Word.{Word}
-use Rattle.printing.specs.declared.given.Given.{Given}
-use Rattle.printing.specs.declared.given.Places.{Places}
+use Rattle.command_line.specs.declared.given.Given.{Given}
+use Rattle.command_line.specs.declared.given.GivenPlaces.{GivenPlaces}
 
 -- the places of a question
-abbrev pub places_of : Question → Places
+abbrev pub places_of : Question → GivenPlaces
 places_of question = record { from = question.from; to = question.to }
 
 -- those that a task, a search or a command asks about
-abbrev pub task_places : Task → Option Places
+abbrev pub task_places : Task → Option GivenPlaces
 task_places (tasks.Ask question legs) = Some (places_of question)
 task_places tasks.List = None
 task_places (tasks.Audit whose) = None
@@ -26,13 +26,13 @@ task_places (tasks.Build workers progress part) = None
 task_places (tasks.Migrate old progress) = None
 task_places (tasks.Merge parts progress) = None
 
-abbrev pub search_places : Search → Option Places
+abbrev pub search_places : Search → Option GivenPlaces
 search_places (searches.Direct question) = Some (places_of question)
 search_places (searches.Scan question legs) = Some (places_of question)
 search_places (searches.Reach question minutes) = Some (places_of question)
 search_places (searches.Stored store task) = task_places task
 
-abbrev pub command_places : Command → Option Places
+abbrev pub command_places : Command → Option GivenPlaces
 command_places (commands.Find search) = search_places search
 command_places (commands.Matrix question workers progress) = None
 command_places (commands.Serve store workers) = None

@@ -1,14 +1,14 @@
 //! What is replied to a line.
 
 ghost use Rattle.std.specs.Prelude.{Some};
-ghost use Rattle.serving.specs.Printed.{refusal_text, reply_text};
+ghost use Rattle.replies.specs.Printed.{refusal_text, reply_text};
 
 use answer_lines::Answer;
 use connection_lines::Connections;
 use planner::AskFault;
 use std::fmt;
 
-/// Why a line has no answer. Shown by its code, where it has one, and its name.
+/// Why a line has no answer. Shown by its code, if it has one, and its name.
 #[derive(Clone, Copy, Debug, PartialEq, Eq)]
 pub enum Refusal<'a> {
     /// The line is no question.
@@ -19,7 +19,7 @@ pub enum Refusal<'a> {
     Memory,
 }
 
-/// What is replied to a line: an answer or connections, or why there are none. Shown by its lines and then a line with a dot alone, each
+/// What is replied to a line: an answer or connections, or why there are none. Shown by its lines and then a line with only a dot, each
 /// with its end.
 #[derive(Debug, Drop)]
 pub enum Reply<'a> {

@@ -3,8 +3,8 @@
 ghost use Rattle.std.specs.Prelude.{◌≡◌, Bool, Option, IfOk, string_bytes};
 ghost use Rattle.feed_basis.specs.Basis.{BasisData};
 ghost use Rattle.question_lines.specs.declared.question.Question.{Question};
-ghost use Rattle.serving.specs.Printed.{no_memory};
-ghost use Rattle.serving.specs.Tellings.{Telling};
+ghost use Rattle.replies.specs.Printed.{no_memory};
+ghost use Rattle.replies.specs.Tellings.{Telling};
 
 use crate::reply::Reply;
 use feed_basis::Basis;
@@ -24,7 +24,7 @@ pub trait ReplyTeller {
     fn legs(&self) -> bool
         ensures { result ≡ tells_legs self.now };
 
-    /// The text of a reply to a line that is this question, or none, over the basis. It fails only where memory runs out.
+    /// The text of a reply to a line that is this question, or none, over the basis. It fails only if memory runs out.
     fn told(
         &self,
         alloc: Global,
@@ -39,14 +39,14 @@ pub trait ReplyTeller {
         ensures { (basis : BasisData) → (question : Option Question) → tells self.now basis question no_memory result.now };
 }
 
-/// Tells replies as lines: those of an answer, or `refused` and why there is none, and then a line with a dot alone. Rides and walks aren't
+/// Tells replies as lines: those of an answer, or `refused` and why there is none, and then a line with only a dot. Rides and walks aren't
 /// told.
 #[derive(Clone, Copy, Debug, PartialEq, Eq)]
 pub struct Lines;
 
 impl ReplyTeller for Lines {
     ghost use Rattle.std.specs.Prelude.{false};
-    ghost use Rattle.serving.specs.Tellings.{line_telling};
+    ghost use Rattle.replies.specs.Tellings.{line_telling};
 
     ghost tells = { λ _ _. line_telling };
 

@@ -1,14 +1,15 @@
 //! What the words say that a fault may be about.
 
 ghost use Rattle.std.specs.Prelude.{◌≡◌};
-ghost use Rattle.printing.specs.Given.{command_places, folder_given, given_by, places_of, search_places, task_places, word_given};
+ghost use Rattle.command_line.specs.Given.{command_places, folder_given, given_by, places_of, search_places, task_places, word_given};
 
-use command_line::{Command, Plan, Search, Task, Word};
+use crate::job::{Command, Plan, Search, Task};
+use crate::unread::Word;
 use question_lines::Question;
 
 /// The places of a question, by their ids.
 #[derive(Clone, Copy)]
-pub struct Places<'a> {
+pub struct GivenPlaces<'a> {
     pub from: &'a str,
     pub to: &'a str,
 }
@@ -21,7 +22,7 @@ pub struct Given<'a> {
     /// The rule of the zone; none for a fault of the words, and for a command without days.
     pub zone: Option<&'a str>,
     /// The places of the question, if one is asked.
-    pub places: Option<Places<'a>>,
+    pub places: Option<GivenPlaces<'a>>,
     /// The word that is at fault, if one is.
     pub word: Option<Word<'a>>,
 }
@@ -53,17 +54,17 @@ impl<'a> Given<'a> {
 }
 
 // The places of a question.
-fn places_of<'a>(question: &Question<'a>) -> Places<'a>
+fn places_of<'a>(question: &Question<'a>) -> GivenPlaces<'a>
     ensures { result ≡ places_of question.now }
 {
-    Places {
+    GivenPlaces {
         from: question.from,
         to: question.to,
     }
 }
 
 // The places that a task asks about.
-fn task_places<'a>(task: &Task<'a>) -> Option<Places<'a>>
+fn task_places<'a>(task: &Task<'a>) -> Option<GivenPlaces<'a>>
     ensures { result ≡ task_places task.now }
 {
     match task {
@@ -74,7 +75,7 @@ fn task_places<'a>(task: &Task<'a>) -> Option<Places<'a>>
 }
 
 // The places that a search asks about.
-fn search_places<'a>(search: &Search<'a>) -> Option<Places<'a>>
+fn search_places<'a>(search: &Search<'a>) -> Option<GivenPlaces<'a>>
     ensures { result ≡ search_places search.now }
 {
     match search {
@@ -86,7 +87,7 @@ fn search_places<'a>(search: &Search<'a>) -> Option<Places<'a>>
 }
 
 // The places that a command asks about.
-fn command_places<'a>(command: &Command<'a>) -> Option<Places<'a>>
+fn command_places<'a>(command: &Command<'a>) -> Option<GivenPlaces<'a>>
     ensures { result ≡ command_places command.now }
 {
     match command {

@@ -1,0 +1,13 @@
+-- How replies are told, as text.
+use Rattle.std.specs.Prelude.{◌≡◌, ℕ, List, Option}
+use Rattle.question_lines.specs.declared.question.Question.{Question}
+use Rattle.replies.specs.Printed.{reply_text}
+use Rattle.replies.specs.declared.reply.Reply.{Reply}
+
+-- which texts tell a reply to a question, or to a line that is none
+abbrev pub Telling : Type 1
+Telling = Option Question → Reply → List ℕ → Type 0
+
+-- as lines: those of an answer or a refusal, and then a line with only a dot
+abbrev pub line_telling : Telling
+line_telling question reply text = text ≡ reply_text reply

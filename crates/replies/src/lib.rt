@@ -1,0 +1,8 @@
+//! Replies to questions that are asked line by line, and how they are told.
+#![tactic(auto)]
+
+mod reply;
+mod telling;
+
+pub use reply::{Refusal, Reply};
+pub use telling::{Lines, ReplyTeller};
