@@ -15,7 +15,7 @@ use Rattle.faults.specs.declared.fault.Fault.{Fault}
 use Rattle.faults.specs.declared.fault.Fault.TheVariants as faults
 use Rattle.section_store.specs.Beginnings.{CanBegin}
 use Rattle.section_store.specs.Sections.{Form, IsFresh}
-use Rattle.replies.specs.Tellings.{Telling as ReplyTelling}
+use Rattle.reply_lines.specs.Tellings.{Telling as ReplyTelling}
 use Rattle.serving.specs.declared.serving.End.{End}
 use Rattle.serving.specs.declared.serving.End.TheVariants as ends
 use Rattle.store_building.specs.Replies.{IsServing}

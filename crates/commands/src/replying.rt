@@ -14,7 +14,7 @@ use crate::system::System;
 use command_line::{Plan, Style, Workers};
 use faults::Fault;
 use printing::{Streams, Teller, Voice, tell_fault};
-use replies::{Lines, ReplyTeller};
+use reply_lines::{Lines, ReplyTeller};
 use std::alloc::Global;
 use std::io::{BufRead, Write};
 use store_building::{Building, serve};

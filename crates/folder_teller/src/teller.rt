@@ -22,7 +22,7 @@ use itineraries::{Found, itinerary_of};
 use options::Settings;
 use printing::{Asked, Teller};
 use question_lines::Question;
-use replies::Reply;
+use reply_lines::Reply;
 use std::alloc::{AllocError, Global};
 use std::slice;
 use told_names::{NameSheets, Names};

@@ -13,7 +13,7 @@ use Rattle.file_faults.specs.declared.list.FaultList.{FaultList}
 use Rattle.gtfs_rows.specs.declared.fault.FeedFault.{FeedFault}
 use Rattle.faults.specs.declared.fault.Fault.{Fault}
 use Rattle.faults.specs.declared.fault.Fault.TheVariants as faults
-use Rattle.replies.specs.Tellings.{Telling as ReplyTelling, line_telling}
+use Rattle.reply_lines.specs.Tellings.{Telling as ReplyTelling, line_telling}
 use Rattle.command_line.specs.declared.given.Given.{Given}
 
 -- Which texts may tell an answer, connections, a report, what a feed has, all its faults, a reply or a fault in a format; which may list

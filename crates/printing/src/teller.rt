@@ -3,7 +3,7 @@
 ghost use Rattle.std.specs.Prelude.{◌≡◌, Option, IfOk, IfErr, IfSome, string_bytes};
 ghost use Rattle.feed_basis.specs.Basis.{BasisData};
 ghost use Rattle.question_lines.specs.declared.question.Question.{Question};
-ghost use Rattle.replies.specs.Printed.{no_memory};
+ghost use Rattle.reply_lines.specs.Printed.{no_memory};
 ghost use Rattle.printing.specs.Tellings.{IsStopsFault, Telling, tells_legs};
 
 use crate::asked::Asked;
@@ -17,7 +17,7 @@ use file_faults::FaultList;
 use gtfs_rows::FeedFault;
 use options::Settings;
 use question_lines::Question;
-use replies::Reply;
+use reply_lines::Reply;
 use std::alloc::{AllocError, Global};
 
 /// Makes the texts of answers, connections, reports, replies and faults in formats beside lines, of lists of stops, and what is added to

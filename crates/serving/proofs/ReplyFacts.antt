@@ -16,9 +16,9 @@ use Rattle.told_connections.specs.Windows.{IsAskedWithin, IsUnaskedWithin}
 use Rattle.told_connections.specs.declared.times.Times.{Times}
 use Rattle.question_lines.specs.declared.question.Question.{Question}
 use Rattle.serving.specs.Answers.{AsksWithin, IsAsked, IsRefused, IsReply, IsTold, IsUnaskedAt, reply_of}
-use Rattle.replies.specs.declared.reply.Refusal.TheVariants as refusals
-use Rattle.replies.specs.declared.reply.Reply.{Reply}
-use Rattle.replies.specs.declared.reply.Reply.TheVariants as replies
+use Rattle.reply_lines.specs.declared.reply.Refusal.TheVariants as refusals
+use Rattle.reply_lines.specs.declared.reply.Reply.{Reply}
+use Rattle.reply_lines.specs.declared.reply.Reply.TheVariants as replies
 
 module _ (p : PlannerView) (basis : BasisData) (wanted : Bool) (line : List ℕ) (old new : BoardPart) where
   -- what is told of an answer

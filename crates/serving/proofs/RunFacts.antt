@@ -9,11 +9,11 @@ use Rattle.board.specs.Ties.{BoardPart}
 use Rattle.answer_lines.specs.Printing.{AppendsBeginning}
 use Rattle.question_lines.specs.Lines.{HasNoLine, IsKept, LosesLine}
 use Rattle.question_lines.specs.declared.question.Question.{Question}
-use Rattle.replies.specs.Printed.{no_memory}
-use Rattle.replies.specs.Tellings.{Telling}
+use Rattle.reply_lines.specs.Printed.{no_memory}
+use Rattle.reply_lines.specs.Tellings.{Telling}
 use Rattle.serving.specs.Tellings.{IsAsking, IsBegun, IsPrinted, IsReplyText}
 use Rattle.serving.specs.Runs.{AreAnswered, AreReplies, IsCutOff, IsReplied, IsRight, IsServed, IsServedSoFar}
-use Rattle.replies.specs.declared.reply.Reply.{Reply}
+use Rattle.reply_lines.specs.declared.reply.Reply.{Reply}
 use Rattle.serving.specs.declared.serving.End.TheVariants as ends
 
 -- one reply more

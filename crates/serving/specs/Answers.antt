@@ -25,10 +25,10 @@ use Rattle.question_lines.specs.declared.question.Within.{Within}
 use Rattle.told_connections.specs.Times.{AreTimesOf}
 use Rattle.told_connections.specs.Windows.{IsAskedWithin, IsUnaskedWithin}
 use Rattle.told_connections.specs.declared.times.Times.{Times}
-use Rattle.replies.specs.declared.reply.Refusal.{Refusal}
-use Rattle.replies.specs.declared.reply.Refusal.TheVariants as refusals
-use Rattle.replies.specs.declared.reply.Reply.{Reply}
-use Rattle.replies.specs.declared.reply.Reply.TheVariants as replies
+use Rattle.reply_lines.specs.declared.reply.Refusal.{Refusal}
+use Rattle.reply_lines.specs.declared.reply.Refusal.TheVariants as refusals
+use Rattle.reply_lines.specs.declared.reply.Reply.{Reply}
+use Rattle.reply_lines.specs.declared.reply.Reply.TheVariants as replies
 
 -- the planner is for the basis's timetable, with its names
 pub record IsOver (basis : BasisData) (p : PlannerView) : Type 0 where

@@ -5,9 +5,9 @@ use Rattle.board.specs.Ties.{BoardPart}
 use Rattle.answer_lines.specs.Printing.{AppendsBeginning}
 use Rattle.question_lines.specs.Questions.{IsQuestion, NotQuestion}
 use Rattle.question_lines.specs.declared.question.Question.{Question}
-use Rattle.replies.specs.Printed.{no_memory}
-use Rattle.replies.specs.Tellings.{Telling}
-use Rattle.replies.specs.declared.reply.Reply.{Reply}
+use Rattle.reply_lines.specs.Printed.{no_memory}
+use Rattle.reply_lines.specs.Tellings.{Telling}
+use Rattle.reply_lines.specs.declared.reply.Reply.{Reply}
 
 -- the line is this question, or none
 abbrev pub IsAsking : List ℕ → Option Question → Type 0

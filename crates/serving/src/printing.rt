@@ -8,7 +8,7 @@ ghost use Rattle.serving.specs.Tellings.{IsBegun, IsPrinted};
 use answer_lines::print_bytes;
 use feed_basis::Basis;
 use question_lines::Question;
-use replies::{Reply, ReplyTeller};
+use reply_lines::{Reply, ReplyTeller};
 use std::alloc::Global;
 use std::io::Write;
 

@@ -13,7 +13,7 @@ use board::Reader;
 use feed_basis::Basis;
 use planner::Planner;
 use question_lines::Question;
-use replies::{Refusal, Reply};
+use reply_lines::{Refusal, Reply};
 use std::alloc::Global;
 use timetable::LATEST_MOMENT;
 use told_journeys::told;

@@ -12,7 +12,7 @@ use board::Reader;
 use feed_basis::Basis;
 use planner::Planner;
 use question_lines::Line;
-use replies::ReplyTeller;
+use reply_lines::ReplyTeller;
 use std::alloc::Global;
 use std::io::{BufRead, Write};
 

@@ -11,7 +11,7 @@ use faults::Fault;
 use feed_basis::Basis;
 use planner::{AskFault, Planner};
 use question_lines::{Question, Within};
-use replies::{Refusal, Reply};
+use reply_lines::{Refusal, Reply};
 use std::alloc::Global;
 use told_connections::{ask_within, times_of};
 

@@ -6,7 +6,7 @@ use Rattle.planner.specs.PlannerView.{PlannerView}
 use Rattle.feed_basis.specs.Basis.{BasisData}
 use Rattle.serving.specs.Answers.{IsOver, IsReply}
 use Rattle.serving.specs.Runs.{IsServed}
-use Rattle.replies.specs.Tellings.{Telling}
+use Rattle.reply_lines.specs.Tellings.{Telling}
 use Rattle.serving.specs.Tellings.{IsReplyText}
 use Rattle.serving.specs.declared.serving.End.{End}
 use Rattle.store_building.specs.Replies.{AreReplied, IsOpenedReader}

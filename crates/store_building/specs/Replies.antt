@@ -10,7 +10,7 @@ use Rattle.board.specs.Ties.{BoardPart}
 use Rattle.board.specs.Trees.{IsSameTree}
 use Rattle.serving.specs.Answers.{IsReply}
 use Rattle.serving.specs.Runs.{IsServed}
-use Rattle.replies.specs.Tellings.{Telling}
+use Rattle.reply_lines.specs.Tellings.{Telling}
 use Rattle.serving.specs.Tellings.{IsReplyText}
 use Rattle.serving.specs.declared.serving.End.{End}
 use Rattle.feed_basis.specs.Basis.{BasisData}

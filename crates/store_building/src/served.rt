@@ -15,7 +15,7 @@ use feed_basis::Basis;
 use planner::Planner;
 use precomputing::{Free, Meanwhile, precompute_while};
 use recovery::laws::opening_goes_on;
-use replies::ReplyTeller;
+use reply_lines::ReplyTeller;
 use section_store::going_laws::goes_on;
 use section_store::laws::loses_nothing_in_turn;
 use serving::{End, serve_lines};

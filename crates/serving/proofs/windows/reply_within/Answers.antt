@@ -10,7 +10,7 @@ use Rattle.planner.specs.Asking.{IsLook, held_after, held_by}
 use Rattle.planner.proofs.Exactness.{shown_complete}
 use Rattle.told_connections.specs.Windows.{IsAskedWithin, IsUnaskedWithin}
 use Rattle.serving.specs.Answers.{AsksWithin, IsReply}
-use Rattle.replies.specs.declared.reply.Reply.{Reply}
+use Rattle.reply_lines.specs.declared.reply.Reply.{Reply}
 use Rattle.serving.proofs.ReplyFacts.{found_reply}
 use Rattle.serving.proofs.windows.reply_within.Goals as goal
 

@@ -3,10 +3,10 @@ use Rattle.std.specs.Prelude.{ℕ, List, [], ◌∷◌, ◌++◌, codes}
 use Rattle.planner.specs.AskTexts.{ask_text}
 use Rattle.answer_lines.specs.Printed.{answer_text}
 use Rattle.connection_lines.specs.Printed.{connections_text}
-use Rattle.replies.specs.declared.reply.Refusal.{Refusal}
-use Rattle.replies.specs.declared.reply.Refusal.TheVariants as refusals
-use Rattle.replies.specs.declared.reply.Reply.{Reply}
-use Rattle.replies.specs.declared.reply.Reply.TheVariants as replies
+use Rattle.reply_lines.specs.declared.reply.Refusal.{Refusal}
+use Rattle.reply_lines.specs.declared.reply.Refusal.TheVariants as refusals
+use Rattle.reply_lines.specs.declared.reply.Reply.{Reply}
+use Rattle.reply_lines.specs.declared.reply.Reply.TheVariants as replies
 
 -- the code and the name of a refusal, and the id that it is about, as far as it has them
 abbrev pub refusal_text : Refusal → List ℕ

@@ -1,7 +1,7 @@
 //! What is replied to a line.
 
 ghost use Rattle.std.specs.Prelude.{Some};
-ghost use Rattle.replies.specs.Printed.{refusal_text, reply_text};
+ghost use Rattle.reply_lines.specs.Printed.{refusal_text, reply_text};
 
 use answer_lines::Answer;
 use connection_lines::Connections;

@@ -1,8 +1,8 @@
 -- How replies are told, as text.
 use Rattle.std.specs.Prelude.{◌≡◌, ℕ, List, Option}
 use Rattle.question_lines.specs.declared.question.Question.{Question}
-use Rattle.replies.specs.Printed.{reply_text}
-use Rattle.replies.specs.declared.reply.Reply.{Reply}
+use Rattle.reply_lines.specs.Printed.{reply_text}
+use Rattle.reply_lines.specs.declared.reply.Reply.{Reply}
 
 -- which texts tell a reply to a question, or to a line that is none
 abbrev pub Telling : Type 1

@@ -1,4 +1,4 @@
-//! Replies to questions that are asked line by line, and how they are told.
+//! Replies to questions that are asked line by line, and who makes their texts.
 #![tactic(auto)]
 
 mod reply;

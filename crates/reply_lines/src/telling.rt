@@ -3,8 +3,8 @@
 ghost use Rattle.std.specs.Prelude.{◌≡◌, Bool, Option, IfOk, string_bytes};
 ghost use Rattle.feed_basis.specs.Basis.{BasisData};
 ghost use Rattle.question_lines.specs.declared.question.Question.{Question};
-ghost use Rattle.replies.specs.Printed.{no_memory};
-ghost use Rattle.replies.specs.Tellings.{Telling};
+ghost use Rattle.reply_lines.specs.Printed.{no_memory};
+ghost use Rattle.reply_lines.specs.Tellings.{Telling};
 
 use crate::reply::Reply;
 use feed_basis::Basis;
@@ -46,7 +46,7 @@ pub struct Lines;
 
 impl ReplyTeller for Lines {
     ghost use Rattle.std.specs.Prelude.{false};
-    ghost use Rattle.replies.specs.Tellings.{line_telling};
+    ghost use Rattle.reply_lines.specs.Tellings.{line_telling};
 
     ghost tells = { λ _ _. line_telling };
 
