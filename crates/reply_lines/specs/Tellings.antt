@@ -1,4 +1,4 @@
--- How replies are told, as text.
+-- The texts of replies.
 use Rattle.std.specs.Prelude.{◌≡◌, ℕ, List, Option}
 use Rattle.question_lines.specs.declared.question.Question.{Question}
 use Rattle.reply_lines.specs.Printed.{reply_text}

@@ -1,4 +1,4 @@
-//! Replies as texts: who tells them.
+//! Replies as texts: who makes them.
 
 ghost use Rattle.std.specs.Prelude.{◌≡◌, Bool, Option, IfOk, string_bytes};
 ghost use Rattle.feed_basis.specs.Basis.{BasisData};
@@ -12,15 +12,15 @@ use question_lines::Question;
 use std::alloc::{AllocError, Global};
 use std::format;
 
-/// Tells replies to lines. A text ends with a line's end.
+/// Makes the texts of replies to lines. A text ends with a line's end.
 pub trait ReplyTeller {
     /// Which texts tell a reply to a line that is this question, or none, over a basis.
     ghost tells: { Self → BasisData → Telling };
 
-    /// Whether the rides and walks of journeys are told.
+    /// Whether a text has the rides and walks of journeys.
     ghost tells_legs: { Self → Bool };
 
-    /// Whether the rides and walks of journeys are told.
+    /// Whether a text has the rides and walks of journeys.
     fn legs(&self) -> bool
         ensures { result ≡ tells_legs self.now };
 
@@ -39,8 +39,8 @@ pub trait ReplyTeller {
         ensures { (basis : BasisData) → (question : Option Question) → tells self.now basis question no_memory result.now };
 }
 
-/// Tells replies as lines: those of an answer, or `refused` and why there is none, and then a line with only a dot. Rides and walks aren't
-/// told.
+/// Prints replies as lines: those of an answer, or `refused` and why there is none, and then a line with only a dot. The lines have no
+/// rides and walks.
 #[derive(Clone, Copy, Debug, PartialEq, Eq)]
 pub struct Lines;
 
