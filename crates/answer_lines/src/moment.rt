@@ -3,7 +3,7 @@ ghost use Rattle.std.specs.Prelude.{Some};
 ghost use Rattle.answer_lines.specs.Printed.{date_text, day_time_text};
 ghost use Rattle.answer_lines.specs.Moments.{TellsMoment};
 
-use jiff::civil::Date;
+use jiff_core::civil::Date;
 use service_days::Cover;
 use std::fmt;
 
@@ -15,9 +15,8 @@ impl fmt::Display for ShownDate {
     ghost output = { λ shown. Some (date_text shown.0) };
 
     fn fmt<W: fmt::Write>(&self, f: &mut fmt::Formatter<W>) -> fmt::Result {
-        let year = self.0.year().unsigned_abs();
-        let month = self.0.month().unsigned_abs();
-        let day = self.0.day().unsigned_abs();
+        let Date { year, month, day } = self.0;
+        let year = year.unsigned_abs();
         write!(f, "{year:04}{month:02}{day:02}")
     }
 }

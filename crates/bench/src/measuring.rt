@@ -19,7 +19,7 @@ use feed_files::open_feed;
 use feed_timetable::assemble;
 use gtfs_tables::{Tables, read_tables};
 use gtfs_text::date;
-use jiff::civil::Date;
+use jiff_core::civil::Date;
 use lines::Lines;
 use options::Settings;
 use pattern_query::Patterns;

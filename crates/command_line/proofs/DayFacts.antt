@@ -1,6 +1,6 @@
 -- The days that words have, as they were read.
 use Rattle.std.proofs.Common.{rules, ◌≡◌, List, Option, None, Some, IfSome, IfNone, option_map, codes, sym, inr, pos}
-use Rattle.jiff.specs.Types.{Date}
+use Rattle.jiff_core.specs.declared.civil.date.Date.{Date}
 use Rattle.clap.specs.Words.{Row, Text, first_of}
 use Rattle.gtfs_text.specs.Values.{date_of, ymd}
 use Rattle.question_lines.specs.declared.question.Question.{Question}

@@ -1,6 +1,6 @@
 -- A fault of a part of the words is one of the whole.
 use Rattle.std.proofs.Common.{◌≡◌, ◌∙◌, List, Option, Some}
-use Rattle.jiff.specs.Types.{Date}
+use Rattle.jiff_core.specs.declared.civil.date.Date.{Date}
 use Rattle.clap.specs.Words.{Row, Text}
 use Rattle.question_lines.specs.declared.question.Question.{Question}
 use Rattle.command_line.specs.Jobs.{HasPlaces}

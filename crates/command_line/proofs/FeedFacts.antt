@@ -1,6 +1,6 @@
 -- The date of a check, as it was read.
 use Rattle.std.proofs.Common.{◌≡◌, List, Option, None, Some, IfSome, option_map, codes, refl, sym}
-use Rattle.jiff.specs.Types.{Date}
+use Rattle.jiff_core.specs.declared.civil.date.Date.{Date}
 use Rattle.clap.specs.Words.{Row, Text, first_of}
 use Rattle.gtfs_text.specs.Values.{date_of, ymd}
 use Rattle.command_line.specs.FeedWords.{IsNamedDate}

@@ -1,6 +1,6 @@
 -- The faults of a plan's words, as they are found.
 use Rattle.std.proofs.Common.{◌≡◌, ◌∙◌, List, Option, None, option_map, refl, sym, subst, ap, inl, inr, codes}
-use Rattle.jiff.specs.Types.{Date}
+use Rattle.jiff_core.specs.declared.civil.date.Date.{Date}
 use Rattle.clap.specs.Words.{Row, Text}
 use Rattle.gtfs_text.specs.Values.{date_of, ymd}
 use Rattle.options.specs.Settings.{HasSettings}

@@ -1,7 +1,7 @@
 -- The days and the times that words have.
 -- GTFS Schedule, "Field types": a Date is YYYYMMDD, and a Time is HH:MM:SS or H:MM:SS of a service day.
 use Rattle.std.specs.Prelude.{◌≡◌, ℕ, List, MatchOption, Some, None}
-use Rattle.jiff.specs.Types.{Date}
+use Rattle.jiff_core.specs.declared.civil.date.Date.{Date}
 use Rattle.clap.specs.Words.{Row, Text, first_of}
 use Rattle.gtfs_text.specs.Values.{date_of, time_of, ymd}
 use Rattle.options.specs.Values.{HasText}

@@ -1,7 +1,7 @@
 -- The words of commands over a feed as a whole, which take no covered days.
 use Rattle.std.specs.Prelude.{◌≡◌, ◌↔◌, IsTrue, List, Option, None, Some, MatchOption, codes}
 use Rattle.std.specs.Option.{option_map}
-use Rattle.jiff.specs.Types.{Date}
+use Rattle.jiff_core.specs.declared.civil.date.Date.{Date}
 use Rattle.clap.specs.Words.{Row, first_of}
 use Rattle.options.specs.Values.{HasFlag, HasText}
 use Rattle.command_line.specs.Days.{IsDate}

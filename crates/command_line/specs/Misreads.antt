@@ -2,7 +2,7 @@
 -- day or the date of a check, or else the day to leave on, or else the day of the last time to leave at; or else the time to leave at, or
 -- else the last such time.
 use Rattle.std.specs.Prelude.{◌≡◌, ◌⊎◌, ℕ, [], List, Option, None, Some, codes}
-use Rattle.jiff.specs.Types.{Date}
+use Rattle.jiff_core.specs.declared.civil.date.Date.{Date}
 use Rattle.clap.specs.Words.{Kinds, Row, Text}
 use Rattle.gtfs_text.specs.Values.{date_of}
 use Rattle.options.specs.Statuses.{IsStatus}

@@ -1,6 +1,6 @@
 -- Which connections the words of a question ask for, which only `scan` and `ask` can.
 use Rattle.std.specs.Prelude.{◌≡◌, ◌≤◌, ◌^◌, ℕ, List, Option, None, Some, codes}
-use Rattle.jiff.specs.Types.{Date}
+use Rattle.jiff_core.specs.declared.civil.date.Date.{Date}
 use Rattle.clap.specs.Words.{Row, Text, first_of}
 use Rattle.options.specs.Values.{HasNumber, HasText}
 use Rattle.question_lines.specs.declared.question.Until.{Until}

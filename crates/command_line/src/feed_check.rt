@@ -9,7 +9,7 @@ use crate::format::{Style, plain_style_of};
 use crate::unread::{Unread, Word};
 use clap::ArgMatches;
 use gtfs_text::date;
-use jiff::civil::Date;
+use jiff_core::civil::Date;
 use options::{flag_of, text_of};
 
 /// A check of a feed as a whole.

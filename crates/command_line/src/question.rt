@@ -10,7 +10,7 @@ use crate::unread::WordFault;
 use crate::within::{names_until, next_of, until_of, within_of};
 use clap::ArgMatches;
 use gtfs_text::{date, time};
-use jiff::civil::Date;
+use jiff_core::civil::Date;
 use options::text_of;
 use question_lines::Question;
 

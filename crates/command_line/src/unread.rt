@@ -5,7 +5,7 @@ ghost use Rattle.command_line.specs.Readings.{IsDateWord, IsUnreadOf, IsWordOf};
 
 use crate::format::Style;
 use clap::ArgMatches;
-use jiff::civil::Date;
+use jiff_core::civil::Date;
 use options::text_of;
 
 /// An option and the text that the words have for it.

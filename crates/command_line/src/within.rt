@@ -1,7 +1,7 @@
 //! Which connections the words ask for.
 
 ghost use Rattle.std.specs.Prelude.{◌≡◌, ◌↔◌, IfErr, IfNone, IfOk, IfSome, IsTrue, Option, codes, ℕ};
-ghost use Rattle.jiff.specs.Types.{Date as DateData};
+ghost use Rattle.jiff_core.specs.declared.civil.date.Date.{Date as DateData};
 ghost use Rattle.clap.specs.Words.{rows_of, found_of};
 ghost use Rattle.command_line.specs.Days.{HasNoTime, IsNamedDay};
 ghost use Rattle.command_line.specs.WithinWords.{HasNext, IsNextOf, IsUntilOf, NamesUntil, within_of};
@@ -9,7 +9,7 @@ ghost use Rattle.command_line.specs.WithinWords.{HasNext, IsNextOf, IsUntilOf, N
 use crate::unread::WordFault;
 use clap::ArgMatches;
 use gtfs_text::time;
-use jiff::civil::Date;
+use jiff_core::civil::Date;
 use options::{number_of, text_of};
 use question_lines::{Until, Within};
 

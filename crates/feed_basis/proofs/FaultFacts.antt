@@ -1,6 +1,6 @@
 -- Which fault of a feed or its days is told.
 use Rattle.std.proofs.Common.{◌≡◌, None, Err}
-use Rattle.jiff.specs.Types.{Date}
+use Rattle.jiff_core.specs.declared.civil.date.Date.{Date}
 use Rattle.gtfs_rows.specs.Faults.{first_fault}
 use Rattle.gtfs_rows.specs.declared.fault.FaultKind.{FaultKind}
 use Rattle.gtfs_rows.specs.declared.fault.FaultKind.TheVariants as kinds

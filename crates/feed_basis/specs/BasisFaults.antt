@@ -1,6 +1,6 @@
 -- Why there is nothing to ask a question of.
 use Rattle.std.specs.Prelude.{◌≡◌, ◌⊎◌, Bool, true, false, None, Err}
-use Rattle.jiff.specs.Types.{Date}
+use Rattle.jiff_core.specs.declared.civil.date.Date.{Date}
 use Rattle.gtfs_rows.specs.Faults.{first_fault, Explains}
 use Rattle.gtfs_rows.specs.declared.fault.FeedFault.{FeedFault}
 use Rattle.gtfs_tables.specs.Feed.{Feed, feed_tests, values_of}

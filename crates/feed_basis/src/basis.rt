@@ -17,7 +17,7 @@ use faults::Fault;
 use feed_ids::{Groups, Names};
 use feed_timetable::{assemble, names_of, repeats_of};
 use gtfs_tables::{Files, Frequency, Tables, read_tables};
-use jiff::civil::Date;
+use jiff_core::civil::Date;
 use options::Settings;
 use service_days::Cover;
 use service_span::{Idle, idle_of};

@@ -6,13 +6,13 @@ ghost use Rattle.std.specs.HashMap.{get_by_text};
 ghost use Rattle.std.specs.Str.{bytes_eq};
 ghost use Rattle.std.specs.String.{string_bytes};
 
-use indexmap::IndexMap;
 use std::alloc::{AllocError, Global};
+use std::collections::HashMap;
 use std::hash::RandomState;
 use std::marker::Model;
 
 // The index of each id among others: the first where there are several.
-type Numbers = IndexMap<String, usize, RandomState>;
+type Numbers = HashMap<String, usize, RandomState>;
 
 /// Ids in their order, and the index of each.
 pub struct Ids {
@@ -44,7 +44,7 @@ fn numbers_of(alloc: Global, hash_keys: RandomState, ids: &[String]) -> Result<N
     ensures { IfOk result (λ numbers. (id : List ℕ)
         → get_by_text numbers id ≡ position_from (bytes_eq id) 0 (map string_bytes ids.now)) }
 {
-    let mut numbers = IndexMap::with_hasher(alloc, hash_keys);
+    let mut numbers = HashMap::with_hasher(alloc, hash_keys);
     for (number, id) in ids.iter().enumerate() {
         let text = id.as_str();
         if !numbers.contains_key(text) {

@@ -1,7 +1,7 @@
 -- How many of each a feed has, from the bytes of its files on; or why that isn't told.
 -- GTFS Schedule reference, "Dataset files": calendar.txt, calendar_dates.txt, transfers.txt and frequencies.txt may be left out.
 use Rattle.std.specs.Prelude.{◌≡◌, ◌↔◌, Bool, true, false, IsTrue, Option, None, length, sum_by}
-use Rattle.jiff.specs.Types.{Date}
+use Rattle.jiff_core.specs.declared.civil.date.Date.{Date}
 use Rattle.gtfs_rows.specs.Faults.{first_fault, Explains}
 use Rattle.gtfs_tables.specs.Feed.{Feed, feed_tests, values_of}
 use Rattle.gtfs_tables.specs.Tables.{TableValues}

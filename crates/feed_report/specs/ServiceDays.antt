@@ -1,6 +1,6 @@
 -- The days of service that a report has. GTFS Schedule, calendar.txt and calendar_dates.txt.
 use Rattle.std.specs.Prelude.{◌≡◌, ◌≤◌, ◌<◌, ◌+◌, ℕ, pos, ◌<ℤ◌, Option, None, Some}
-use Rattle.jiff.specs.Types.{Date}
+use Rattle.jiff_core.specs.declared.civil.date.Date.{Date}
 use Rattle.gtfs_tables.specs.Tables.{TableValues}
 use Rattle.service_days.specs.Noon.{IsDaysAfter}
 use Rattle.service_span.specs.Spans.{IsSpan}

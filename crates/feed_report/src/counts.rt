@@ -7,7 +7,7 @@ ghost use Rattle.feed_report.specs.Counts.{AreCounts, IsCheckFault, IsMissing, c
 use crate::service::{Service, service_of};
 use faults::Fault;
 use gtfs_tables::{Files, Skipped, Tables, read_tables};
-use jiff::civil::Date;
+use jiff_core::civil::Date;
 use std::alloc::Global;
 use std::hash::RandomState;
 use std::io::Read;

@@ -3,7 +3,7 @@
 use answer_lines::ShownDate;
 use feed_report::{Counts, FeedReport, Missing, Service};
 use gtfs_tables::Skipped;
-use jiff::civil::Date;
+use jiff_core::civil::Date;
 use json_writer::JsonWriter;
 use service_span::DayTrips;
 use std::alloc::{AllocError, Global};

@@ -3,7 +3,7 @@ use Rattle.std.specs.Prelude.{◌≡◌, ℕ, ◌+◌, ◌-◌, ◌==◌, ◌&&�
 use Rattle.std.specs.Prelude.{get_or, slice_get, slice_index, if◌then◌else◌}
 use Rattle.std.specs.Option.{option_and_then, unwrap_or}
 use Rattle.std.specs.List.{filter_map, flat_map, range_with_len, zip}
-use Rattle.jiff.specs.Types.{Date}
+use Rattle.jiff_core.specs.declared.civil.date.Date.{Date}
 use Rattle.gtfs_tables.specs.Tables.{TableValues, calls_of}
 use Rattle.gtfs_calls.specs.Times.{at, filled}
 use Rattle.gtfs_rows.specs.declared.values.Frequency.{Frequency}

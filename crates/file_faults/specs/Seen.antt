@@ -4,7 +4,7 @@ use Rattle.std.specs.Prelude.{◌≡◌, Bool, ℕ, not, ◌&&◌, List, [], map
 use Rattle.std.specs.Ordering.{int_eq}
 use Rattle.std.specs.Str.{bytes_eq}
 use Rattle.indexmap.specs.IndexSet.{insert_key}
-use Rattle.jiff.specs.declared.civil.Date.{Date}
+use Rattle.jiff_core.specs.declared.civil.date.Date.{Date}
 use Rattle.gtfs_text.specs.Sheets.{Table}
 use Rattle.gtfs_rows.specs.Faults.{Test, first_fault}
 use Rattle.gtfs_services.specs.CalendarDates.{field_tests as date_field_tests, service_date}

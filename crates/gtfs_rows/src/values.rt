@@ -1,7 +1,7 @@
 //! The rows of a feed, as values.
 
 use crate::id::Id;
-use jiff::civil::Date;
+use jiff_core::civil::Date;
 
 /// A row of stops.txt that is a stop. Stops are numbered from 0 in file order.
 #[derive(Debug, Drop)]

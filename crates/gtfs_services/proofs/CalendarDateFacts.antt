@@ -8,9 +8,9 @@ use Rattle.std.proofs.lemmas.Bool.Decides.{Decides-int_eq}
 use Rattle.std.proofs.lemmas.List.{map_push}
 use Rattle.std.proofs.lemmas.Simd.{map-map}
 use Rattle.indexmap.specs.IndexSet.{insert_key}
-use Rattle.jiff.specs.Words.{epoch_day}
-use Rattle.jiff.specs.declared.civil.Date.{Date}
-use Rattle.jiff.proofs.Family.{epoch_day_injective, epoch_day_same}
+use Rattle.jiff_core.specs.Date.{epoch_day}
+use Rattle.jiff_core.specs.declared.civil.date.Date.{Date}
+use Rattle.jiff_core.proofs.DateLemmas.{epoch_day_injective, epoch_day_same}
 use Rattle.gtfs_text.specs.Sheets.{Table, column_of}
 use Rattle.gtfs_text.specs.Values.{date_of, ymd}
 use Rattle.gtfs_rows.specs.declared.values.CalendarDate.{CalendarDate}

@@ -4,7 +4,7 @@ use Rattle.std.specs.Prelude.{is_some}
 use Rattle.std.specs.List.{list_all}
 use Rattle.std.proofs.lemmas.List.{map_push}
 use Rattle.std.proofs.lemmas.List.Folds.{list_all-append, list_all-map, list_all_at}
-use Rattle.jiff.specs.declared.civil.Date.{Date}
+use Rattle.jiff_core.specs.declared.civil.date.Date.{Date}
 use Rattle.gtfs_text.specs.Sheets.{Table, column_of}
 use Rattle.gtfs_text.specs.Values.{date_of, ymd}
 use Rattle.gtfs_rows.specs.declared.values.CalendarRow.{CalendarRow}

@@ -8,8 +8,8 @@ use Rattle.std.specs.Int.{IsInRange}
 use Rattle.std.proofs.lemmas.Bool.{leb-true}
 use Rattle.std.proofs.lemmas.Int.{ints}
 use mathlib.Core.HLevel.{is_prop→PathP}
-use Rattle.jiff.specs.Words.{IsYear, days_in_month}
-use Rattle.jiff.specs.declared.civil.Date.{Date}
+use Rattle.jiff_core.specs.Calendar.{IsYear, days_in_month}
+use Rattle.jiff_core.specs.declared.civil.date.Date.{Date}
 use Rattle.gtfs_text.specs.Values.{decimal, is_digits, is_day, date_of, day_of, ymd}
 use Rattle.gtfs_services.specs.Dates.{nearest, date_near, date_at, DatesAreNamed}
 

@@ -4,8 +4,8 @@ use Rattle.std.specs.Prelude.{◌≡◌, true, not, ℕ, ◌-◌, Bool, List, []
 use Rattle.std.specs.List.{list_any}
 use Rattle.std.specs.Ordering.{int_eq}
 use Rattle.std.specs.Str.{bytes_eq}
-use Rattle.jiff.specs.Words.{epoch_day}
-use Rattle.jiff.specs.declared.civil.Date.{Date}
+use Rattle.jiff_core.specs.Date.{epoch_day}
+use Rattle.jiff_core.specs.declared.civil.date.Date.{Date}
 use Rattle.gtfs_text.specs.Sheets.{Table, column_of}
 use Rattle.gtfs_rows.specs.declared.fault.FaultKind.TheVariants as kinds
 use Rattle.gtfs_rows.specs.declared.fault.FeedFile.TheVariants as files

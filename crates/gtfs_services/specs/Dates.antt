@@ -4,8 +4,8 @@ use Rattle.std.specs.Int.{IsInRange}
 use Rattle.std.proofs.Common.{lit≤}
 use Rattle.std.proofs.Math.Facts.{yes_leb}
 use Rattle.std.proofs.Math.Nat.{le-max_left, max-le, min-le_left}
-use Rattle.jiff.specs.Words.{IsYear, days_in_month, is_leap_year}
-use Rattle.jiff.specs.declared.civil.Date.{Date}
+use Rattle.jiff_core.specs.Calendar.{IsYear, days_in_month, is_leap_year}
+use Rattle.jiff_core.specs.declared.civil.date.Date.{Date}
 use Rattle.gtfs_text.specs.Values.{decimal, date_of, ymd}
 
 -- a text names a day of the calendar

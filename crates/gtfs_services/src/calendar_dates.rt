@@ -13,7 +13,8 @@ use gtfs_rows::{
 };
 use gtfs_text::{Sheet, date};
 use indexmap::IndexSet;
-use jiff::civil::Date;
+use jiff::civil;
+use jiff_core::civil::Date;
 use std::alloc::Global;
 use std::hash::RandomState;
 use std::io::Read;
@@ -58,6 +59,7 @@ pub fn service_date(service: &str, date: Date) -> ServiceDate<'_>
     ensures month { result.2 ≡ pos date.month }
     ensures day { result.3 ≡ pos date.day }
 {
+    let date = civil::Date::from_plain(date);
     (service, date.year(), date.month(), date.day())
 }
 

@@ -7,7 +7,7 @@ use Rattle.std.proofs.lemmas.List.{take_min, drop_all}
 use Rattle.std.proofs.Math.Nat.{min_comm}
 use Rattle.std.proofs.lemmas.Bool.{leb-true}
 use Rattle.std.proofs.lemmas.Int.{ints}
-use Rattle.jiff.specs.Words.{IsDate, days_in_month}
+use Rattle.jiff_core.specs.Calendar.{IsDate, days_in_month}
 use Rattle.gtfs_text.proofs.TestFacts.{and_false}
 use Rattle.gtfs_text.specs.Values.{is_day, is_digits, decimal, day_of}
 use Rattle.std.proofs.lemmas.List.Folds.{list_all_at}

@@ -2,8 +2,8 @@
 use Rattle.std.specs.Prelude.{Bool, ℕ, ◌+◌, ◌-◌, ◌*◌, List, length, take, drop, get_or, Option, None, Some, ℤ, pos, nat_le, if◌then◌else◌, ◌==◌, ◌&&◌}
 use Rattle.std.specs.List.{list_all, fold}
 use Rattle.std.specs.Char.{is_ascii_digit}
-use Rattle.jiff.specs.Words.{days_in_month}
-use Rattle.jiff.specs.declared.civil.Date.{Date}
+use Rattle.jiff_core.specs.Calendar.{days_in_month}
+use Rattle.jiff_core.specs.declared.civil.date.Date.{Date}
 
 -- the number that digits spell, in base ten
 abbrev pub decimal : List ℕ → ℕ

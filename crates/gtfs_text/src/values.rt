@@ -5,7 +5,7 @@ ghost use Rattle.std.specs.List.{list_all};
 ghost use Rattle.std.specs.Char.{is_ascii_digit};
 ghost use Rattle.gtfs_text.specs.Values.{date_of, day_of, ymd, decimal, is_digits, whole_of, time_of, is_time, is_sixtieth, seconds_of};
 
-use jiff::civil::Date;
+use jiff_core::civil::Date;
 
 // The number that these digits spell.
 fn decimal(digits: &[u8]) -> u32

@@ -4,7 +4,7 @@
 use Rattle.std.specs.Prelude.{◌≡◌, ℕ, ◌≤◌, ◌==◌, List, ◌∷◌, length, Option, None, Some, option_to_list}
 use Rattle.std.specs.List.{slice_split}
 use Rattle.std.specs.Str.{IsUtf8}
-use Rattle.jiff.specs.Types.{Date}
+use Rattle.jiff_core.specs.declared.civil.date.Date.{Date}
 use Rattle.gtfs_text.specs.Values.{date_of, time_of, ymd}
 use Rattle.question_lines.specs.declared.question.Question.{Question}
 use Rattle.question_lines.specs.declared.question.Until.{Until}

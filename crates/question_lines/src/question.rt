@@ -5,7 +5,7 @@ ghost use Rattle.question_lines.specs.Questions.{AreFields, IsQuestion, IsWithin
 ghost use Rattle.question_lines.specs.declared.question.Within.{Within as WithinData};
 
 use gtfs_text::{date, time};
-use jiff::civil::Date;
+use jiff_core::civil::Date;
 use std::str;
 
 /// The longest line that is a question, in bytes, without its end.

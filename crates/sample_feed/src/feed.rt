@@ -5,7 +5,7 @@ ghost use Rattle.timetable.specs.Table.{stops_of};
 
 use feed_timetable::assemble;
 use gtfs_tables::{Files, Tables, read_tables};
-use jiff::civil::Date;
+use jiff_core::civil::Date;
 use service_days::Cover;
 use std::hash::RandomState;
 use std::test::Fail;

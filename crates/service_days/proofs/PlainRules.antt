@@ -6,7 +6,7 @@ use Rattle.jiff.specs.Words.{read_whole, compatible_offset, picked_instant, civi
 use Rattle.jiff.specs.Placed.{IsPosixZone}
 use Rattle.jiff.proofs.Family.{civil_nanos-parts}
 use Rattle.jiff.proofs.OnLiterals.{jiff_on_literals}
-use Rattle.jiff.proofs.SpanFacts.{signed_arith}
+use Rattle.jiff_core.proofs.SignedLemmas.{signed_arith}
 use Rattle.jiff_tz.specs.PosixText.{TzText, dst_view}
 use Rattle.jiff_tz.specs.PosixRule.{ambiguous_at_by}
 use Rattle.jiff_tz.specs.declared.posix.Dst.{Dst}

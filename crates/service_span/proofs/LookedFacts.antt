@@ -6,14 +6,14 @@ use Rattle.std.specs.Cmp.Lexicographic.{slice_cmp}
 use Rattle.std.specs.Str.{bytes_eq}
 use Rattle.std.specs.BTreeSet.{BTreeSet, UpdatesBy}
 use Rattle.std.proofs.lemmas.Map.Text.{is_eq-slice_cmp}
-use Rattle.jiff.specs.Types.{Date}
-use Rattle.jiff.specs.Words.{epoch_day}
+use Rattle.jiff_core.specs.declared.civil.date.Date.{Date}
+use Rattle.jiff_core.specs.Date.{epoch_day}
 use denote.Ref.{Bor}
 use Rattle.std.specs.Bool.{Decides}
 use Rattle.std.proofs.lemmas.Bool.Decides.{Decides-like, Decides-int_eq, nat_tests, same_from_decides}
 use Rattle.jiff_core.proofs.SignedLemmas.{one_part}
-use Rattle.jiff.proofs.Family.{epoch_day_range}
-use Rattle.jiff.proofs.SpanFacts.{signed_arith}
+use Rattle.jiff_core.proofs.DateLemmas.{epoch_day_range}
+use Rattle.jiff_core.proofs.SignedLemmas.{signed_arith}
 use Rattle.gtfs_rows.specs.declared.values.CalendarDate.{CalendarDate}
 use Rattle.service_days.specs.Runs.{removes, is_added, is_named}
 use Rattle.service_span.specs.Looked.{day_number, is_member, is_removed}

@@ -8,10 +8,10 @@ use Rattle.std.specs.Cmp.Lexicographic.{nat_list_eq_equiv}
 use Rattle.std.specs.Str.{bytes_eq}
 use Rattle.std.proofs.lemmas.Bool.{cases_Bool}
 use denote.Ref.{Bor}
-use Rattle.jiff.specs.Types.{Date}
-use Rattle.jiff.specs.Words.{epoch_day, weekday_of}
+use Rattle.jiff_core.specs.declared.civil.date.Date.{Date}
+use Rattle.jiff_core.specs.Date.{epoch_day, weekday_of}
 use Rattle.jiff.proofs.Family.{same_date, epoch_day_range}
-use Rattle.jiff.proofs.SpanFacts.{signed_arith}
+use Rattle.jiff_core.proofs.SignedLemmas.{signed_arith}
 use Rattle.jiff_core.proofs.SignedLemmas.{one_part}
 use Rattle.gtfs_rows.specs.declared.values.CalendarRow.{CalendarRow}
 use Rattle.service_days.specs.Runs.{is_within}

@@ -1,8 +1,8 @@
 -- Spans of dates that pass tests.
 use Rattle.std.proofs.Common.{◌≡◌, ◌∙◌, ◌⊎◌, inl, inr, sym, ap, arith, Bool, true, ◌||◌, Option, None, Some, ◌≤ℤ◌}
-use Rattle.jiff.specs.Types.{Date}
-use Rattle.jiff.specs.Words.{epoch_day}
-use Rattle.jiff.proofs.SpanFacts.{signed_arith}
+use Rattle.jiff_core.specs.declared.civil.date.Date.{Date}
+use Rattle.jiff_core.specs.Date.{epoch_day}
+use Rattle.jiff_core.proofs.SignedLemmas.{signed_arith}
 use Rattle.service_span.specs.Spans.{IsSpanOf, IsSpanWhere}
 use Rattle.service_span.specs.declared.span.Span.{Span}
 use Rattle.service_span.proofs.Bools.{or_false, or_left, or_right, or_cases}

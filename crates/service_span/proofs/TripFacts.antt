@@ -2,7 +2,7 @@
 use Rattle.std.proofs.Common.{◌≡◌, ◌∙◌, ◌⊎◌, inl, inr, sym, ap₂, refl, arith, ℕ, suc, ◌+◌, ◌<◌, ◌≤◌, List, [], ◌∷◌, Bool, true, false, length, count_by, slice_index_or, cond, ◌↔◌, ◌||◌, ◌++◌, subst, length-append}
 use Rattle.std.specs.List.{list_any, All}
 use Rattle.std.proofs.lemmas.List.Sums.{sum_by-cons}
-use Rattle.jiff.specs.Types.{Date}
+use Rattle.jiff_core.specs.declared.civil.date.Date.{Date}
 use Rattle.gtfs_tables.specs.Tables.{TableValues}
 use Rattle.service_days.specs.Runs.{runs}
 use Rattle.service_span.specs.Days.{service_of, is_service_day, trips_on}

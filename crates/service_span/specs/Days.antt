@@ -1,7 +1,7 @@
 -- Days of service, and how many trips run on a date. GTFS Schedule, calendar.txt and calendar_dates.txt.
 use Rattle.std.specs.Prelude.{ℕ, Bool, List, [], slice_index_or, count_by}
 use Rattle.std.specs.List.{list_any}
-use Rattle.jiff.specs.Types.{Date}
+use Rattle.jiff_core.specs.declared.civil.date.Date.{Date}
 use Rattle.gtfs_rows.specs.declared.values.Trip.{Trip}
 use Rattle.gtfs_tables.specs.Tables.{TableValues}
 use Rattle.service_days.specs.Runs.{runs}

@@ -1,6 +1,6 @@
 -- Whether some trip runs on the covered days.
 use Rattle.std.specs.Prelude.{◌≡◌, ℕ, true, false, Option, None, Some}
-use Rattle.jiff.specs.Types.{Date}
+use Rattle.jiff_core.specs.declared.civil.date.Date.{Date}
 use Rattle.gtfs_tables.specs.Tables.{TableValues}
 use Rattle.service_days.specs.Cover.{CoverDays, IsCovered}
 use Rattle.service_span.specs.Days.{is_service_day}

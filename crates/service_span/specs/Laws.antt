@@ -1,6 +1,6 @@
 -- What the definitions come to.
 use Rattle.std.specs.Prelude.{◌≡◌, ◌≤◌, ◌↔◌, true}
-use Rattle.jiff.specs.Types.{Date}
+use Rattle.jiff_core.specs.declared.civil.date.Date.{Date}
 use Rattle.gtfs_tables.specs.Tables.{TableValues}
 use Rattle.service_span.specs.Days.{is_service_day, trips_on}
 

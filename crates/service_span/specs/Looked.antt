@@ -4,8 +4,8 @@ use Rattle.std.specs.Ordering.{nat_cmp, ordering_then}
 use Rattle.std.specs.Cmp.Lexicographic.{slice_cmp}
 use Rattle.std.specs.BTreeSet.{BTreeSet, contains_by}
 use denote.Ref.{Bor}
-use Rattle.jiff.specs.Types.{Date}
-use Rattle.jiff.specs.Words.{epoch_day}
+use Rattle.jiff_core.specs.declared.civil.date.Date.{Date}
+use Rattle.jiff_core.specs.Date.{epoch_day}
 use Rattle.gtfs_rows.specs.declared.values.CalendarRow.{CalendarRow}
 use Rattle.gtfs_rows.specs.declared.values.CalendarDate.{CalendarDate}
 use Rattle.service_days.specs.Runs.{adds, plans}

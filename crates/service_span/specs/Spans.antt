@@ -1,7 +1,8 @@
 -- The first and the last day of service.
 use Rattle.std.specs.Prelude.{◌≡◌, Bool, true, false, Option, None, Some}
-use Rattle.jiff.specs.Types.{Date}
-use Rattle.jiff.specs.Words.{epoch_day, IsBetween}
+use Rattle.jiff_core.specs.declared.civil.date.Date.{Date}
+use Rattle.jiff_core.specs.Calendar.{IsBetween}
+use Rattle.jiff_core.specs.Date.{epoch_day}
 use Rattle.gtfs_tables.specs.Tables.{TableValues}
 use Rattle.service_span.specs.Days.{is_service_day}
 use Rattle.service_span.specs.declared.span.Span.{Span}

@@ -1,7 +1,7 @@
 -- How many trips run on each of some dates in a row.
 use Rattle.std.specs.Prelude.{◌≡◌, ◌<◌, ◌≤◌, ℕ, List, length, slice_index_or}
 use Rattle.std.specs.List.{All}
-use Rattle.jiff.specs.Types.{Date}
+use Rattle.jiff_core.specs.declared.civil.date.Date.{Date}
 use Rattle.gtfs_tables.specs.Tables.{TableValues}
 use Rattle.service_days.specs.Noon.{IsDaysAfter}
 use Rattle.service_span.specs.Days.{trips_on}

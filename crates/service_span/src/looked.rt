@@ -3,14 +3,14 @@
 ghost use Rattle.std.specs.Prelude.{◌≡◌, ◌≤◌, ◌+ℤ◌, pos, ℕ, List, IfOk};
 ghost use Rattle.std.specs.List.{list_any};
 ghost use Rattle.std.specs.Str.{bytes_eq};
-ghost use Rattle.jiff.specs.Types.{Date as PlainDate};
-ghost use Rattle.jiff.specs.Words.{epoch_day};
+ghost use Rattle.jiff_core.specs.declared.civil.date.Date.{Date as PlainDate};
+ghost use Rattle.jiff_core.specs.Date.{epoch_day};
 ghost use Rattle.service_days.specs.Runs.{removes};
 ghost use Rattle.service_span.specs.Days.{service_of};
 ghost use Rattle.service_span.specs.Looked.{day_number, is_member, is_removed};
 
 use gtfs_tables::{CalendarDate, Tables};
-use jiff::civil::Date;
+use jiff_core::civil::Date;
 use service_days::is_added;
 use std::alloc::{AllocError, Global};
 use std::collections::BTreeSet;
@@ -27,7 +27,7 @@ pub(crate) fn day_number(date: Date) -> u32
     ensures number { epoch_day date +ℤ pos 4_371_587 ≡ pos result }
     ensures bound { result ≤ 7_304_483 }
 {
-    date.to_plain().days_since_min()
+    date.days_since_min()
 }
 
 /// The services that trips name.

@@ -2,14 +2,14 @@
 
 ghost use Rattle.std.specs.Prelude.{◌≡◌, ◌&&◌, not, false, slice_index_or};
 ghost use Rattle.std.specs.List.{list_any};
-ghost use Rattle.jiff.specs.Words.{weekday_of};
+ghost use Rattle.jiff_core.specs.Date.{weekday_of};
 ghost use Rattle.service_span.specs.Looked.{is_removed, keeps, IsFirst, IsLast};
 ghost use Rattle.service_span.specs.Spans.{IsSpanWhere};
 
 use crate::looked::{ServiceDates, day_number};
 use crate::span::Span;
 use gtfs_tables::CalendarRow;
-use jiff::civil::Date;
+use jiff_core::civil::Date;
 use service_days::is_marked;
 
 // Whether the date's weekday is marked, and the date isn't removed.

@@ -2,15 +2,15 @@
 
 ghost use Rattle.std.specs.Prelude.{◌≡◌, ◌⊎◌, ◌||◌, ◌≤ℤ◌, Bool, IfOk};
 ghost use Rattle.std.specs.List.{list_any};
-ghost use Rattle.jiff.specs.Types.{Date as PlainDate};
-ghost use Rattle.jiff.specs.Words.{epoch_day};
+ghost use Rattle.jiff_core.specs.declared.civil.date.Date.{Date as PlainDate};
+ghost use Rattle.jiff_core.specs.Date.{epoch_day};
 ghost use Rattle.service_span.specs.Looked.{is_extra, is_planned};
 ghost use Rattle.service_span.specs.Spans.{IsSpan, IsSpanWhere};
 
 use crate::looked::{Names, ServiceDates, is_named, named_services, removed_dates};
 use crate::scan::row_span;
 use gtfs_tables::{CalendarDate, CalendarRow, Tables};
-use jiff::civil::Date;
+use jiff_core::civil::Date;
 use service_days::is_added;
 use std::alloc::{AllocError, Global};
 

@@ -2,13 +2,13 @@
 
 ghost use Rattle.std.specs.Prelude.{◌≡◌, ◌≤◌, ◌<◌, [], false, length, slice_index_or, count_by, IfOk};
 ghost use Rattle.std.specs.List.{All};
-ghost use Rattle.jiff.specs.Types.{Date as PlainDate};
+ghost use Rattle.jiff_core.specs.declared.civil.date.Date.{Date as PlainDate};
 ghost use Rattle.service_days.specs.Noon.{IsDaysAfter};
 ghost use Rattle.service_span.specs.TripCounts.{AreDayTrips};
 
 use crate::looked::day_number;
 use gtfs_tables::{Tables, Trip};
-use jiff::civil::Date;
+use jiff_core::civil::Date;
 use service_days::{Dates, Days, running_days};
 use std::alloc::{AllocError, Global};
 

@@ -2,9 +2,9 @@
 
 use answer_lines::DayTime;
 use itinerary_texts::{Shown, Time};
-use jiff::civil::{Date, DateTime};
 use jiff::tz::TimeZone;
-use jiff::{Error, SignedDuration};
+use jiff::{Error, SignedDuration, civil};
+use jiff_core::civil::Date;
 
 // The rule of a local time whose offset from UTC isn't known (the abbreviation `-00` of the tz database, "Theory and pragmatics").
 const UNPLACED: &str = "<-00>0";
@@ -35,7 +35,7 @@ impl Clock {
 
     // Noon of the service day by the zone's clock, twelve hours back, and the seconds on (GTFS Schedule reference, "Field types", Time).
     fn shown(&self, day: Date, seconds: u32) -> Result<Shown, Error> {
-        let noon = DateTime::new(day.year(), day.month(), day.day(), 12, 0, 0, 0)?;
+        let noon = civil::Date::from_plain(day).at(12, 0, 0, 0);
         let noon = noon.to_zoned(self.zone)?.timestamp();
         let moment = noon.checked_add(SignedDuration::from_secs(i64::from(seconds) - 43_200))?;
         Ok(Shown {

@@ -2,7 +2,7 @@
 
 use feed_timetable::{assemble, repeats_of};
 use gtfs_tables::Frequency;
-use jiff::civil::Date;
+use jiff_core::civil::Date;
 use sample_feed::{Feed, Span, table_of, tables_of};
 use service_days::Cover;
 use std::test::Fail;

@@ -1,6 +1,6 @@
 //! Covered days, and timetables of them.
 
-use jiff::civil::Date;
+use jiff_core::civil::Date;
 use sample_feed::{Feed, Span, demo, table_of};
 use service_days::Cover;
 use std::alloc::{AllocError, Global};

@@ -34,7 +34,7 @@ const TIMES: [(&str, Option<u32>); 11] = [
 ];
 
 // Each date with its days since the first of January of its year.
-const DATES: [(&str, Option<i16>); 10] = [
+const DATES: [(&str, Option<u16>); 10] = [
     ("20240229", Some(60)),
     ("00000229", Some(60)),
     ("99991231", Some(365)),

@@ -7,7 +7,7 @@ use board::Reader;
 use disk_model::MemDisk;
 use feed_basis::{Basis, basis_of};
 use gtfs_tables::Files;
-use jiff::civil::Date;
+use jiff_core::civil::Date;
 use options::Settings;
 use pattern_query::Refusal;
 use planner::{AskFault, Desk, Opened, Planner};

@@ -1,5 +1,5 @@
 use Rattle.std.proofs.Common.{◌≡◌, ◌∙◌, List, ℕ, Option, None, Some, option_map, ap, refl, sym, subst, arith}
-use Rattle.jiff.specs.Types.{Date}
+use Rattle.jiff_core.specs.declared.civil.date.Date.{Date}
 use Rattle.question_lines.specs.Questions.{AreFields, IsWithin, LacksFields, NotQuestion, cut_at_tabs, up_to}
 use Rattle.question_lines.specs.declared.question.Within.{Within}
 use Rattle.question_lines.proofs.Tabs.{same_last}

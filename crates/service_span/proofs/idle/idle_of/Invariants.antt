@@ -1,5 +1,5 @@
 use Rattle.std.proofs.Common.{◌≡◌, ◌<◌, ℕ, false}
-use Rattle.jiff.specs.Types.{Date}
+use Rattle.jiff_core.specs.declared.civil.date.Date.{Date}
 use Rattle.service_days.specs.Noon.{IsDaysAfter}
 use Rattle.service_span.specs.Days.{is_service_day}
 use Rattle.service_span.proofs.idle.idle_of.Given as goal

@@ -1,7 +1,7 @@
 use Rattle.std.proofs.Common.{◌≡◌, ◌∙◌, sym, ap, not, Bool, ◌||◌, ◌&&◌, true, false}
 use Rattle.std.specs.Ordering.{int_eq}
 use Rattle.std.specs.Str.{bytes_eq}
-use Rattle.jiff.specs.Words.{epoch_day}
+use Rattle.jiff_core.specs.Date.{epoch_day}
 use Rattle.service_days.specs.Runs.{removes, is_added}
 use Rattle.service_span.specs.Looked.{is_removed}
 use Rattle.service_span.proofs.Bools.{any_step, or_false}

@@ -1,6 +1,6 @@
 use Rattle.std.proofs.Common.{◌≡◌, ℕ, List, take}
 use Rattle.std.specs.List.{list_any}
-use Rattle.jiff.specs.Types.{Date}
+use Rattle.jiff_core.specs.declared.civil.date.Date.{Date}
 use Rattle.service_days.specs.Runs.{removes}
 use Rattle.service_span.specs.Looked.{is_removed}
 use Rattle.service_span.proofs.looked.removed_dates.Given as goal

@@ -1,5 +1,5 @@
 use Rattle.std.proofs.Common.{◌≡◌, ◌∙◌, sym, ◌<ℤ◌, true, false, pos}
-use Rattle.jiff.specs.Words.{epoch_day}
+use Rattle.jiff_core.specs.Date.{epoch_day}
 use Rattle.service_span.proofs.ScanFacts.{at_most, above, none_before_start, next_before, none_left, last_day, fewer}
 use Rattle.service_span.proofs.scan.first_kept.Goals as goal
 

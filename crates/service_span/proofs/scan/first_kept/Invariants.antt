@@ -1,5 +1,5 @@
 use Rattle.std.proofs.Common.{pos, ◌+ℤ◌, ◌-ℤ◌, unsigned_abs}
-use Rattle.jiff.specs.Words.{epoch_day}
+use Rattle.jiff_core.specs.Date.{epoch_day}
 use Rattle.service_span.proofs.ScanFacts.{NoneBefore}
 use Rattle.service_span.proofs.scan.first_kept.Given as goal
 

@@ -1,5 +1,5 @@
 use Rattle.std.proofs.Common.{◌≡◌, ◌∙◌, sym, ◌<ℤ◌, true, false, pos, neg_ℤ}
-use Rattle.jiff.specs.Words.{epoch_day}
+use Rattle.jiff_core.specs.Date.{epoch_day}
 use Rattle.service_span.proofs.ScanFacts.{at_most, above, none_after_end, before_after, none_right, first_day, fewer_before}
 use Rattle.service_span.proofs.scan.last_kept.Goals as goal
 

@@ -1,5 +1,5 @@
 use Rattle.std.proofs.Common.{◌∙◌, sym}
-use Rattle.jiff.specs.Words.{weekday_of}
+use Rattle.jiff_core.specs.Date.{weekday_of}
 use Rattle.service_span.proofs.ScanFacts.{none_marked, none_of_none}
 use Rattle.service_span.proofs.scan.row_span.Goals as goal
 

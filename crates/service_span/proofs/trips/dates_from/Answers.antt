@@ -1,6 +1,6 @@
 use Rattle.std.proofs.Common.{◌≡◌, arith, ap}
-use Rattle.jiff.proofs.Family.{epoch_day_range}
-use Rattle.jiff.proofs.SpanFacts.{signed_arith}
+use Rattle.jiff_core.proofs.DateLemmas.{epoch_day_range}
+use Rattle.jiff_core.proofs.SignedLemmas.{signed_arith}
 use Rattle.service_span.proofs.trips.dates_from.Goals as goal
 use Rattle.service_span.proofs.trips.dates_from.Goals.{then-from-behind, else-from-behind}
 

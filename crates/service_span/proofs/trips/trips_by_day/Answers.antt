@@ -1,7 +1,7 @@
 use Rattle.std.proofs.Common.{◌≡◌, ◌∙◌, subst, arith, ◌<◌, ◌++◌, ◌∷◌, [], length-append}
 use Rattle.std.proofs.lemmas.List.Elements.{All-push}
 use Rattle.service_days.specs.Noon.{IsDaysAfter}
-use Rattle.jiff.specs.Types.{Date}
+use Rattle.jiff_core.specs.declared.civil.date.Date.{Date}
 use Rattle.service_span.specs.Days.{trips_on}
 use Rattle.service_span.specs.declared.trips.DayTrips.{DayTrips}
 use Rattle.service_span.proofs.TripFacts.{push_day, trips_counted}

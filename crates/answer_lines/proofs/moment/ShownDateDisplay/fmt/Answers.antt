@@ -1,4 +1,4 @@
-use Rattle.std.proofs.Common.{◌≡◌, rules, ap₂, unsigned_abs, ◌++◌, ◌∙◌}
+use Rattle.std.proofs.Common.{◌≡◌, rules, ap, ap₂, unsigned_abs, ◌++◌, ◌∙◌}
 use Rattle.std.proofs.Output.{has_written_of_eq}
 use Rattle.std.specs.Fmt.{styled_decimal}
 use Rattle.answer_lines.proofs.PrintedFacts.{four_digits, two_digits}
@@ -9,9 +9,7 @@ returns-clause-writes g c plain ok =
     let date = c.args.self.now.0 in
     let year = unsigned_abs date.year in
     let is_year : c.unsigned_abs-year.result ≡ year = search rules in
-    let is_month : c.unsigned_abs-month.result ≡ date.month = search rules in
-    let is_day : c.unsigned_abs-day.result ≡ date.day = search rules in
     has_written_of_eq _ _ _ _ _ (
     ap₂ (λ a b. a ++ b) (ap₂ styled_decimal c.laid_out.ensures is_year ∙ four_digits year) (
-    ap₂ (λ a b. a ++ b) (ap₂ styled_decimal c.laid_out-2.ensures is_month ∙ two_digits date.month)
-    (ap₂ styled_decimal c.laid_out-3.ensures is_day ∙ two_digits date.day))) (c.write.ensures.writes plain ok)
+    ap₂ (λ a b. a ++ b) (ap (λ s. styled_decimal s date.month) c.laid_out-2.ensures ∙ two_digits date.month)
+    (ap (λ s. styled_decimal s date.day) c.laid_out-3.ensures ∙ two_digits date.day))) (c.write.ensures.writes plain ok)
