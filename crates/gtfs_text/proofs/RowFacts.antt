@@ -1,10 +1,12 @@
 -- The fields of a row, one by one, and the rows of a sheet.
-use Rattle.std.proofs.Common.{◌≡◌, ◌≢◌, ℕ, zero, suc, ◌+◌, ◌-◌, ◌<◌, ◌≤◌, Bool, true, false, List, [], ◌∷◌, ◌++◌, length, take, drop, get_or, map, refl, arith, sym, ◌∙◌, ap, not, drop-cons, add-one, length-append, nat_eq, ◌==◌}
+use Rattle.std.proofs.Common.{◌≡◌, ◌≢◌, ℕ, zero, suc, ◌+◌, ◌-◌, ◌<◌, ◌≤◌, Bool, true, false, List, [], ◌∷◌, ◌++◌, length, take, drop, get_or, map, refl, arith, sym, ◌∙◌, ap, not, drop-cons, add-one, length-append, nat_eq, ◌==◌, inl, inr}
 use Rattle.std.specs.List.{All, list_all, onto_first, position_or_len}
 use Rattle.std.proofs.Math.Seq.{get_or-append_right}
 use Rattle.std.proofs.lemmas.List.{length-drop, length-map, take_all}
 use Rattle.std.proofs.lemmas.List.Splits.{slice_split_first, slice_split_none, slice_split-cons_no, length-slice_split}
+use Rattle.std.proofs.lemmas.Bool.{cases_lt}
 use Rattle.std.proofs.lemmas.List.Sums.{fails_before_first, prefix_len-le-length}
+use Rattle.std.proofs.lemmas.Simd.{run_in_chunk_fails}
 use Rattle.gtfs_text.specs.Lines.{between_commas, is_comma, line_at, rows_at}
 use Rattle.gtfs_text.specs.Packed.{unpacked}
 use Rattle.gtfs_text.specs.Rows.{kept_table}
@@ -15,6 +17,14 @@ use Rattle.gtfs_text.proofs.SpaceFacts.{end_keeps, front_other}
 -- the first comma is within a line, or at its end
 pub comma_within : (line : List ℕ) → position_or_len is_comma line ≤ length line
 comma_within line = prefix_len-le-length (λ c. not (is_comma c)) line
+
+-- eight bytes of a line are looked at, and no comma stands before them: then none stands before the first comma among them
+pub none_before : (line : List ℕ) (at n : ℕ) → at + 8 ≤ length line → n ≡ position_or_len is_comma (take 8 (drop at line))
+    → ((k : ℕ) → k < at → is_comma (get_or line k 0) ≡ false) → (k : ℕ) → k < at + n → is_comma (get_or line k 0) ≡ false
+none_before line at n room first none k within = elim (cases_lt k at) [
+    | inl before ↦ none k before
+    | inr from ↦ run_in_chunk_fails is_comma line at 8 n 0 room first k from within
+  ]
 
 -- a line's fields, where a comma follows the first
 pub cut_at_comma : (line rest after : List ℕ) (comma n : ℕ) → n ≡ position_or_len is_comma line → rest ≡ drop n line → rest ≡ comma ∷ after

@@ -1,6 +1,6 @@
 //! A row of a sheet, and its fields one by one.
 
-ghost use Rattle.std.specs.Prelude.{◌≡◌, ◌<◌, ◌==◌, ◌≢◌, true, [], ◌∷◌, length, map, take, get_or, MatchOption, IfOk, OnOk, IfSome, IsTrue};
+ghost use Rattle.std.specs.Prelude.{◌≡◌, ◌<◌, ◌≤◌, ◌+◌, ◌==◌, ◌≢◌, true, [], ◌∷◌, length, map, take, drop, get_or, MatchOption, IfOk, OnOk, IfSome, IsTrue};
 ghost use Rattle.std.specs.List.{list_all, position_from, position_or_len};
 ghost use Rattle.std.specs.Str.{bytes_eq};
 ghost use Rattle.csv.specs.Records.{fields_of};
@@ -13,6 +13,7 @@ use crate::packed::split_field;
 use crate::spaces::without_spaces;
 use csv::ByteRecord;
 use std::alloc::{AllocError, Global};
+use std::simd::prelude::*;
 use std::str;
 
 /// A row, or what is left of it.
@@ -50,16 +51,37 @@ pub(crate) fn row_at<'a>(
     }
 }
 
+// How many of the eight bytes of a line from `at` on come before the first comma among them: eight if none of them is one.
+fn bytes_before_comma(line: &[u8], at: usize) -> usize
+    requires { at + 8 ≤ length line.now }
+    ensures { result ≡ position_or_len is_comma (take 8 (drop at line.now)) }
+{
+    let commas = u8x8::from_slice(&line[at..])
+        .simd_eq(u8x8::splat(b','))
+        .to_bitmask();
+    if commas == 0 {
+        8
+    } else {
+        commas.trailing_zeros() as usize
+    }
+}
+
 // Where the first comma of a line is, or else its end.
 fn field_end(line: &[u8]) -> usize
     ensures { result ≡ position_or_len is_comma line.now }
 {
-    for (at, byte) in line.iter().enumerate() {
-        if *byte == b',' {
+    let mut at = 0;
+    'eights: while line.len() - at >= 8 {
+        let before = bytes_before_comma(line, at);
+        at += before;
+        if before < 8 {
             return at;
         }
     }
-    line.len()
+    'bytes: while at < line.len() && line[at] != b',' {
+        at += 1;
+    }
+    at
 }
 
 // The first field of a row, without the spaces round it, and the fields after it. None if it has no field.
