@@ -85,6 +85,7 @@ fn field_end(line: &[u8]) -> usize
 }
 
 // The first field of a row, without the spaces round it, and the fields after it. None if it has no field.
+#[inline(always)]
 fn split_first(row: Row<'_>) -> Option<(&[u8], Row<'_>)>
     ensures { MatchOption result (fields_in row.entry ≡ []) (λ parts. fields_in row.entry ≡ parts.0.now ∷ fields_in parts.1) }
 {
