@@ -17,7 +17,8 @@ use Rattle.connections.specs.declared.connection.Window.{Window}
 use Rattle.faults.specs.declared.fault.Fault.{Fault}
 use Rattle.feed_basis.specs.Basis.{BasisData}
 use Rattle.store_answers.specs.Asked.{IsStoredPoint, StoredReaches}
-use Rattle.store_answers.proofs.AskedFacts.{Shows, kept_of, known, stored_in, unanswered_fails, why}
+use Rattle.store_answers.specs.Opened.{Shows}
+use Rattle.store_answers.proofs.AskedFacts.{kept_of, known, stored_in, unanswered_fails, why}
 use Rattle.store_answers.proofs.StoredFacts.{in_trees, last_stored, reaches_stored, stored_reaches}
 use Rattle.store_terms.specs.Stores.{OnlyFailing, form_over}
 use Rattle.told_connections.specs.Next.{AreChosen, AreNext}

@@ -4,17 +4,16 @@ ghost use Rattle.std.specs.Prelude.{◌↔◌, IfErr, MatchResult};
 ghost use Rattle.store_terms.specs.Stores.{OnlyFailing};
 ghost use Rattle.store_answers.specs.Windowed.{IsStoredWindow, IsStoredRefusalWithin};
 
+use crate::opened::open_for;
 use connection_lines::Connections;
 use disk_model::Disk;
 use faults::Fault;
 use feed_basis::Basis;
-use pattern_query::place_named;
 use question_lines::Question;
 use std::alloc::Global;
-use store_excerpt::Excerpt;
 use store_excerpt::laws::whole_is_complete;
 use timetable::Rides;
-use told_connections::{Times, ask_within, stops_of_any};
+use told_connections::{Times, ask_within};
 
 /// The connections between the question's places, each a stop or a station, that depart from the moment to `until`, from the trees that
 /// the file of the disk has, with their rides and walks if `legs` wants them. The file is recovered, and a fresh one begun; of its trees
@@ -35,11 +34,9 @@ pub fn ask_stored_within<'a, D: Disk>(
     ensures honest { D.honest disk ↔ D.honest result.1 }
 {
     whole_is_complete();
-    let place = place_named(basis.names(), question.from);
-    let froms = stops_of_any(&place);
-    let excerpt = match Excerpt::open(alloc, disk, basis.shared(), rides, froms) {
+    let excerpt = match open_for(alloc, basis, rides, disk, question) {
         Ok(excerpt) => excerpt,
-        Err((fault, disk)) => return (Err(Fault::from(fault)), disk),
+        Err(refused) => return (Err(refused.0), refused.1),
     };
     let answer = match basis.network(alloc) {
         Ok(network) => ask_within(alloc, basis, &network, &excerpt, question, times, legs),

@@ -64,8 +64,8 @@ pub fn feed(failure: Failure) -> Files<Source> {
     }
 }
 
-/// The file of that path that lists stops: both at `stops`, and the first of them at `broken` and `starved`, whose readers fail then. There is
-/// no other.
+/// The file of that path that lists stops: both at `stops`, and the first of them at `broken` and `starved`, whose readers fail then.
+/// There is no other.
 pub fn list_of(path: &str) -> io::Result<Source> {
     match path {
         "stops" => Ok(Source {
