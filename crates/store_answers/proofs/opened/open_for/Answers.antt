@@ -6,7 +6,6 @@ use Rattle.section_store.specs.Sections.{Form, form_of}
 use Rattle.store_excerpt.specs.Board.{ShowsAmong}
 use Rattle.recovery.specs.Opening.{IsOpening, StandsForSources}
 use Rattle.store_excerpt.specs.Excerpt.{ShowsWhole}
-use Rattle.store_terms.specs.Stores.{form_over}
 use Rattle.store_terms.proofs.OpeningFacts.{over_basis, unopened, unopened_fails}
 use Rattle.store_answers.proofs.opened.open_for.Goals as goal
 
