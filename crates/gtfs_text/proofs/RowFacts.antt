@@ -22,9 +22,9 @@ comma_within line = prefix_len-le-length (λ c. not (is_comma c)) line
 pub none_before : (line : List ℕ) (at n : ℕ) → at + 8 ≤ length line → n ≡ position_or_len is_comma (take 8 (drop at line))
     → ((k : ℕ) → k < at → is_comma (get_or line k 0) ≡ false) → (k : ℕ) → k < at + n → is_comma (get_or line k 0) ≡ false
 none_before line at n room first none k within = elim (cases_lt k at) [
-    | inl before ↦ none k before
-    | inr from ↦ run_in_chunk_fails is_comma line at 8 n 0 room first k from within
-  ]
+  | inl before ↦ none k before
+  | inr from ↦ run_in_chunk_fails is_comma line at 8 n 0 room first k from within
+]
 
 -- a line's fields, where a comma follows the first
 pub cut_at_comma : (line rest after : List ℕ) (comma n : ℕ) → n ≡ position_or_len is_comma line → rest ≡ drop n line → rest ≡ comma ∷ after

@@ -12,7 +12,7 @@ returns-then-before-lt8 c =
     let before = c.bytes_before_comma-before.result in
     let room : at + 8 ≤ length line = omega (arith, c.eights-test.true, c.eights.invariant.within) in
     let comma : is_comma (get_or line (at + before) 0) ≡ true =
-        run_in_chunk_stops is_comma line at 8 before 0 room c.bytes_before_comma-before.ensures c.if-before-lt8.true in
+    run_in_chunk_stops is_comma line at 8 before 0 room c.bytes_before_comma-before.ensures c.if-before-lt8.true in
     sym (position_or_len_is is_comma line (at + before) 0 (omega (arith, room, c.if-before-lt8.true))
     (none_before line at before room c.bytes_before_comma-before.ensures c.eights.invariant.before) (λ _. comma))
 

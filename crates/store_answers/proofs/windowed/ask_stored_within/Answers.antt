@@ -23,7 +23,7 @@ returns-clause-answered g c = λ honest.
     let new = g.D.Disk.state c.into_disk.result in
     let excerpt = c.in-Ok.excerpt in
     let is : Shows basis k old new question excerpt.stored excerpt.board =
-        subst (λ d. Shows basis k old (g.D.Disk.state d) question excerpt.stored excerpt.board) (sym c.into_disk.ensures) (c.in-Ok.ensures.opened honest) in
+    subst (λ d. Shows basis k old (g.D.Disk.state d) question excerpt.stored excerpt.board) (sym c.into_disk.ensures) (c.in-Ok.ensures.opened honest) in
     elim c.match-network.branch [
       | in-Ok-network w ↦ rw w.answer-is (either w.ask_within-answer.result
           (IsAskedWithin basis (tree_at excerpt.board) c.args.legs times question)
