@@ -9,7 +9,7 @@ use Rattle.timetable.specs.Journeys.{foot, from, to, departs, arrives}
 use Rattle.timetable.proofs.Taken.{rides_some}
 use Rattle.rounds.specs.Answers.{AreRounds}
 use Rattle.rounds.specs.Mark.{Mark, at, By}
-use Rattle.rounds.specs.Row.{RowData, SameRow, ByThen, arrivals_of, settled_of, when}
+use Rattle.stop_labels.specs.Row.{RowData, SameRow, ByThen, arrivals_of, settled_of, when}
 use Rattle.rounds.specs.Marks.{RideSet, JourneySet, IsMark}
 use Rattle.rounds.specs.Serving.{Served}
 use Rattle.rounds.specs.Layers.{IsSettled, IsBelow, Attained, IsRound, IsNext, IsBegun, IsBegunRound, IsBegunNext, IsLayer, IsRode, IsDone, IsDoneRound, Begins, Changes, Stepped, Ridden, AreKept, DoneTo, RodeTo, no_row, layer_at, round_at}

@@ -5,7 +5,7 @@ use Rattle.std.proofs.lemmas.Bool.{le-leb, cases_lt}
 use Rattle.std.proofs.lemmas.List.Quantifiers.{position-Some}
 use Rattle.lines.specs.declared.line.Times.{Times}
 use Rattle.lines.specs.Lines.{AreNoLater}
-use Rattle.rounds.proofs.MemberFacts.{none_passes}
+use Rattle.stop_events.proofs.MemberFacts.{none_passes}
 
 -- an instance in time, where the one before it isn't, is the first in time
 pub first_is : (times : List Times) (ready k : ℕ) (d : Times) → AllPairs AreNoLater times → k < length times → ready ≤ (get_or times k d).departure

@@ -1,6 +1,6 @@
 -- Lists of layers and of rounds, one item after the other.
 use Rattle.std.proofs.Common.{◌≡◌, ℕ, suc, ◌+◌, ◌-◌, ◌<◌, ◌≤◌, List, ◌++◌, length, get_or, slice_set, arith, sym, ◌∙◌, ap, subst, inl, inr}
-use Rattle.rounds.specs.Row.{RowData}
+use Rattle.stop_labels.specs.Row.{RowData}
 use Rattle.rounds.specs.declared.layer.Layer.{Layer}
 use Rattle.rounds.specs.Layers.{no_layer, no_row, layer_at, round_at}
 use Rattle.std.proofs.lemmas.List.{get_or_default, get_or-set_same, get_or-set_other, set-append_right}

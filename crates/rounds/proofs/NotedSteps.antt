@@ -9,7 +9,7 @@ use Rattle.std.proofs.lemmas.Map.Keys.{IsDistinct-push}
 use Rattle.std.proofs.lemmas.Map.Views.{Contains-from_any}
 use Rattle.std.proofs.lemmas.Map.Steps.{length-le_from_distinct_below}
 use Rattle.rounds.specs.Noted.{no_position, IsNoted}
-use Rattle.rounds.proofs.LayerSteps.{SeenIn, seen_next}
+use Rattle.stop_labels.proofs.Listed.{SeenIn, seen_next}
 
 -- none is noted
 pub noted_nothing : (earliest listed : List ℕ) (capacity : ℕ) → listed ≡ [] → length earliest ≤ capacity

@@ -6,7 +6,7 @@ use Rattle.timetable.specs.Table.{Table, IsTable, stops_of}
 use Rattle.lines.specs.Lines.{AreLines}
 use Rattle.rounds.specs.Mark.{Mark, arrival_in, moment_in}
 use Rattle.rounds.specs.Answers.{AreRounds}
-use Rattle.rounds.specs.Row.{RowData}
+use Rattle.stop_labels.specs.Row.{RowData}
 use Rattle.rounds.specs.Layers.{IsSized, AreKept}
 use Rattle.rounds.specs.declared.scratch.Scratch.{Scratch}
 use Rattle.rounds.specs.declared.view.RoundView.{RoundView}

@@ -6,17 +6,16 @@ ghost use Rattle.timetable.specs.Journeys.{foot, link};
 ghost use Rattle.lines.specs.Lines.{AreLines};
 ghost use Rattle.rounds.specs.Mark.{AllShort, AllEarly, at};
 ghost use Rattle.rounds.specs.Serving.{Served};
-ghost use Rattle.rounds.specs.Row.{arrivals_of, settled_of};
-ghost use Rattle.rounds.specs.Layers.{IsSized, IsBegunNext, Begins, Changes, Stepped, Ridden};
+ghost use Rattle.stop_labels.specs.Row.{SameRow, arrivals_of, settled_of};
+ghost use Rattle.rounds.specs.Layers.{IsSized, IsBegunNext, IsBelow, Begins, Changes, Joined, Stepped, Ridden};
 
 use crate::guesses::Guesses;
-use crate::label::Label;
 use crate::noted::Noted;
-use crate::row::{Row, join};
 use crate::serving::ride_lines;
 use crate::walking::{Stay, walk_from, walk_on};
 use lines::Lines;
 use std::alloc::{AllocError, Global};
+use stop_labels::{Label, Row};
 use timetable::{LATEST_MOMENT, StopId, Timetable};
 
 /// What is known of each stop after so many rides: when one alights there and when one may board there next.
@@ -26,6 +25,21 @@ pub struct Layer {
     pub ready: Row,
     // Guesses for the scans whose rides alight here.
     pub guesses: Guesses,
+}
+
+// Lowers each label to that of the same stop in `below`, where those that weren't lowered there are no sooner than here.
+fn join(below: &Row, row: &mut Row)
+    requires size { length below.now.marks ≡ length row.old.marks }
+    requires early { AllEarly LATEST_MOMENT below.now.marks }
+    requires rest { IsBelow (settled_of below.now) row.old.marks }
+    ensures joined { Joined below.now.marks row.old.marks row.new.marks }
+    ensures same { SameRow row.old row.new }
+{
+    for stop in below.lowered() {
+        if let Some(label) = below.label(*stop) {
+            row.lower_to(*stop, label);
+        }
+    }
 }
 
 impl Layer {

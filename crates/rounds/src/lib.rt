@@ -4,27 +4,20 @@
 
 mod best;
 mod boarding;
-mod events;
 mod guesses;
-mod label;
-mod labels;
-pub mod laws;
 mod layer;
-mod moment;
 mod noted;
-mod path;
 mod plain;
 mod riding;
-mod row;
 mod scratch;
 mod serving;
 mod view;
 mod walking;
 
 pub use best::{points, scan};
-pub use events::departures;
-pub use path::Path;
 pub use plain::plain_rounds;
 pub use scratch::Scratch;
+pub use stop_events::departures;
+pub use stop_labels::Path;
 pub use timetable::Rides;
 pub use view::{RoundView, Rounds};

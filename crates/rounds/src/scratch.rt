@@ -10,22 +10,22 @@ ghost use Rattle.lines.specs.Lines.{AreLines};
 ghost use Rattle.timetable.specs.Front.{AreFront};
 ghost use Rattle.rounds.specs.contracts.scratch.Scratch.{the_row};
 ghost use Rattle.rounds.specs.Answers.{AreRounds};
-ghost use Rattle.rounds.specs.Events.{AreEvents};
+ghost use Rattle.stop_events.specs.Events.{AreEvents};
 ghost use Rattle.rounds.specs.Mark.{at, arrival_in, moment_in};
-ghost use Rattle.rounds.specs.Row.{RowData, arrivals_of, settled_of};
+ghost use Rattle.stop_labels.specs.Row.{RowData, arrivals_of, settled_of};
 ghost use Rattle.rounds.specs.Layers.{IsSized, IsSettled, Begins, AreKept, DoneTo, RodeTo, layer_at, round_at};
 ghost use Rattle.rounds.specs.Scratch.{IsMadeFor, IsAlike, MayGoOn, GoesOn, Remembers, rides_of, rounds_of, source_of, kept_of, before_of};
 
 use crate::best::points;
-use crate::events::departures;
 use crate::layer::{Layer, ride_on};
 use crate::noted::Noted;
-use crate::row::Row;
 use crate::view::RoundView;
 use arrayvec::ArrayVec;
 use lines::Lines;
 use std::alloc::{AllocError, Global};
 use std::sync::Arc;
+use stop_events::departures;
+use stop_labels::Row;
 use timetable::{LATEST_MOMENT, Numbers, Rides, StopId, Timetable};
 
 /// Runs of the rounds over one timetable, one after the other. It keeps what the last run found, for the view of it.

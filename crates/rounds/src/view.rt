@@ -4,14 +4,12 @@ ghost use Rattle.std.specs.Prelude.{◌≡◌, ℕ, ◌≤◌, ◌-◌, ◌↔�
 ghost use Rattle.std.specs.List.{Contains};
 ghost use Rattle.timetable.specs.Front.{IsSooner};
 ghost use Rattle.rounds.specs.Mark.{mark_in, arrival_in, moment_in};
-ghost use Rattle.rounds.specs.Row.{RowData};
+ghost use Rattle.stop_labels.specs.Row.{RowData};
 ghost use Rattle.rounds.specs.Scratch.{rounds_of, before_of};
 
-use crate::label::Label;
-use crate::path::Path;
-use crate::row::{Row, is_sooner};
 use std::alloc::{AllocFailed, Global};
 use std::marker::Model;
+use stop_labels::{Label, Path, Row, is_sooner};
 use timetable::StopId;
 
 /// What a run found, kept by its owner.
@@ -23,7 +21,7 @@ pub struct Rounds {
 impl Model for Rounds {
     ghost use Rattle.std.specs.Prelude.{List, Option, map};
     ghost use Rattle.rounds.specs.Mark.{Mark};
-    ghost use Rattle.rounds.specs.Row.{RowData};
+    ghost use Rattle.stop_labels.specs.Row.{RowData};
 
     ghost Value = { List (List (Option Mark)) };
 

@@ -1,5 +1,5 @@
 use Rattle.std.proofs.Common.{ℕ, Option, List, refl, sym, ◌∙◌, subst}
-use Rattle.rounds.specs.Row.{ByThen, when}
+use Rattle.stop_labels.specs.Row.{ByThen, when}
 use Rattle.rounds.proofs.LayerSteps.{joined_early, scanned_early}
 use Rattle.rounds.proofs.layer.ride_on.Goals as goal
 

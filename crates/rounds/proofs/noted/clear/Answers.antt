@@ -1,7 +1,7 @@
 use Rattle.std.proofs.Common.{◌≡◌, ◌<◌, ℕ, List, length, get_or, arith, sym, inl, inr}
 use Rattle.std.specs.List.{Contains}
 use Rattle.std.proofs.lemmas.List.{get_or_default}
-use Rattle.rounds.proofs.LayerSteps.{seen_all}
+use Rattle.stop_labels.proofs.Listed.{seen_all}
 use Rattle.rounds.proofs.NotedSteps.{cleared_more}
 use Rattle.rounds.proofs.noted.clear.Goals as goal
 

@@ -1,6 +1,6 @@
 use Rattle.std.proofs.Common.{◌≡◌, ◌⊎◌, ℕ, get_or}
 use Rattle.rounds.specs.Noted.{no_position}
-use Rattle.rounds.proofs.LayerSteps.{SeenIn}
+use Rattle.stop_labels.proofs.Listed.{SeenIn}
 use Rattle.rounds.proofs.noted.clear.Given as goal
 
 abbrev pub invariant-loop-line : goal.invariant-loop-line

@@ -5,7 +5,7 @@ use Rattle.timetable.specs.Journeys.{foot, link}
 use Rattle.rounds.specs.Mark.{Mark, AllEarly}
 use Rattle.rounds.specs.Moves.{Scanned}
 use Rattle.rounds.specs.Answers.{AreRounds}
-use Rattle.rounds.specs.Row.{RowData, SameRow, ByThen, when, settled_of}
+use Rattle.stop_labels.specs.Row.{RowData, SameRow, ByThen, when, settled_of}
 use Rattle.rounds.specs.Layers.{Stepped}
 use Rattle.rounds.proofs.MarkSteps.{Filled, filled_more, rounds_are, rode_early, scanned_rides}
 use Rattle.rounds.proofs.KeptSteps.{ready_short}

@@ -4,7 +4,7 @@ use Rattle.timetable.specs.declared.parts.TheConstants.{LATEST_MOMENT}
 use Rattle.timetable.specs.Table.{stops_of}
 use Rattle.timetable.specs.Journeys.{link}
 use Rattle.rounds.specs.Mark.{AllEarly}
-use Rattle.rounds.specs.Row.{settled_of}
+use Rattle.stop_labels.specs.Row.{settled_of}
 use Rattle.rounds.specs.declared.layer.Layer.{Layer}
 use Rattle.rounds.specs.Layers.{IsSized, Stepped, Changes, no_layer, layer_at}
 use Rattle.rounds.proofs.MarkSteps.{rode_early}

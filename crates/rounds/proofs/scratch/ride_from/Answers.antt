@@ -5,7 +5,7 @@ use Rattle.timetable.specs.declared.parts.TheConstants.{LATEST_MOMENT}
 use Rattle.timetable.specs.Table.{stops_of}
 use Rattle.timetable.specs.Journeys.{foot}
 use Rattle.rounds.specs.Mark.{AllEarly, AllShort}
-use Rattle.rounds.specs.Row.{RowData, arrivals_of, settled_of}
+use Rattle.stop_labels.specs.Row.{RowData, arrivals_of, settled_of}
 use Rattle.rounds.specs.Serving.{Served}
 use Rattle.rounds.specs.declared.layer.Layer.{Layer}
 use Rattle.rounds.specs.Layers.{IsBegunNext, IsSized, Stepped, Ridden, no_layer, no_row, layer_at, round_at}

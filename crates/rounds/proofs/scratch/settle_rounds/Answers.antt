@@ -1,5 +1,5 @@
 use Rattle.std.proofs.Common.{◌<◌, get_or, length, arith, subst}
-use Rattle.rounds.specs.Row.{RowData}
+use Rattle.stop_labels.specs.Row.{RowData}
 use Rattle.rounds.specs.Layers.{IsSettled}
 use Rattle.rounds.proofs.LayerLists.{round_read, each_round, rest_rounds}
 use Rattle.rounds.proofs.scratch.settle_rounds.Goals as goal

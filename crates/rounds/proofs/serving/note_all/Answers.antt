@@ -1,7 +1,7 @@
 use Rattle.std.proofs.Common.{◌+◌, arith, sym, ◌∙◌}
-use Rattle.rounds.specs.Row.{settled_of}
-use Rattle.rounds.proofs.RowSteps.{sooner_within}
-use Rattle.rounds.proofs.LayerSteps.{SeenIn, seen_next}
+use Rattle.stop_labels.specs.Row.{settled_of}
+use Rattle.stop_labels.proofs.RowSteps.{sooner_within}
+use Rattle.stop_labels.proofs.Listed.{SeenIn, seen_next}
 use Rattle.rounds.proofs.ServeSteps.{noted_none, noted_more, noted_all}
 use Rattle.rounds.proofs.serving.note_all.Goals as goal
 

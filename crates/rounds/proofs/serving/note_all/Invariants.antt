@@ -1,5 +1,5 @@
 use Rattle.std.proofs.Common.{◌≡◌, length}
-use Rattle.rounds.proofs.LayerSteps.{SeenIn}
+use Rattle.stop_labels.proofs.Listed.{SeenIn}
 use Rattle.rounds.proofs.ServeSteps.{NotedTo}
 use Rattle.rounds.proofs.serving.note_all.Given as goal
 

@@ -2,7 +2,7 @@ use Rattle.std.specs.List.{Contains}
 use Rattle.lines.specs.Lines.{IsLine, no_line}
 use Rattle.std.proofs.Common.{◌<◌, ℕ, List, length, get_or, arith, sym, subst}
 use Rattle.std.proofs.lemmas.List.{get_or_default}
-use Rattle.rounds.proofs.RowSteps.{same_here, same_then}
+use Rattle.stop_labels.proofs.RowSteps.{same_here, same_then}
 use Rattle.rounds.proofs.ServeSteps.{lines_none, lines_more, noted_rides}
 use Rattle.rounds.proofs.serving.ride_noted.Goals as goal
 

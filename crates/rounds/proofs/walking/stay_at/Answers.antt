@@ -1,5 +1,5 @@
 use Rattle.std.proofs.Common.{◌<◌, arith, ◌∙◌, ap, inl, inr, length}
-use Rattle.rounds.specs.Row.{RowData}
+use Rattle.stop_labels.specs.Row.{RowData}
 use Rattle.rounds.specs.Moves.{gap}
 use Rattle.rounds.proofs.WalkSteps.{Stays, stay_gap, stay_short, spread_here, spread_nowhere}
 use Rattle.rounds.proofs.walking.stay_at.Goals as goal

@@ -1,7 +1,7 @@
 use Rattle.std.proofs.Common.{ℕ, ◌≡◌, ◌⊎◌, ◌<◌, List, length, get_or, arith, sym, ap, subst, ◌∙◌}
 use Rattle.std.specs.List.{Contains}
 use Rattle.rounds.specs.Noted.{no_position}
-use Rattle.rounds.proofs.KeptSteps.{whole_of}
+use Rattle.stop_labels.proofs.Listed.{whole_of}
 use Rattle.rounds.proofs.NotedSteps.{noted_nothing, cleared_all}
 use Rattle.rounds.proofs.noted.Noted.clear.Goals as goal
 

@@ -1,10 +1,11 @@
 use Rattle.std.proofs.Common.{◌≡◌, List, length, map, refl, sym, ◌∙◌, ap}
 use Rattle.timetable.specs.Table.{stops_of}
 use Rattle.rounds.specs.declared.layer.Layer.{Layer}
-use Rattle.rounds.specs.Row.{RowData}
+use Rattle.stop_labels.specs.Row.{RowData}
 use Rattle.rounds.specs.Mark.{arrival_in, moment_in}
 use Rattle.rounds.proofs.DoneSteps.{marks_in, done_kept, done_rounds}
-use Rattle.rounds.proofs.KeptSteps.{whole_of, kept_earlier}
+use Rattle.stop_labels.proofs.Listed.{whole_of}
+use Rattle.rounds.proofs.KeptSteps.{kept_earlier}
 use Rattle.rounds.proofs.ScratchSteps.{alike_of, same_stops, kept_moved, rounds_moved, told, layers_sized, rounds_sized, sized_moved, sizes_moved}
 use Rattle.rounds.proofs.scratch.Scratch.fill.Goals as goal
 

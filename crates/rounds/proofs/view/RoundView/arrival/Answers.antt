@@ -1,7 +1,7 @@
 use Rattle.std.proofs.Common.{◌∙◌, sym, ap}
 use Rattle.rounds.specs.Mark.{arrival_of}
-use Rattle.rounds.specs.Row.{RowData, arrivals_of}
-use Rattle.rounds.proofs.RowSteps.{some_or_none}
+use Rattle.stop_labels.specs.Row.{RowData, arrivals_of}
+use Rattle.rounds.proofs.RoundSteps.{some_or_none}
 use Rattle.rounds.proofs.view.RoundView.arrival.Goals as goal
 
 pub returns : goal.returns

@@ -1,6 +1,6 @@
 use Rattle.std.proofs.Common.{◌∙◌, sym, ap}
-use Rattle.rounds.specs.Row.{RowData, settled_of}
-use Rattle.rounds.proofs.RowSteps.{some_or_none}
+use Rattle.stop_labels.specs.Row.{RowData, settled_of}
+use Rattle.rounds.proofs.RoundSteps.{some_or_none}
 use Rattle.rounds.proofs.view.RoundView.before.Goals as goal
 
 pub returns : goal.returns

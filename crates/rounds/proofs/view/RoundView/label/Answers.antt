@@ -1,8 +1,8 @@
 use Rattle.std.proofs.Common.{◌≡◌, Option, Some, ◌∙◌, sym, ap, subst}
 use Rattle.std.specs.Option.{IfSome}
 use Rattle.rounds.specs.Mark.{Mark, at}
-use Rattle.rounds.specs.Row.{RowData}
-use Rattle.rounds.proofs.RowSteps.{some_or_none}
+use Rattle.stop_labels.specs.Row.{RowData}
+use Rattle.rounds.proofs.RoundSteps.{some_or_none}
 use Rattle.rounds.proofs.view.RoundView.label.Goals as goal
 
 pub returns-clause-none : goal.returns-clause-none

@@ -1,9 +1,10 @@
 use Rattle.std.proofs.Common.{ℕ, ◌-◌, Option, ◌∙◌, sym, ap, get_or, subst, inl, inr}
 use Rattle.timetable.specs.Front.{IsSooner}
 use Rattle.rounds.specs.Mark.{at, arrival_of, arrival_in, moment_in}
-use Rattle.rounds.specs.Row.{RowData, arrivals_of, settled_of}
+use Rattle.stop_labels.specs.Row.{RowData, arrivals_of, settled_of}
 use Rattle.rounds.specs.Scratch.{rounds_of, before_of}
-use Rattle.rounds.proofs.RowSteps.{some_or_none, not_sooner}
+use Rattle.rounds.proofs.RoundSteps.{some_or_none}
+use Rattle.stop_labels.proofs.RowSteps.{not_sooner}
 use Rattle.rounds.proofs.view.RoundView.lowered.Goals as goal
 
 pub returns : goal.returns

@@ -1,8 +1,0 @@
-use Rattle.std.proofs.Common.{◌≡◌, ◌⊎◌, ℕ}
-use Rattle.rounds.specs.Mark.{at, arrival_of}
-use Rattle.rounds.specs.Row.{when}
-use Rattle.rounds.proofs.LayerSteps.{SeenIn}
-use Rattle.rounds.proofs.row.settle.Given as goal
-
-abbrev pub invariant-loop-stop : goal.invariant-loop-stop
-invariant-loop-stop l = (p : ℕ) → (when l.settled p ≡ arrival_of (at l.labels p)) ⊎ (¬ SeenIn l.listed l.stop-index p × (when l.settled p ≡ when l.fn.settled p))

@@ -1,0 +1,4 @@
+pub mod MemberFacts
+pub mod WalkFacts
+pub mod EventSteps
+pub mod EventLaws

@@ -1,0 +1,4 @@
+pub mod Low
+pub mod Listed
+pub mod LabelSteps
+pub mod RowSteps
