@@ -1,5 +1,5 @@
 -- The journey along a path that leaves last, beside one with the same numbers.
-use Rattle.std.proofs.Common.{Option, ◌≡◌, ℕ, ◌<◌, ◌≤◌, false, List, length, Some, None, arith, sym, ◌∙◌, ap, subst, inl, inr, le_trans, le_of_eq}
+use Rattle.std.proofs.Common.{Option, ◌≡◌, ℕ, ◌<◌, ◌≤◌, false, IfSome, IfNone, List, length, Some, None, arith, sym, ◌∙◌, ap, subst, inl, inr, le_trans, le_of_eq}
 use Rattle.std.proofs.lemmas.Bool.{cases_lt}
 use Rattle.std.proofs.lemmas.Option.{same_Some}
 use Rattle.timetable.specs.Table.{Table}
@@ -8,7 +8,7 @@ use Rattle.pattern_tree.specs.Forest.{Step}
 use Rattle.pattern_query.specs.Answer.{PointData}
 use Rattle.pattern_query.specs.BestSoFar.{at, IsAlong, Searched}
 use Rattle.pattern_query.specs.Way.{Exactly}
-use Rattle.pattern_query.specs.Leaving.{walked, on_foot, IsPreferred, CanTake, IsLastMoment, IsBetterAlong}
+use Rattle.pattern_query.specs.Leaving.{walked, on_foot, IsPreferred, CanTake, IsLastMoment, IsFound, IsBetterAlong}
 use Rattle.pattern_query.proofs.SlotSteps.{none_some, the_point}
 use Rattle.pattern_query.proofs.WaySteps.{pattern_length}
 
@@ -105,3 +105,19 @@ module _ (table : Table) (s t : ℕ) (path : List Step) where
                     };
                     path = is.path;
                   }
+
+-- what a search of the path alone finds at the last moment is better than the point
+pub alone_better : (table : Table) (s t : ℕ) (path : List Step) (d : ℕ) (p : PointData) (e : ℕ) → IsLastMoment (CanTake table false s path t p.arrival) e
+    → 0 < length path → d ≤ p.departure → p.departure ≤ e → (e ≡ p.departure → walked table s path t ≤ on_foot table p)
+    → (found : Option PointData) → IsFound table s t e path found → IfSome found (IsBetterAlong table s t d path p)
+alone_better table s t path d p e last some after since walk None is = tt
+alone_better table s t path d p e last some after since walk (Some q) is =
+    found_better table s t path d p e last is.empty is.slots is.none is.searched some after since walk q is.here
+
+-- and it finds something
+pub alone_there : (table : Table) (s t : ℕ) (path : List Step) (d : ℕ) (p : PointData) (e : ℕ) → IsLastMoment (CanTake table false s path t p.arrival) e
+    → (P : Type 0) (found : Option PointData) → IsFound table s t e path found → IfNone found P
+alone_there table s t path d p e last P None is =
+    let there = found_there table s t path d p e last is.empty is.slots is.none is.searched in
+    absurd (none_some there.0 (sym is.here ∙ there.1))
+alone_there table s t path d p e last P (Some q) is = tt

@@ -1,7 +1,7 @@
 -- Which of the journeys with the same numbers is told: of those the one that leaves last, and of those that leave as late one that walks
 -- least.
 -- RAPTOR (Delling, Pajor, Werneck, ALENEX 2012), section 4: of journeys that arrive as early, one that departs later dominates.
-use Rattle.std.specs.Prelude.{Option, ◌≡◌, ℕ, ◌+◌, ◌<◌, ◌≤◌, ◌⊎◌, Bool, true, false, List, [], ◌∷◌, Some}
+use Rattle.std.specs.Prelude.{Option, ◌≡◌, ℕ, ◌+◌, ◌<◌, ◌≤◌, ◌⊎◌, Bool, true, false, List, [], ◌∷◌, length, Some, None}
 use Rattle.std.specs.Option.{option_map, unwrap_or}
 use Rattle.timetable.specs.declared.parts.Leg.{Leg}
 use Rattle.timetable.specs.declared.parts.Numbers.{Numbers}
@@ -9,7 +9,7 @@ use Rattle.timetable.specs.Table.{Table}
 use Rattle.timetable.specs.Journeys.{foot, Onward, Journey, pattern}
 use Rattle.pattern_tree.specs.Forest.{Step}
 use Rattle.pattern_query.specs.Answer.{PointData, numbers, IsJourney}
-use Rattle.pattern_query.specs.BestSoFar.{at, IsKept, IsAlong}
+use Rattle.pattern_query.specs.BestSoFar.{at, IsKept, IsAlong, Searched}
 use Rattle.pattern_query.specs.Way.{Exactly}
 
 -- the seconds on foot from p to t, if the rides are those of the path; a change at a stop is no walk
@@ -64,6 +64,14 @@ IsLastMoment Of a = Of a × ((b : ℕ) → Of b → b ≤ a)
 -- Before the moment it is so many seconds earlier, if they are known.
 abbrev pub IsBack : Option ℕ → ℕ → ℕ → Type 0
 IsBack seconds moment a = (w : ℕ) × (seconds ≡ Some w) × (a + w ≡ moment)
+
+-- what a search of the path alone finds, where nothing was found before
+pub record IsFound (table : Table) (s t d : ℕ) (path : List Step) (found : Option PointData) : Type 0 where
+  pub empty : List (Option PointData)
+  pub slots : List (Option PointData)
+  pub none : (r : ℕ) → at empty r ≡ None
+  pub searched : Searched table s t d (Exactly path) empty slots
+  pub here : at slots (length path) ≡ found
 
 -- the journey along the path is preferred to p, arrives no later, and leaves last of those along the path that arrive no later than p
 pub record IsBetterAlong (table : Table) (s t d : ℕ) (path : List Step) (p q : PointData) : Type 0 where

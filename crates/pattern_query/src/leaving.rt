@@ -3,18 +3,17 @@
 ghost use Rattle.std.specs.Prelude.{◌≡◌, ℕ, ◌+◌, ◌<◌, ◌≤◌, ◌↔◌, length, Some, IfSome, IfNone, IsTrue};
 ghost use Rattle.timetable.specs.Table.{IsTable};
 ghost use Rattle.pattern_query.specs.Answer.{PointData};
-ghost use Rattle.pattern_query.specs.Patterns.{paths_of};
+ghost use Rattle.packed_patterns.specs.Patterns.{paths_of};
 ghost use Rattle.pattern_query.specs.Way.{Exactly, EmptyOrIn};
 ghost use Rattle.pattern_query.specs.BestSoFar.{AreSlots, AreThere, IsAlong, IsKept};
-ghost use Rattle.pattern_query.specs.Leaving.{walked, on_foot, CanTake, IsLastMoment, IsBack, IsPreferred, IsBetterAlong, AreJourneys, LeaveLast};
+ghost use Rattle.pattern_query.specs.Leaving.{walked, on_foot, CanTake, IsLastMoment, IsBack, IsPreferred, IsFound, IsBetterAlong, AreJourneys, LeaveLast};
 
 use crate::answer::Point;
 use crate::best_so_far::{is_there_by, no_points};
 use crate::feet::{foot, walk_along, walk_of};
-use crate::packing::rides_of;
-use crate::patterns::Ending;
 use crate::search::{Search, hop};
-use timetable::StopId;
+use packed_patterns::{Ending, rides_of};
+use timetable::{LATEST_MOMENT, StopId};
 
 impl Search<'_> {
     // The same search at another moment.
@@ -77,6 +76,17 @@ impl Search<'_> {
             && walk_of(self.network, point) <= walk_along(self.network, self.source, path, self.to)
     }
 
+    // The earliest journey along the path alone, if there is one.
+    fn alone(&self, path: &[(StopId, StopId)]) -> Option<Point>
+        requires early { self.now.depart ≤ LATEST_MOMENT }
+        requires short { length path.now ≤ 8 }
+        ensures { IsFound self.now.network.now self.now.source self.now.to self.now.depart path.now result }
+    {
+        let mut found = no_points();
+        self.follow(path, &mut found);
+        found[path.len()].take()
+    }
+
     // The journey along the path that is preferred to the point and arrives no later, if there is one.
     fn better_along(&self, path: &[(StopId, StopId)], point: &Point) -> Option<Point>
         requires some { 0 < length path.now }
@@ -93,10 +103,7 @@ impl Search<'_> {
         if self.walks_no_less(path, moment, point) {
             return None;
         }
-        let mut found = no_points();
-        self.from_moment(moment).follow(path, &mut found);
-        let better = found[path.len()].as_ref()?;
-        Some(better.copy())
+        self.from_moment(moment).alone(path)
     }
 
     // The journey along the path that is preferred to the point of as many rides, if there is one. Those on foot all leave at once, and a

@@ -3,16 +3,15 @@
 ghost use Rattle.std.specs.Prelude.{◌≡◌, ℕ, ◌+◌, ◌<◌, ◌≤◌, ◌++◌, ◌∷◌, [], length, IfSome, IfNone};
 ghost use Rattle.timetable.specs.Table.{IsTable};
 ghost use Rattle.timetable.specs.Journeys.{arrives, pattern};
-ghost use Rattle.pattern_query.specs.Patterns.{paths_of};
+ghost use Rattle.packed_patterns.specs.Patterns.{paths_of};
 ghost use Rattle.pattern_query.specs.Way.{Stands, Earliest, Boards, Exactly, EmptyOrIn, HasFront, hop, is_some, leaving};
 ghost use Rattle.pattern_query.specs.BestSoFar.{Searched, AreThere};
 
 use crate::answer::{Legs, Point};
 use crate::best_so_far::{is_there_by, offer};
 use crate::feet::foot;
-use crate::packing::rides_of;
-use crate::patterns::Ending;
 use direct_connections::{Network, Ride};
+use packed_patterns::{Ending, rides_of};
 use timetable::{LATEST_MOMENT, StopId};
 
 /// What is sought, and where: journeys from a source to a stop.

@@ -1,6 +1,6 @@
 use Rattle.std.proofs.Common.{ℕ, subst, sym}
 use Rattle.pattern_query.specs.BestSoFar.{AreThere, IsSearched, IsAlong}
-use Rattle.pattern_query.specs.Patterns.{paths_of}
+use Rattle.packed_patterns.specs.Patterns.{paths_of}
 use Rattle.pattern_query.specs.Way.{EmptyOrIn}
 use Rattle.pattern_query.specs.Leaving.{LeaveLast}
 use Rattle.pattern_query.proofs.LeaveSteps.{counted_same}

@@ -3,7 +3,7 @@ use Rattle.std.proofs.lemmas.List.{length-map, get_or-map}
 use Rattle.pattern_tree.specs.Forest.{Step}
 use Rattle.pattern_query.specs.Answer.{PointData}
 use Rattle.pattern_query.specs.BestSoFar.{AreThere, IsAlong}
-use Rattle.pattern_query.specs.Patterns.{path_of, paths_of}
+use Rattle.packed_patterns.specs.Patterns.{path_of, paths_of}
 use Rattle.pattern_query.specs.Way.{Exactly, EmptyOrIn}
 use Rattle.pattern_query.specs.Leaving.{LeaveLast}
 use Rattle.pattern_query.proofs.LeaveSteps.{counted_same, journeys_still}

@@ -1,5 +1,5 @@
 use Rattle.std.proofs.Common.{take}
-use Rattle.pattern_query.specs.Patterns.{paths_of}
+use Rattle.packed_patterns.specs.Patterns.{paths_of}
 use Rattle.pattern_query.specs.Way.{EmptyOrIn}
 use Rattle.pattern_query.specs.BestSoFar.{IsAlong}
 use Rattle.pattern_query.specs.Leaving.{LeaveLast}

@@ -1,0 +1,4 @@
+pub mod EndFacts
+pub mod PackFacts
+pub mod SortFacts
+pub mod ContainsFacts
