@@ -1,0 +1,11 @@
+use Rattle.std.proofs.Common.{◌≡◌, false, fold, take}
+use Rattle.clap.specs.Words.{app_of}
+use Rattle.clap.specs.declared.builder.command.Command.TheViews.{out-Command as fields_of}
+use Rattle.command_grammar.specs.Grammars.{with_word}
+use Rattle.command_grammar.proofs.grammar.with_words.Given as goal
+
+abbrev pub invariant-loop-word : goal.invariant-loop-word
+invariant-loop-word l = record {
+  shape : app_of l.command ≡ fold with_word (app_of l.initial.command) (take l.word-index l.words);
+  local : (fields_of l.command).has_globals ≡ false;
+}
