@@ -1,3 +1,4 @@
+pub mod AskingFacts
 pub mod DayFacts
 pub mod FaultFacts
 pub mod FeedFacts

@@ -4,7 +4,7 @@ ghost use Rattle.std.specs.Prelude.{IfOk, IfErr, IfSome, IfNone, Some};
 ghost use Rattle.clap.specs.Words.{Text, rows_of, found_of};
 ghost use Rattle.command_line.specs.Days.{HasNoDate, IsNamedDay};
 ghost use Rattle.command_line.specs.Jobs.{HasPlaces};
-ghost use Rattle.command_line.specs.Readings.{ArePlaces, AreTimesIn, IsDayIn, LacksDayIn, LacksPlaces, LacksTimes};
+ghost use Rattle.command_line.specs.Readings.{ArePlaces, AreTimesIn, IsDayIn, IsFaultOf, LacksDayIn, LacksPlaces, LacksTimes};
 
 use crate::unread::WordFault;
 use crate::within::{names_until, next_of, until_of, within_of};
@@ -14,9 +14,9 @@ use jiff_core::civil::Date;
 use options::text_of;
 use question_lines::Question;
 
-/// The ids and the time of a question, as they are written.
+// The ids and the time of a question, as they are written.
 #[derive(Clone, Copy)]
-pub(crate) struct Places<'a> {
+struct Places<'a> {
     from: &'a str,
     to: &'a str,
     at: &'a str,
@@ -24,13 +24,9 @@ pub(crate) struct Places<'a> {
     next: Option<u16>,
 }
 
-/// The question's texts, of which the option `start` has the place to leave from, and `goal` that to go to: none if one of its words isn't
-/// there, the number of connections is out of its range, or a day is named for a last time that isn't.
-pub(crate) fn places_of<'m, 'a>(
-    found: &'m ArgMatches<'a>,
-    start: &str,
-    goal: &str,
-) -> Option<Places<'m>>
+// The question's texts, of which the option `start` has the place to leave from, and `goal` that to go to: none if one of its words isn't
+// there, the number of connections is out of its range, or a day is named for a last time that isn't.
+fn places_of<'m, 'a>(found: &'m ArgMatches<'a>, start: &str, goal: &str) -> Option<Places<'m>>
     ensures places { IfSome result (ArePlaces start.now goal.now (rows_of (found_of found.now))) }
     ensures none { IfNone result (LacksPlaces start.now goal.now (rows_of (found_of found.now))) }
 {
@@ -64,9 +60,9 @@ fn day_of(found: &ArgMatches<'_>, first: Option<Date>) -> Option<Date>
     named_day(found, "on", first)
 }
 
-/// The question of these texts, with its days and times read from the words; `first` is the first covered day. Its day may be none, or else
-/// the day of its last time, or else its time, or else its last time.
-pub(crate) fn question_of<'a>(
+// The question of these texts, with its days and times read from the words; `first` is the first covered day. Its day may be none, or else
+// the day of its last time, or else its time, or else its last time.
+fn question_of<'a>(
     places: Places<'a>,
     found: &ArgMatches<'_>,
     first: Option<Date>,
@@ -95,5 +91,24 @@ pub(crate) fn question_of<'a>(
             within: within_of(until, places.next),
         }),
         Err(fault) => Err(fault),
+    }
+}
+
+/// The question of the words, of which the option `start` has the place to leave from, and `goal` that to go to. Its days and times are read;
+/// `first` is the first covered day.
+pub(crate) fn asked_of<'m, 'a>(
+    found: &'m ArgMatches<'a>,
+    start: &str,
+    goal: &str,
+    first: Option<Date>,
+) -> Result<Question<'m>, WordFault>
+    ensures places { IfOk result (HasPlaces start.now goal.now (rows_of (found_of found.now))) }
+    ensures times { IfOk result (λ question. AreTimesIn (rows_of (found_of found.now)) first (Some question)) }
+    ensures fault { IfErr result
+        (IsFaultOf (HasPlaces start.now goal.now (rows_of (found_of found.now))) Some (rows_of (found_of found.now)) first) }
+{
+    match places_of(found, start, goal) {
+        Some(places) => question_of(places, found, first),
+        None => Err(WordFault::NoJob),
     }
 }
