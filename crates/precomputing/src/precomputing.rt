@@ -3,16 +3,12 @@
 ghost use Rattle.std.specs.Prelude.{◌≡◌, ◌<◌, ◌≤◌, [], IfOk, length, take, vec_capacity};
 ghost use Rattle.stop_parts.specs.Parts.{whole};
 ghost use Rattle.section_store.specs.Sources.{IsSetOf};
-ghost use Rattle.precomputing.specs.Flushed.{ShowsTo};
+ghost use Rattle.tree_crew.specs.Flushed.{ShowsTo};
 ghost use Rattle.precomputing.specs.Prepared.{IsPrepared};
 ghost use Rattle.precomputing.specs.Outcome.{IsDoneAtOnce, IsLeft, IsPrecomputed};
 
-use crate::audience::Audience;
-use crate::crew::Crew;
 use crate::missing::{count_in, has_each, mark, missing_stops, settled_stops};
 use crate::outcome::Outcome;
-use crate::progress::{Counted, Progress, Silent};
-use crate::threads::run_over;
 use disk_model::Disk;
 use flusher::FlushEnd;
 use planner::{Desk, Planner};
@@ -24,6 +20,7 @@ use std::sync::Wait;
 use std::thread::Threads;
 use stop_parts::Part;
 use timetable::StopId;
+use tree_crew::{Audience, Counted, Crew, Progress, Silent, run_over};
 use tree_workers::{Gate, Halt};
 use work_ledger::Ledger;
 

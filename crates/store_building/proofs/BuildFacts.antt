@@ -16,7 +16,7 @@ use Rattle.flusher.specs.declared.end.FlushEnd.{FlushEnd}
 use Rattle.flusher.specs.declared.end.FlushEnd.TheVariants.{Drained, DeviceFailed}
 use Rattle.recovery.specs.Laws.{OpeningGoesOn}
 use Rattle.recovery.specs.Opening.{IsOpening, StandsForSources}
-use Rattle.precomputing.specs.Flushed.{Flushed}
+use Rattle.tree_crew.specs.Flushed.{Flushed}
 use Rattle.precomputing.specs.Outcome.{IsPrecomputed}
 use Rattle.precomputing.specs.declared.outcome.Outcome.{Outcome}
 use Rattle.precomputing.specs.declared.outcome.Outcome.TheVariants as outcomes

@@ -2,7 +2,7 @@ use Rattle.std.proofs.Common.{◌≡◌, Option, MatchOption, List, ℕ, length,
 use Rattle.std.proofs.Math.Seq.{take-append_seam}
 use Rattle.timetable.specs.Table.{stops_of}
 use Rattle.flusher.specs.declared.end.FlushEnd.{FlushEnd}
-use Rattle.precomputing.specs.Flushed.{Flushed}
+use Rattle.tree_crew.specs.Flushed.{Flushed}
 use Rattle.section_store.specs.Sources.{IsSetOf}
 use Rattle.precomputing.proofs.precomputing.build.Goals as goal
 

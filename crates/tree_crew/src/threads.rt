@@ -3,7 +3,7 @@
 ghost use Rattle.std.specs.Prelude.{◌≡◌, ◌<◌, ◌≤◌, ◌+◌, [], MatchOption};
 ghost use denote.Param.Send.{IsSend, IsSync};
 ghost use Rattle.section_store.specs.Sections.{form_of};
-ghost use Rattle.precomputing.specs.Flushed.{Flushed, ShowsTo};
+ghost use Rattle.tree_crew.specs.Flushed.{Flushed, ShowsTo};
 
 use crate::audience::Audience;
 use crate::crew::Crew;
@@ -165,7 +165,7 @@ fn run_at<
 
 /// Builds trees in the crew's threads, as the ledger gives out their sources, and stores those of the crew's part. No more threads are made
 /// than trees may be missing. None if memory is refused or no thread could be made, and then nothing was done.
-pub(crate) fn run_over<
+pub fn run_over<
     B: Basis + Parted + Send + Sync,
     D: Disk + Drop,
     R: Threads + Wait + Sync,

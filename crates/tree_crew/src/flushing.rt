@@ -2,7 +2,7 @@
 
 ghost use Rattle.std.specs.Prelude.{◌≡◌, []};
 ghost use Rattle.section_store.specs.Sections.{form_of};
-ghost use Rattle.precomputing.specs.Flushed.{Flushed, ShowsTo};
+ghost use Rattle.tree_crew.specs.Flushed.{Flushed, ShowsTo};
 
 use crate::audience::Audience;
 use crate::parted::Parted;

@@ -23,8 +23,8 @@ pub(crate) struct Publisher<'a, R: Wait, P: Progress> {
 impl<'a, R: Wait, P: Progress> Notice for Publisher<'a, R, P> {
     ghost use Rattle.section_store.specs.Sections.{sources};
     ghost use Rattle.std.specs.Prelude.{◌≡◌, refl};
-    ghost use Rattle.precomputing.specs.Flushed.{ShowsTo};
-    ghost use Rattle.precomputing.specs.Showing.{shows_to_same, told_in_turn};
+    ghost use Rattle.tree_crew.specs.Flushed.{ShowsTo};
+    ghost use Rattle.tree_crew.specs.Showing.{shows_to_same, told_in_turn};
 
     ghost form = { λ p. p.writer.origin.form };
 

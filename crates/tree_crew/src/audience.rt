@@ -3,7 +3,7 @@
 ghost use Rattle.std.specs.Prelude.{◌≡◌, ◌↔◌, IsTrue};
 
 /// Who sees trees on the desk's board once they are stored. If nobody asks, none is shown, and so none is kept in memory.
-#[derive(Clone, Copy, Debug, PartialEq, Eq)]
+#[derive(Clone, Copy)]
 pub enum Audience {
     /// Those who look at the board.
     Readers,

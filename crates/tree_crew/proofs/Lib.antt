@@ -1,0 +1,4 @@
+pub mod Showing
+pub mod FlushFacts
+pub mod Sending
+pub mod DeskSending
