@@ -94,8 +94,8 @@ fn question_of<'a>(
     }
 }
 
-/// The question of the words, of which the option `start` has the place to leave from, and `goal` that to go to. Its days and times are read;
-/// `first` is the first covered day.
+/// The question of the words, of which the option `start` has the place to leave from, and `goal` that to go to. Its days and times are
+/// read; `first` is the first covered day.
 pub(crate) fn asked_of<'m, 'a>(
     found: &'m ArgMatches<'a>,
     start: &str,
