@@ -2,8 +2,9 @@
 
 use answer_lines::DayTime;
 use arrayvec::ArrayString;
-use jiff::Timestamp;
-use jiff::tz::Offset;
+use jiff::civil::DateTime;
+use jiff::{Timestamp, tz};
+use jiff_core::{Offset, Timestamp as PlainTimestamp};
 use std::fmt;
 use std::fmt::Write;
 
@@ -19,10 +20,17 @@ pub struct Time {
 /// A moment, and the zone's offset from UTC at that moment.
 #[derive(Clone, Copy)]
 pub struct Shown {
-    pub moment: Timestamp,
+    pub moment: PlainTimestamp,
     pub offset: Offset,
     /// Whether the offset is known. Else the moment is taken by local time, with no offset.
     pub is_placed: bool,
+}
+
+impl Shown {
+    // What the zone's clock shows.
+    fn local(&self) -> DateTime {
+        DateTime::from_plain(self.offset.to_datetime(self.moment))
+    }
 }
 
 impl Time {
@@ -30,11 +38,12 @@ impl Time {
     pub(crate) fn iso(&self) -> Option<ArrayString<38>> {
         let shown = self.shown?;
         if shown.is_placed {
-            return Some(shown.moment.display_with_offset(shown.offset));
+            let moment = Timestamp::from_plain(shown.moment);
+            return Some(moment.display_with_offset(tz::Offset::from_plain(shown.offset)));
         }
         let mut text = ArrayString::new();
         // It has 19 bytes, since the moment is one of whole seconds.
-        let _ = write!(text, "{}", shown.offset.to_datetime(shown.moment));
+        let _ = write!(text, "{}", shown.local());
         Some(text)
     }
 
@@ -54,7 +63,7 @@ impl fmt::Display for Time {
         let Some(shown) = self.shown else {
             return write!(f, "{}", self.told);
         };
-        let at = shown.offset.to_datetime(shown.moment);
+        let at = shown.local();
         let (year, month, day) = (at.year(), at.month(), at.day());
         let (hour, minute, second) = (at.hour(), at.minute(), at.second());
         write!(f, "{year:04}-{month:02}-{day:02} {hour:02}:{minute:02}")?;

@@ -5,6 +5,7 @@ use itinerary_texts::{Shown, Time};
 use jiff::tz::TimeZone;
 use jiff::{Error, SignedDuration, civil};
 use jiff_core::civil::Date;
+use jiff_tz::TimeZone as PlainZone;
 
 // The rule of a local time whose offset from UTC isn't known (the abbreviation `-00` of the tz database, "Theory and pragmatics").
 const UNPLACED: &str = "<-00>0";
@@ -12,7 +13,7 @@ const UNPLACED: &str = "<-00>0";
 /// The clock of a zone.
 #[derive(Clone, Copy)]
 pub struct Clock {
-    zone: TimeZone<'static>,
+    zone: PlainZone<'static>,
     // Whether it is known how far the zone is from UTC.
     is_placed: bool,
 }
@@ -22,7 +23,7 @@ impl Clock {
     /// known how far local time is from UTC.
     pub fn of(rule: &str) -> Clock {
         Clock {
-            zone: TimeZone::posix(rule).unwrap_or(TimeZone::UTC),
+            zone: TimeZone::posix(rule).unwrap_or(TimeZone::UTC).to_plain(),
             is_placed: rule != UNPLACED,
         }
     }
@@ -35,12 +36,13 @@ impl Clock {
 
     // Noon of the service day by the zone's clock, twelve hours back, and the seconds on (GTFS Schedule reference, "Field types", Time).
     fn shown(&self, day: Date, seconds: u32) -> Result<Shown, Error> {
+        let zone = TimeZone::from_plain(self.zone);
         let noon = civil::Date::from_plain(day).at(12, 0, 0, 0);
-        let noon = noon.to_zoned(self.zone)?.timestamp();
+        let noon = noon.to_zoned(zone)?.timestamp();
         let moment = noon.checked_add(SignedDuration::from_secs(i64::from(seconds) - 43_200))?;
         Ok(Shown {
-            moment,
-            offset: self.zone.to_offset(moment),
+            moment: moment.to_plain(),
+            offset: zone.to_offset(moment).to_plain(),
             is_placed: self.is_placed,
         })
     }
