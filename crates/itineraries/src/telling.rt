@@ -5,7 +5,7 @@ use crate::stages::{arrival_of, departure_of, ends_of, kind_of, trip_of};
 use crate::through::stops_between;
 use crate::wanted::names_for;
 use answer_lines::{Answer, DayTime, Point, Stage};
-use connection_lines::Connections;
+use connection_lines::{Connection, Connections};
 use feed_basis::Basis;
 use itinerary_texts::{Frequency, Itinerary, Journey, Leg, Place, Stay, Time, Trip, Window};
 use std::alloc::{AllocError, Global};
@@ -141,6 +141,32 @@ impl Teller<'_> {
         }
     }
 
+    // Puts in journeys.
+    fn put_points(
+        &self,
+        alloc: Global,
+        journeys: &mut Vec<Journey>,
+        points: &[Point],
+    ) -> Result<(), AllocError> {
+        for point in points {
+            journeys.push(self.journey(alloc, point)?)?;
+        }
+        Ok(())
+    }
+
+    // Puts in the journeys of connections.
+    fn put_connections(
+        &self,
+        alloc: Global,
+        journeys: &mut Vec<Journey>,
+        connections: &[Connection],
+    ) -> Result<(), AllocError> {
+        for connection in connections {
+            journeys.push(self.journey(alloc, &connection.journey)?)?;
+        }
+        Ok(())
+    }
+
     // Puts in the journeys of what was found.
     fn put_journeys(
         &self,
@@ -149,20 +175,16 @@ impl Teller<'_> {
         found: &Found<'_>,
     ) -> Result<(), AllocError> {
         match found {
-            Found::Answer(Answer::NoRide) => {}
-            Found::Answer(Answer::Arrive(at)) => journeys.push(self.arrival(*at))?,
-            Found::Answer(Answer::Points(points)) => {
-                for point in points {
-                    journeys.push(self.journey(alloc, point)?)?;
-                }
+            Found::Answer(Answer::NoRide) => Ok(()),
+            Found::Answer(Answer::Arrive(at)) => {
+                journeys.push(self.arrival(*at))?;
+                Ok(())
             }
+            Found::Answer(Answer::Points(points)) => self.put_points(alloc, journeys, points),
             Found::Connections(connections) => {
-                for connection in &connections.list {
-                    journeys.push(self.journey(alloc, &connection.journey)?)?;
-                }
+                self.put_connections(alloc, journeys, &connections.list)
             }
         }
-        Ok(())
     }
 
     // The journeys of what was found.
@@ -186,6 +208,31 @@ impl Teller<'_> {
                 None => None,
             },
         }
+    }
+
+    // The window, if connections were found.
+    fn window_of(&self, until: Option<DayTime>, found: &Found<'_>) -> Option<Window> {
+        match found {
+            Found::Answer(_) => None,
+            Found::Connections(connections) => Some(self.window(until, connections)),
+        }
+    }
+
+    // What was found for what was asked.
+    fn itinerary<'q>(
+        &self,
+        alloc: Global,
+        asked: &Asked<'q>,
+        found: &Found<'_>,
+    ) -> Result<Itinerary<'q>, AllocError> {
+        Ok(Itinerary {
+            command: asked.command,
+            departure: self.time(asked.departs),
+            window: self.window_of(asked.until, found),
+            journeys: self.journeys(alloc, found)?,
+            from: self.names.place(alloc, asked.from)?,
+            to: self.names.place(alloc, asked.to)?,
+        })
     }
 }
 
@@ -218,18 +265,7 @@ pub fn itinerary_by<'a>(
         names,
         through: asked.through,
     };
-    let window = match found {
-        Found::Answer(_) => None,
-        Found::Connections(connections) => Some(teller.window(asked.until, connections)),
-    };
-    Ok(Itinerary {
-        command: asked.command,
-        departure: teller.time(asked.departs),
-        window,
-        journeys: teller.journeys(alloc, found)?,
-        from: names.place(alloc, asked.from)?,
-        to: names.place(alloc, asked.to)?,
-    })
+    teller.itinerary(alloc, asked, found)
 }
 
 /// Stops with the names that the sheets have. It fails only if memory runs out.

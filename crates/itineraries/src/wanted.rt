@@ -78,6 +78,19 @@ impl<'a> Wanted<'a> {
         }
         Ok(())
     }
+
+    // Puts in those of what was asked, and of what was found for it.
+    fn put_all(
+        &mut self,
+        alloc: Global,
+        basis: &'a Basis,
+        asked: &'a Asked<'_>,
+        found: &'a Found<'_>,
+    ) -> Result<(), AllocError> {
+        self.stops.push(asked.from)?;
+        self.stops.push(asked.to)?;
+        self.put_found(alloc, basis, asked.through, found)
+    }
 }
 
 /// The names that are wanted to tell what was found for what was asked. It fails only if memory runs out.
@@ -92,8 +105,6 @@ pub(crate) fn names_for<'a>(
         stops: Vec::new(alloc),
         trips: Vec::new(alloc),
     };
-    wanted.stops.push(asked.from)?;
-    wanted.stops.push(asked.to)?;
-    wanted.put_found(alloc, basis, asked.through, found)?;
+    wanted.put_all(alloc, basis, asked, found)?;
     Names::of(alloc, sheets, &wanted.stops, &wanted.trips)
 }
