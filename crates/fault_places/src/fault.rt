@@ -1,11 +1,12 @@
 //! Faults for machines.
 
 use crate::meant::{Meant, meant_by};
-use crate::parts::{Part, parts_of};
+use crate::parts::parts_of;
 use command_line::{Given, GivenPlaces};
 use faults::{Fault, file_name};
 use feed_names::open_names;
 use feed_texts::{FaultText, GivenText, NamedStop, fault_text_json};
+use file_places::{Part, text_of};
 use gtfs_text::Sheet;
 use pattern_query::Refusal;
 use question_lines::Question;
@@ -13,36 +14,16 @@ use std::alloc::{AllocError, Global};
 use std::format;
 use stop_search::StopRow;
 
-// A text up to its first space.
-fn first_word(text: &str) -> &str {
-    match text.split_once(' ') {
-        Some((word, _)) => word,
-        None => text,
-    }
-}
-
-// The code in a fault's text, if it has one, and the name, which comes next. Of a migration, the word for one of its files stands before.
-fn words_of(shown: &str) -> (Option<&str>, &str) {
-    let shown = match shown.split_once(' ') {
-        Some(("old" | "new", rest)) => rest,
-        _ => shown,
-    };
-    match shown.split_once(' ') {
-        Some((code, rest)) => (Some(code), first_word(rest)),
-        None => (None, shown),
-    }
-}
-
-/// The name of the feed's file that is at fault.
-pub(crate) fn file_of(fault: &Fault<'_>) -> Option<&'static str> {
+// The name of the feed's file that is at fault.
+fn file_of(fault: &Fault<'_>) -> Option<&'static str> {
     match fault {
         Fault::Feed(fault) => Some(file_name(fault.file)),
         _ => None,
     }
 }
 
-/// The row of the feed's file that is at fault.
-pub(crate) fn row_of(fault: &Fault<'_>) -> Option<usize> {
+// The row of the feed's file that is at fault.
+fn row_of(fault: &Fault<'_>) -> Option<usize> {
     match fault {
         Fault::Feed(fault) => Some(fault.row),
         _ => None,
@@ -74,23 +55,6 @@ fn end_meant(places: &Option<GivenPlaces<'_>>, fault: &Fault<'_>) -> Option<&'st
         (Some(places), Fault::Question(Refusal::UnknownStop(id))) => end_of(places, id),
         (Some(_), Fault::Question(Refusal::NotStored(_))) => Some("from"),
         _ => None,
-    }
-}
-
-/// What a fault says by itself, if it is shown so.
-pub(crate) fn text_of<'a>(shown: &'a str, status: u8) -> FaultText<'a> {
-    let (code, name) = words_of(shown);
-    FaultText {
-        code,
-        name,
-        file: None,
-        row: None,
-        id: None,
-        status,
-        end: None,
-        given: &[],
-        near: None,
-        stops: None,
     }
 }
 

@@ -1,18 +1,18 @@
 //! Lines that are added to those of a fault.
 
 use crate::meant::{Meant, meant_by};
-use crate::parts::{PartsLine, parts_of};
+use crate::parts::parts_of;
 use command_line::Given;
 use faults::Fault;
 use feed_names::open_names;
-use gtfs_tables::FaultKind;
+use file_places::{PartsLine, folder_hint};
+use gtfs_tables::{FaultKind, FeedFault};
 use gtfs_text::Sheet;
 use pattern_query::Refusal;
 use service_days::DayFault;
 use shown_ids::Shown;
 use std::alloc::{AllocError, Global};
-use std::io::ErrorKind;
-use std::{fmt, format, fs};
+use std::{fmt, format};
 use stop_search::StopRow;
 
 /// How many stops of a station are printed.
@@ -46,26 +46,6 @@ fn zone_hint(alloc: Global, zone: &str) -> Result<String, AllocError> {
     )
 }
 
-/// The line of a folder that isn't there, or is a file.
-pub(crate) fn folder_hint(
-    rt: &HostRuntime,
-    alloc: Global,
-    folder: &str,
-) -> Result<String, AllocError> {
-    match fs::metadata(rt, folder) {
-        Ok(found) if found.is_dir() => Ok(String::new(alloc)),
-        Ok(_) => format!(in alloc;
-            "\"{}\" is a file: unzip a zipped feed, and name the folder.\n",
-            Shown(folder)
-        ),
-        Err(error) => match error.kind() {
-            ErrorKind::NotFound => format!(in alloc; "There is no folder \"{}\".\n", Shown(folder)),
-            ErrorKind::OutOfMemory => Err(AllocError),
-            _ => Ok(String::new(alloc)),
-        },
-    }
-}
-
 // Stops as lines that begin with a word, and how many more there are.
 #[derive(Clone, Copy)]
 struct StopLines<'a> {
@@ -74,11 +54,21 @@ struct StopLines<'a> {
     more: usize,
 }
 
+// Writes a line for each stop.
+fn write_stops<W: fmt::Write>(
+    f: &mut fmt::Formatter<W>,
+    word: &str,
+    stops: &[StopRow<'_>],
+) -> fmt::Result {
+    for stop in stops {
+        writeln!(f, "{word}: {stop}")?;
+    }
+    Ok(())
+}
+
 impl fmt::Display for StopLines<'_> {
     fn fmt<W: fmt::Write>(&self, f: &mut fmt::Formatter<W>) -> fmt::Result {
-        for stop in self.stops {
-            writeln!(f, "{}: {stop}", self.word)?;
-        }
+        write_stops(f, self.word, self.stops)?;
         if self.more == 0 {
             return Ok(());
         }
@@ -138,6 +128,33 @@ fn place_hint(
     id_lines(alloc, &sheet, id)
 }
 
+// What is said of a fault of the feed: if a file isn't there, perhaps the folder isn't.
+fn feed_note(
+    rt: &HostRuntime,
+    alloc: Global,
+    folder: &str,
+    fault: &FeedFault,
+) -> Result<String, AllocError> {
+    match fault.kind {
+        FaultKind::MissingFile | FaultKind::ReadFailed => folder_hint(rt, alloc, folder),
+        _ => Ok(String::new(alloc)),
+    }
+}
+
+// What is said of a fault of the feed in a folder, or of a question, beside what stands at its place.
+fn folder_note(
+    rt: &HostRuntime,
+    alloc: Global,
+    folder: &str,
+    fault: &Fault<'_>,
+) -> Result<String, AllocError> {
+    match fault {
+        Fault::Feed(fault) => feed_note(rt, alloc, folder, fault),
+        Fault::Question(Refusal::UnknownStop(id)) => place_hint(rt, alloc, folder, id),
+        _ => Ok(String::new(alloc)),
+    }
+}
+
 // What is said of a fault beside what stands at its place.
 fn note(
     rt: &HostRuntime,
@@ -145,15 +162,9 @@ fn note(
     given: &Given<'_>,
     fault: &Fault<'_>,
 ) -> Result<String, AllocError> {
-    match (fault, given.feed, given.zone) {
-        (Fault::Days(DayFault::BadZone), _, Some(zone)) => zone_hint(alloc, zone),
-        (Fault::Feed(fault), Some(folder), _) => match fault.kind {
-            FaultKind::MissingFile | FaultKind::ReadFailed => folder_hint(rt, alloc, folder),
-            _ => Ok(String::new(alloc)),
-        },
-        (Fault::Question(Refusal::UnknownStop(id)), Some(folder), _) => {
-            place_hint(rt, alloc, folder, id)
-        }
+    match (fault, given.zone, given.feed) {
+        (Fault::Days(DayFault::BadZone), Some(zone), _) => zone_hint(alloc, zone),
+        (_, _, Some(folder)) => folder_note(rt, alloc, folder, fault),
         _ => Ok(String::new(alloc)),
     }
 }

@@ -2,31 +2,47 @@
 
 ghost use Rattle.printing.specs.Tellings.{any_text};
 
-use crate::found::{feed_text, found_text, listed_by_ids};
-use crate::reached::reach_text;
 use crate::replies::{Lookup, MEMORY_REFUSED, reply_text};
-use crate::texts::{asked_by, line, stops_text, told_text};
-use crate::timed::times_text;
 use answer_lines::{Answer, Reach, Report, TimedStops};
 use command_line::{Format, Given, Plan, StopSearch};
 use connection_lines::Connections;
-use fault_places::{FaultParts, fault_json, hint, hint_at, list_json, parts_of_all};
+use fault_places::{fault_json, hint};
 use faults::Fault;
 use feed_basis::Basis;
 use feed_names::open_names;
 use feed_report::FeedReport;
 use feed_texts::{BuildCount, ListedStop, StopList};
 use file_faults::FaultList;
+use file_places::{FaultParts, hint_at, list_json, parts_of_all};
 use gtfs_tables::{FaultKind, FeedFault, FeedFile};
 use itineraries::{Found, itinerary_of};
 use options::Settings;
 use printing::{Asked, Teller};
 use question_lines::Question;
 use reply_lines::Reply;
+use sheet_texts::{
+    asked_by, feed_text, found_text, line, listed_by_ids, reach_text, stops_text, times_text,
+    told_text,
+};
 use std::alloc::{AllocError, Global};
 use std::slice;
 use told_names::{NameSheets, Names};
 use zone_clock::Clock;
+
+// The text of what was found, with the names that the sheets have.
+fn itinerary_text(
+    alloc: Global,
+    format: Format,
+    sheets: &NameSheets,
+    asked: &Asked<'_, '_>,
+    basis: &Basis,
+    found: &Found<'_>,
+) -> Result<String, AllocError> {
+    let clock = Clock::of(asked.settings.zone);
+    let asked = asked_by(asked.command, &asked.question, format);
+    let itinerary = itinerary_of(alloc, basis, clock, sheets, &asked, found)?;
+    told_text(alloc, format, itinerary)
+}
 
 /// Tells answers with names from the files of a feed's folder, which are read for each answer, and once for all replies to lines.
 #[derive(Clone, Copy)]
@@ -65,10 +81,7 @@ impl<'r> FolderTeller<'r> {
         found: Found<'_>,
     ) -> Result<String, AllocError> {
         let sheets = self.sheets(alloc, asked.settings.feed)?;
-        let clock = Clock::of(asked.settings.zone);
-        let asked = asked_by(asked.command, &asked.question, format);
-        let itinerary = itinerary_of(alloc, basis, clock, &sheets, &asked, &found)?;
-        told_text(alloc, format, itinerary)
+        itinerary_text(alloc, format, &sheets, asked, basis, &found)
     }
 
     // The stops of these ids, with the names that the folder has.

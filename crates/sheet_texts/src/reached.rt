@@ -56,8 +56,32 @@ fn text_of(alloc: Global, format: Format, told: &ReachText<'_>) -> Result<String
     }
 }
 
+// The text by these names.
+fn text_by(
+    alloc: Global,
+    format: Format,
+    command: &str,
+    clock: Clock,
+    names: &Names,
+    reach: &Reach<'_>,
+) -> Result<String, AllocError> {
+    let told = ReachText {
+        command,
+        from: names.place(alloc, reach.from)?,
+        departure: clock.time(reach.departs),
+        stops: all_of(alloc, clock, names, &reach.stops)?,
+    };
+    text_of(alloc, format, &told)
+}
+
+// The names of the stop that one leaves and of those that one reaches.
+fn names_of(alloc: Global, sheets: &NameSheets, reach: &Reach<'_>) -> Result<Names, AllocError> {
+    let ids = ids_of(alloc, reach)?;
+    Names::of(alloc, sheets, &ids, &[])
+}
+
 /// The stops that one reaches in a format, with what the sheets have of them.
-pub(crate) fn reach_text(
+pub fn reach_text(
     alloc: Global,
     format: Format,
     command: &str,
@@ -65,13 +89,6 @@ pub(crate) fn reach_text(
     sheets: &NameSheets,
     reach: &Reach<'_>,
 ) -> Result<String, AllocError> {
-    let ids = ids_of(alloc, reach)?;
-    let names = Names::of(alloc, sheets, &ids, &[])?;
-    let told = ReachText {
-        command,
-        from: names.place(alloc, reach.from)?,
-        departure: clock.time(reach.departs),
-        stops: all_of(alloc, clock, &names, &reach.stops)?,
-    };
-    text_of(alloc, format, &told)
+    let names = names_of(alloc, sheets, reach)?;
+    text_by(alloc, format, command, clock, &names, reach)
 }

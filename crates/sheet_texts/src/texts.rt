@@ -18,7 +18,7 @@ fn until_of(within: Option<Within>) -> Option<DayTime> {
 }
 
 /// What was asked by a command, for an answer in a format.
-pub(crate) fn asked_by<'a>(command: &'a str, question: &Question<'a>, format: Format) -> Asked<'a> {
+pub fn asked_by<'a>(command: &'a str, question: &Question<'a>, format: Format) -> Asked<'a> {
     Asked {
         command,
         from: question.from,
@@ -33,7 +33,7 @@ pub(crate) fn asked_by<'a>(command: &'a str, question: &Question<'a>, format: Fo
 }
 
 /// A text with a line's end behind it.
-pub(crate) fn line(text: String) -> Result<String, AllocError> {
+pub fn line(text: String) -> Result<String, AllocError> {
     let mut text = text;
     text.push('\n')?;
     Ok(text)
@@ -53,7 +53,7 @@ fn itinerary_text(
 }
 
 /// The text of an itinerary in a format. The itinerary is let go.
-pub(crate) fn told_text(
+pub fn told_text(
     alloc: Global,
     format: Format,
     itinerary: Itinerary<'_>,
@@ -62,7 +62,7 @@ pub(crate) fn told_text(
 }
 
 /// A list of stops in a format: for people as JSON too, and as CSV, which no command asks for.
-pub(crate) fn stops_text(
+pub fn stops_text(
     alloc: Global,
     format: Format,
     list: &StopList<'_>,

@@ -18,6 +18,16 @@ fn ids_of<'r>(alloc: Global, times: &TimedStops<'r>) -> Result<Vec<&'r str>, All
     Ok(ids)
 }
 
+// A stop with its names.
+fn timed_of(alloc: Global, names: &Names, timed: &TimedStop<'_>) -> Result<TimedText, AllocError> {
+    Ok(TimedText {
+        place: names.place(alloc, timed.stop)?,
+        least: timed.least,
+        median: timed.median,
+        greatest: timed.greatest,
+    })
+}
+
 // The stops with their names.
 fn all_of(
     alloc: Global,
@@ -26,12 +36,7 @@ fn all_of(
 ) -> Result<Vec<TimedText>, AllocError> {
     let mut all = Vec::with_capacity(alloc, stops.len())?;
     for timed in stops {
-        all.push(TimedText {
-            place: names.place(alloc, timed.stop)?,
-            least: timed.least,
-            median: timed.median,
-            greatest: timed.greatest,
-        })?;
+        all.push(timed_of(alloc, names, timed)?)?;
     }
     Ok(all)
 }
@@ -45,8 +50,37 @@ fn text_of(alloc: Global, format: Format, told: &TimesText<'_>) -> Result<String
     }
 }
 
+// The text by these names.
+fn text_by(
+    alloc: Global,
+    format: Format,
+    command: &str,
+    clock: Clock,
+    names: &Names,
+    times: &TimedStops<'_>,
+) -> Result<String, AllocError> {
+    let told = TimesText {
+        command,
+        from: names.place(alloc, times.from)?,
+        first: clock.time(times.first),
+        last: clock.time(times.last),
+        stops: all_of(alloc, names, &times.stops)?,
+    };
+    text_of(alloc, format, &told)
+}
+
+// The names of the stop that one leaves and of those that one goes to.
+fn names_of(
+    alloc: Global,
+    sheets: &NameSheets,
+    times: &TimedStops<'_>,
+) -> Result<Names, AllocError> {
+    let ids = ids_of(alloc, times)?;
+    Names::of(alloc, sheets, &ids, &[])
+}
+
 /// The travel times to stops in a format, with what the sheets have of these.
-pub(crate) fn times_text(
+pub fn times_text(
     alloc: Global,
     format: Format,
     command: &str,
@@ -54,14 +88,6 @@ pub(crate) fn times_text(
     sheets: &NameSheets,
     times: &TimedStops<'_>,
 ) -> Result<String, AllocError> {
-    let ids = ids_of(alloc, times)?;
-    let names = Names::of(alloc, sheets, &ids, &[])?;
-    let told = TimesText {
-        command,
-        from: names.place(alloc, times.from)?,
-        first: clock.time(times.first),
-        last: clock.time(times.last),
-        stops: all_of(alloc, &names, &times.stops)?,
-    };
-    text_of(alloc, format, &told)
+    let names = names_of(alloc, sheets, times)?;
+    text_by(alloc, format, command, clock, &names, times)
 }

@@ -29,7 +29,7 @@ fn listed_stop(place: Place) -> ListedStop {
 }
 
 /// The stops of these ids, with what the sheets have of them. It fails only if memory runs out.
-pub(crate) fn listed_by_ids(
+pub fn listed_by_ids(
     alloc: Global,
     sheets: &NameSheets,
     ids: &[&str],
@@ -113,7 +113,7 @@ fn found_in(
 }
 
 /// The stops that are searched for, as they are printed: none if there is no sheet of stops. It fails only if memory runs out.
-pub(crate) fn found_text(
+pub fn found_text(
     alloc: Global,
     sheets: &NameSheets,
     search: &StopSearch<'_>,
@@ -156,7 +156,7 @@ fn json_of(
 }
 
 /// What a feed has, as JSON. It fails only if memory runs out.
-pub(crate) fn feed_text(alloc: Global, report: &FeedReport) -> Result<String, AllocError> {
+pub fn feed_text(alloc: Global, report: &FeedReport) -> Result<String, AllocError> {
     match unread_of(alloc, report)? {
         Some(names) => json_of(alloc, report, Some(names.as_slice())),
         None => json_of(alloc, report, None),

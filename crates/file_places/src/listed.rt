@@ -1,10 +1,10 @@
 //! What a feed's files have where each of its faults is.
 
-use crate::fault::{file_of, row_of, text_of};
-use crate::hints::folder_hint;
+use crate::folder::folder_hint;
 use crate::parts::{Part, PartsLine, add_fields, add_missing, opened};
-use faults::Fault;
-use faulty_fields::fields_of_all;
+use crate::shown::text_of;
+use faults::{Fault, file_name};
+use faulty_fields::{Field, fields_of_all};
 use feed_texts::{FaultListWriter, FaultText, GivenText};
 use file_faults::FaultList;
 use gtfs_tables::{FaultKind, FeedFault};
@@ -19,6 +19,13 @@ pub struct FaultParts {
     note: String,
 }
 
+// The parts that a fault of a row is about.
+fn parts_of_fields(alloc: Global, fields: Vec<Field>) -> Result<Vec<Part>, AllocError> {
+    let mut parts = Vec::new(alloc);
+    add_fields(alloc, fields, &mut parts)?;
+    Ok(parts)
+}
+
 // Adds the parts of faults of one file, each of a row.
 fn add_rows(
     alloc: Global,
@@ -27,9 +34,7 @@ fn add_rows(
     all: &mut Vec<Vec<Part>>,
 ) -> Result<(), AllocError> {
     for fields in fields_of_all(alloc, file, faults)? {
-        let mut parts = Vec::new(alloc);
-        add_fields(alloc, fields, &mut parts)?;
-        all.push(parts)?;
+        all.push(parts_of_fields(alloc, fields)?)?;
     }
     Ok(())
 }
@@ -125,6 +130,35 @@ pub fn hint_at(alloc: Global, places: &FaultParts, at: usize) -> Result<String, 
     }
 }
 
+// Writes a fault that is shown so, with what is given at its place.
+fn write_shown(
+    out: &mut FaultListWriter,
+    fault: &FeedFault,
+    status: u8,
+    given: &[GivenText<'_>],
+    shown: &str,
+) {
+    out.fault(&FaultText {
+        file: Some(file_name(fault.file)),
+        row: Some(fault.row),
+        given,
+        ..text_of(shown, status)
+    });
+}
+
+// Writes a fault, with what is given at its place.
+fn write_given(
+    alloc: Global,
+    out: &mut FaultListWriter,
+    fault: &FeedFault,
+    given: &[GivenText<'_>],
+) -> Result<(), AllocError> {
+    let told = Fault::Feed(*fault);
+    let shown = format!(in alloc; "{told}")?;
+    write_shown(out, fault, told.status(), given, shown.as_str());
+    Ok(())
+}
+
 // Writes a fault, with what stands at its place.
 fn write_fault(
     alloc: Global,
@@ -132,16 +166,36 @@ fn write_fault(
     fault: &FeedFault,
     parts: &[Part],
 ) -> Result<(), AllocError> {
-    let fault = Fault::Feed(*fault);
-    let shown = format!(in alloc; "{fault}")?;
     let given: Vec<GivenText<'_>> = parts.iter().map(Part::given).collect(alloc)?;
-    out.fault(&FaultText {
-        file: file_of(&fault),
-        row: row_of(&fault),
-        given: given.as_slice(),
-        ..text_of(shown.as_str(), fault.status())
-    });
+    write_given(alloc, out, fault, given.as_slice())
+}
+
+// Writes faults, each with what stands at its place.
+fn write_faults(
+    alloc: Global,
+    out: &mut FaultListWriter,
+    faults: &[FeedFault],
+    places: &[Vec<Part>],
+) -> Result<(), AllocError> {
+    for (at, fault) in faults.iter().enumerate() {
+        let parts = match places.get(at) {
+            Some(parts) => parts.as_slice(),
+            None => &[],
+        };
+        write_fault(alloc, out, fault, parts)?;
+    }
     Ok(())
+}
+
+// The object of the faults at these places.
+fn places_json(
+    alloc: Global,
+    list: &FaultList,
+    places: &[Vec<Part>],
+) -> Result<String, AllocError> {
+    let mut out = FaultListWriter::new(alloc, "check");
+    write_faults(alloc, &mut out, &list.faults, places)?;
+    out.into_text(list.more)
 }
 
 /// The faults of a feed as an object of JSON, each with what stands at its place, on one line, without a line's end. It fails only if
@@ -153,13 +207,5 @@ pub fn list_json(
     list: &FaultList,
 ) -> Result<String, AllocError> {
     let places = parts_of_all(rt, alloc, folder, &list.faults)?;
-    let mut out = FaultListWriter::new(alloc, "check");
-    for (at, fault) in list.faults.iter().enumerate() {
-        let parts = match places.parts.get(at) {
-            Some(parts) => parts.as_slice(),
-            None => &[],
-        };
-        write_fault(alloc, &mut out, fault, parts)?;
-    }
-    out.into_text(list.more)
+    places_json(alloc, list, &places.parts)
 }
