@@ -65,7 +65,7 @@ IsLastMoment Of a = Of a × ((b : ℕ) → Of b → b ≤ a)
 abbrev pub IsBack : Option ℕ → ℕ → ℕ → Type 0
 IsBack seconds moment a = (w : ℕ) × (seconds ≡ Some w) × (a + w ≡ moment)
 
--- what a search of the path alone finds, where nothing was found before
+-- what a search of this path only finds, if nothing was found before
 pub record IsFound (table : Table) (s t d : ℕ) (path : List Step) (found : Option PointData) : Type 0 where
   pub empty : List (Option PointData)
   pub slots : List (Option PointData)

@@ -76,7 +76,7 @@ impl Search<'_> {
             && walk_of(self.network, point) <= walk_along(self.network, self.source, path, self.to)
     }
 
-    // The earliest journey along the path alone, if there is one.
+    // The earliest journey along this path only, if there is one.
     fn alone(&self, path: &[(StopId, StopId)]) -> Option<Point>
         requires early { self.now.depart ≤ LATEST_MOMENT }
         requires short { length path.now ≤ 8 }

@@ -1,4 +1,4 @@
-//! Builds the trees that a store lacks, in many threads, while readers ask, and tells what came of it.
+//! Builds the trees that a store lacks, in many threads, while readers ask, and reports what came of it.
 #![tactic(auto)]
 
 mod meanwhile;
