@@ -11,7 +11,7 @@ use Rattle.pattern_query.specs.Answer.{PointData, numbers, IsJourney}
 use Rattle.pattern_query.specs.Leaving.{IsLatest, LeavesLast}
 use Rattle.pattern_query.specs.Questions.{AreComplete, Held, IsAskedPoint, ReachesBetween}
 use Rattle.answering.specs.Answers.{IsLastAsked, IsLastBetween, IsPointBetween, IsReached, IsRideBetween, TellsReached}
-use Rattle.told_journeys.specs.Points.{TellsLeaving, TellsNumbers}
+use Rattle.feed_basis.specs.Points.{TellsLeaving, TellsNumbers}
 use Rattle.answer_lines.specs.declared.answer.Point.{Point}
 use Rattle.feed_basis.specs.Basis.{BasisData}
 

@@ -17,7 +17,7 @@ use Rattle.feed_basis.specs.Basis.{BasisData}
 use Rattle.question_lines.specs.declared.question.Question.{Question}
 use Rattle.answer_lines.specs.declared.stage.Stage.{Stage}
 use Rattle.answer_lines.specs.Moments.{TellsMoment}
-use Rattle.told_journeys.specs.Stages.{TellsStage, stages_of}
+use Rattle.feed_basis.specs.Stages.{TellsStage, stages_of}
 
 -- the leg is a ride from one of the first stops to one of the others that departs at d or later
 abbrev pub IsRideBetween : BasisData → List ℕ → List ℕ → ℕ → Leg → Type 0

@@ -12,14 +12,13 @@ ghost use Rattle.answering.specs.Refusals.{IsCovered, IsMissing, IsUnanswered, N
 use answer_lines::Answer;
 use direct_connections::Network;
 use faults::Fault;
-use feed_basis::Basis;
+use feed_basis::{Basis, points_of, told};
 use pattern_query::{Refusal, Trees, ask_on};
 use question_lines::Question;
 use rounds::Rides;
 use scanned_journeys::scan_journeys;
 use std::alloc::{AllocError, Global};
 use timetable::{LATEST_MOMENT, StopId};
-use told_journeys::{points_of, told};
 
 /// The moment, if it is one and it is covered.
 pub fn covered_moment(basis: &Basis, moment: Option<u32>) -> Option<u32>

@@ -1,2 +1,4 @@
 pub mod BasisFacts
 pub mod FaultFacts
+pub mod LoopFacts
+pub mod StageFacts

@@ -1,3 +1,5 @@
 pub mod Basis
 pub mod BasisFaults
 pub mod Ids
+pub mod Points
+pub mod Stages

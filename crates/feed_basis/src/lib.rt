@@ -1,8 +1,12 @@
 //! What the program's questions are asked of: a feed's timetable on the covered days, and the ids of its stops and trips; or the fault
-//! of the feed or its days.
+//! of the feed or its days. And journeys as they are told over it: their numbers, and their rides and walks with ids and times.
 #![tactic(auto)]
 
 mod basis;
+mod numbered;
+mod points;
+mod stages;
 
 pub use basis::{Basis, basis_of};
+pub use points::{points_of, tell, told};
 pub use service_span::{Idle, Span};

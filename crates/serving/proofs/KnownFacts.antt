@@ -8,8 +8,8 @@ use Rattle.timetable.specs.Table.{Table}
 use Rattle.pattern_query.specs.Answer.{PointData}
 use Rattle.pattern_query.specs.Questions.{Held, IsAnswer, IsAskedPoint}
 use Rattle.feed_basis.specs.Basis.{BasisData, IsSound}
-use Rattle.told_journeys.specs.Points.{IsKnownJourney}
-use Rattle.told_journeys.proofs.StageFacts.{journey_known, leaves_early}
+use Rattle.feed_basis.specs.Points.{IsKnownJourney}
+use Rattle.feed_basis.proofs.StageFacts.{journey_known, leaves_early}
 use Rattle.planner.specs.PlannerView.{PlannerView}
 use Rattle.serving.specs.Answers.{IsOver}
 

@@ -18,7 +18,7 @@ use Rattle.answer_lines.specs.declared.answer.Answer.{Answer}
 use Rattle.answer_lines.specs.declared.answer.Answer.TheVariants as answers
 use Rattle.connection_lines.specs.declared.connections.Connections.{Connections}
 use Rattle.feed_basis.specs.Basis.{BasisData}
-use Rattle.told_journeys.specs.Points.{TellsLeaving}
+use Rattle.feed_basis.specs.Points.{TellsLeaving}
 use Rattle.question_lines.specs.Questions.{IsQuestion, NotQuestion}
 use Rattle.question_lines.specs.declared.question.Question.{Question}
 use Rattle.question_lines.specs.declared.question.Within.{Within}

@@ -5,18 +5,17 @@ ghost use Rattle.std.specs.List.{All};
 ghost use Rattle.question_lines.specs.Questions.{IsQuestion};
 ghost use Rattle.serving.specs.Answers.{IsOver, IsReply, IsTold};
 ghost use Rattle.serving.specs.Tellings.{IsAsking};
-ghost use Rattle.told_journeys.specs.Points.{IsKnownJourney};
+ghost use Rattle.feed_basis.specs.Points.{IsKnownJourney};
 
 use crate::windows::reply_within;
 use answer_lines::Answer;
 use board::Reader;
-use feed_basis::Basis;
+use feed_basis::{Basis, told};
 use planner::Planner;
 use question_lines::Question;
 use reply_lines::{Refusal, Reply};
 use std::alloc::Global;
 use timetable::LATEST_MOMENT;
-use told_journeys::told;
 
 // The journeys as they are told; if memory is refused, that is replied.
 fn answer_of(

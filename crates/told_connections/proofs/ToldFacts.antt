@@ -8,8 +8,8 @@ use Rattle.pattern_query.specs.Questions.{Held, IsAskedPoint}
 use Rattle.feed_ids.specs.Names.{stops_at}
 use Rattle.connections.specs.declared.connection.Connection.{Connection}
 use Rattle.feed_basis.specs.Basis.{BasisData, IsSound}
-use Rattle.told_journeys.specs.Points.{IsKnownJourney}
-use Rattle.told_journeys.proofs.StageFacts.{journey_known}
+use Rattle.feed_basis.specs.Points.{IsKnownJourney}
+use Rattle.feed_basis.proofs.StageFacts.{journey_known}
 
 module _ (basis : BasisData) (sound : IsSound basis) (s t : ℕ) (from : s < stops_of basis.timetable) (to : t < stops_of basis.timetable) where
   pub one_known : (c : Connection) → IsJourney basis.timetable s t c.departure c.journey → IsKnownJourney basis c.departure c.journey

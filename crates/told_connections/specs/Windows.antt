@@ -23,7 +23,7 @@ use Rattle.question_lines.specs.declared.question.Question.{Question}
 use Rattle.service_days.specs.Cover.{CoverDays}
 use Rattle.told_connections.specs.Next.{AreChosen}
 use Rattle.told_connections.specs.declared.times.Times.{Times}
-use Rattle.told_journeys.specs.Points.{Tells}
+use Rattle.feed_basis.specs.Points.{Tells}
 
 -- a line tells the connection by the last moment to leave for it and by its journey, which begins then
 pub record TellsConnection (basis : BasisData) (wanted : Bool) (c : Connection) (line : Line) : Type 0 where

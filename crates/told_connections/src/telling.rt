@@ -4,14 +4,13 @@ ghost use Rattle.std.specs.Prelude.{◌≡◌, ◌≤◌, IfOk};
 ghost use Rattle.std.specs.List.{All, AllZip};
 ghost use Rattle.timetable.specs.Journeys.{foot};
 ghost use Rattle.told_connections.specs.Windows.{TellsConnection, TellsNext};
-ghost use Rattle.told_journeys.specs.Points.{IsKnownJourney};
+ghost use Rattle.feed_basis.specs.Points.{IsKnownJourney};
 
 use answer_lines::DayTime;
 use connection_lines::Connection;
-use feed_basis::Basis;
+use feed_basis::{Basis, tell};
 use std::alloc::{AllocError, Global};
 use timetable::{LATEST_MOMENT, StopId, Timetable};
-use told_journeys::tell;
 
 // A connection as it is told, with its rides and walks if they are wanted.
 fn tell_connection(

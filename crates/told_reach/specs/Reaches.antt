@@ -16,7 +16,7 @@ use Rattle.pattern_query.specs.declared.refusal.Refusal.{Refusal}
 use Rattle.pattern_query.specs.declared.refusal.Refusal.TheVariants as refusals
 use Rattle.reaching.specs.Reached.{AreReached}
 use Rattle.reaching.specs.declared.reached.Reached.{Reached}
-use Rattle.told_journeys.specs.Stages.{stop_id}
+use Rattle.feed_basis.specs.Stages.{stop_id}
 
 -- the last moment within m minutes of d, if any are given
 abbrev pub last_of : ℕ → Option ℕ → Option ℕ

@@ -11,7 +11,7 @@ use Rattle.feed_basis.specs.Basis.{BasisData}
 use Rattle.feed_basis.specs.Ids.{stop_alone}
 use Rattle.reaching.specs.TravelTimes.{AreTravelTimes}
 use Rattle.reaching.specs.declared.travel_time.TravelTimes.{TravelTimes}
-use Rattle.told_journeys.specs.Stages.{stop_id}
+use Rattle.feed_basis.specs.Stages.{stop_id}
 use Rattle.told_reach.specs.Reaches.{IsUnreached}
 
 -- a stop is told by its id, with the least, the median and the greatest number of seconds

@@ -7,8 +7,8 @@ use Rattle.pattern_query.specs.Answer.{PointData, numbers}
 use Rattle.pattern_query.specs.Questions.{IsAskedPoint}
 use Rattle.pattern_tree.specs.Content.{Content}
 use Rattle.answering.specs.Answers.{IsLastAsked}
-use Rattle.told_journeys.specs.Points.{IsKnownJourney, TellsLeaving}
-use Rattle.told_journeys.proofs.StageFacts.{journey_known, leaves_early}
+use Rattle.feed_basis.specs.Points.{IsKnownJourney, TellsLeaving}
+use Rattle.feed_basis.proofs.StageFacts.{journey_known, leaves_early}
 use Rattle.answering.proofs.AnswerFacts.{are_reached, one_of_all, shown_journeys}
 use Rattle.answering.proofs.asking.ask.Goals as goal
 

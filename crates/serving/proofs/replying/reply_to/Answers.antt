@@ -3,7 +3,7 @@ use Rattle.timetable.specs.declared.parts.TheConstants.{LATEST_MOMENT}
 use Rattle.pattern_query.specs.Answer.{PointData}
 use Rattle.planner.specs.Asking.{AreBestBetween, IsAnswered, IsUnanswered, held_by}
 use Rattle.planner.specs.declared.fault.AskFault.{AskFault}
-use Rattle.told_journeys.specs.Points.{IsKnownJourney}
+use Rattle.feed_basis.specs.Points.{IsKnownJourney}
 use Rattle.serving.specs.Answers.{IsAsked, IsReply, IsTold}
 use Rattle.serving.proofs.KnownFacts.{early, known}
 use Rattle.serving.proofs.ReplyFacts.{told_reply}

@@ -14,7 +14,7 @@ use Rattle.told_connections.specs.Windows.{TellsConnection, between}
 use Rattle.told_connections.proofs.LikeFacts.{chosen_like, scanned_all, walked_early, walked_journeys, walked_least, walked_like}
 use Rattle.told_connections.proofs.NextFacts.{chosen_all, chosen_are, departs_early}
 use Rattle.told_connections.proofs.ToldFacts.{known_all}
-use Rattle.told_journeys.specs.Points.{IsKnownJourney}
+use Rattle.feed_basis.specs.Points.{IsKnownJourney}
 use Rattle.told_connections.proofs.asking.found_within.Goals as goal
 
 pub walked-requires-clause-made : goal.walked-requires-clause-made

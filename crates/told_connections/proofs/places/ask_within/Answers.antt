@@ -10,7 +10,7 @@ use Rattle.told_connections.specs.Next.{AreChosen}
 use Rattle.told_connections.specs.Windows.{IsWalk, TellsConnection, between}
 use Rattle.told_connections.proofs.NextFacts.{chosen_all, chosen_are, departs_early}
 use Rattle.told_connections.proofs.ToldFacts.{asked_known, known_stops, moved}
-use Rattle.told_journeys.specs.Points.{IsKnownJourney}
+use Rattle.feed_basis.specs.Points.{IsKnownJourney}
 use Rattle.told_connections.proofs.places.ask_within.Goals as goal
 
 pub tell_connections-requires-clause-known : goal.tell_connections-requires-clause-known

@@ -1,7 +1,7 @@
 use Rattle.std.proofs.Common.{subst}
 use Rattle.connections.specs.declared.connection.Connection.{Connection}
 use Rattle.told_connections.specs.Windows.{TellsConnection}
-use Rattle.told_journeys.proofs.LoopFacts.{zip_more}
+use Rattle.feed_basis.proofs.LoopFacts.{zip_more}
 use Rattle.told_connections.proofs.telling.tell_connections.Goals as goal
 
 pub loop-connection-preserved : goal.loop-connection-preserved

@@ -2,7 +2,7 @@ use Rattle.std.proofs.Common.{◌≡◌, ◌∙◌, ◌++◌, ◌∷◌, List, [
 use Rattle.std.specs.List.{AllZip}
 use Rattle.answer_lines.specs.declared.reach.ReachedStop.{ReachedStop}
 use Rattle.reaching.specs.declared.reached.Reached.{Reached}
-use Rattle.told_journeys.proofs.LoopFacts.{zip_more}
+use Rattle.feed_basis.proofs.LoopFacts.{zip_more}
 use Rattle.told_reach.specs.Reaches.{TellsStop}
 use Rattle.told_reach.proofs.telling.tell_stops.Goals as goal
 

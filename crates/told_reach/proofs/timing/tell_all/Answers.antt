@@ -2,7 +2,7 @@ use Rattle.std.proofs.Common.{◌≡◌, ◌∙◌, ◌++◌, ◌∷◌, List, [
 use Rattle.std.specs.List.{AllZip}
 use Rattle.answer_lines.specs.declared.timed.TimedStop.{TimedStop}
 use Rattle.reaching.specs.declared.travel_time.TravelTimes.{TravelTimes}
-use Rattle.told_journeys.proofs.LoopFacts.{zip_more}
+use Rattle.feed_basis.proofs.LoopFacts.{zip_more}
 use Rattle.told_reach.specs.Times.{TellsTimes}
 use Rattle.told_reach.proofs.timing.tell_all.Goals as goal
 

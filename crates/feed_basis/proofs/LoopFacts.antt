@@ -6,9 +6,9 @@ use Rattle.std.proofs.lemmas.Slice.Zip.{all_zipped_more}
 use Rattle.timetable.specs.declared.parts.Leg.{Leg}
 use Rattle.timetable.specs.Table.{Table}
 use Rattle.timetable.specs.Journeys.{from, to, arrives}
-use Rattle.told_journeys.specs.Stages.{stages_of, walk_stage}
-use Rattle.told_journeys.specs.declared.numbered.NumberedStage.{NumberedStage}
-use Rattle.told_journeys.specs.declared.numbered.NumberedStage.TheVariants as numbered
+use Rattle.feed_basis.specs.Stages.{stages_of, walk_stage}
+use Rattle.feed_basis.specs.declared.numbered.NumberedStage.{NumberedStage}
+use Rattle.feed_basis.specs.declared.numbered.NumberedStage.TheVariants as numbered
 
 -- one item more
 pub zip_more : {A B : Type 0} (R : A → B → Type 0) (xs : List A) (ys : List B) (i : ℕ) (d : A) (y : B) → i < length xs

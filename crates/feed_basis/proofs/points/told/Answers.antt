@@ -1,8 +1,8 @@
 use Rattle.std.proofs.Common.{subst}
 use Rattle.pattern_query.specs.Answer.{PointData}
-use Rattle.told_journeys.specs.Points.{Tells, TellsLeaving}
-use Rattle.told_journeys.proofs.LoopFacts.{zip_more}
-use Rattle.told_journeys.proofs.points.told.Goals as goal
+use Rattle.feed_basis.specs.Points.{Tells, TellsLeaving}
+use Rattle.feed_basis.proofs.LoopFacts.{zip_more}
+use Rattle.feed_basis.proofs.points.told.Goals as goal
 
 pub loop-journey-preserved : goal.loop-journey-preserved
 loop-journey-preserved c =

@@ -1,7 +1,7 @@
 use Rattle.std.proofs.Common.{refl, rules}
-use Rattle.told_journeys.specs.Points.{TellsNumbers}
-use Rattle.told_journeys.proofs.LoopFacts.{zip_more}
-use Rattle.told_journeys.proofs.points.points_of.Goals as goal
+use Rattle.feed_basis.specs.Points.{TellsNumbers}
+use Rattle.feed_basis.proofs.LoopFacts.{zip_more}
+use Rattle.feed_basis.proofs.points.points_of.Goals as goal
 
 pub loop-numbers-preserved : goal.loop-numbers-preserved
 loop-numbers-preserved c =

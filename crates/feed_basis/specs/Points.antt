@@ -7,9 +7,9 @@ use Rattle.pattern_query.specs.Answer.{PointData}
 use Rattle.answer_lines.specs.Moments.{TellsMoment}
 use Rattle.answer_lines.specs.declared.answer.Point.{Point}
 use Rattle.feed_basis.specs.Basis.{BasisData}
-use Rattle.told_journeys.specs.declared.numbered.NumberedStage.{NumberedStage}
-use Rattle.told_journeys.specs.declared.numbered.NumberedStage.TheVariants as numbered
-use Rattle.told_journeys.specs.Stages.{TellsStage, stages_of, trip_of}
+use Rattle.feed_basis.specs.declared.numbered.NumberedStage.{NumberedStage}
+use Rattle.feed_basis.specs.declared.numbered.NumberedStage.TheVariants as numbered
+use Rattle.feed_basis.specs.Stages.{TellsStage, stages_of, trip_of}
 
 -- the timetable has the instance, and the names have the trip and the stops
 abbrev pub IsKnownStage : BasisData → NumberedStage → Type 0

@@ -1,7 +1,7 @@
 use Rattle.std.proofs.Common.{subst}
-use Rattle.told_journeys.specs.Stages.{TellsStage}
-use Rattle.told_journeys.proofs.LoopFacts.{zip_more}
-use Rattle.told_journeys.proofs.stages.stages_of.Goals as goal
+use Rattle.feed_basis.specs.Stages.{TellsStage}
+use Rattle.feed_basis.proofs.LoopFacts.{zip_more}
+use Rattle.feed_basis.proofs.stages.stages_of.Goals as goal
 
 pub loop-stage-preserved : goal.loop-stage-preserved
 loop-stage-preserved c =

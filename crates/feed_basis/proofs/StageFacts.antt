@@ -10,9 +10,9 @@ use Rattle.timetable.specs.Journeys.{call_at, Ride, from, to, departs, arrives, 
 use Rattle.timetable.proofs.Legs.{calls_are, call_is, there, ride_within}
 use Rattle.timetable.proofs.Rows.{walk_short}
 use Rattle.feed_basis.specs.Basis.{BasisData, IsSound}
-use Rattle.told_journeys.specs.Points.{IsKnownStage}
-use Rattle.told_journeys.specs.Stages.{stages_of, walk_stage, trip_of}
-use Rattle.told_journeys.specs.declared.numbered.NumberedStage.TheVariants as numbered
+use Rattle.feed_basis.specs.Points.{IsKnownStage}
+use Rattle.feed_basis.specs.Stages.{stages_of, walk_stage, trip_of}
+use Rattle.feed_basis.specs.declared.numbered.NumberedStage.TheVariants as numbered
 
 -- no leg arrives later than the latest call
 pub arrives_by : (table : Table) (leg : Leg) → IsTable table → arrives table leg ≤ 3_455_998

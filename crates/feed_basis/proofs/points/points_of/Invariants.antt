@@ -1,7 +1,7 @@
 use Rattle.std.proofs.Common.{take}
 use Rattle.std.specs.List.{AllZip}
-use Rattle.told_journeys.specs.Points.{TellsNumbers}
-use Rattle.told_journeys.proofs.points.points_of.Given as goal
+use Rattle.feed_basis.specs.Points.{TellsNumbers}
+use Rattle.feed_basis.proofs.points.points_of.Given as goal
 
 -- each of the numbers so far is shown
 abbrev pub invariant-loop-numbers : goal.invariant-loop-numbers

@@ -8,8 +8,8 @@ use Rattle.timetable.specs.Journeys.{from, to, departs, arrives}
 use Rattle.feed_ids.specs.NameLists.{NameLists}
 use Rattle.feed_basis.specs.Basis.{BasisData}
 use Rattle.answer_lines.specs.Moments.{TellsMoment}
-use Rattle.told_journeys.specs.declared.numbered.NumberedStage.{NumberedStage}
-use Rattle.told_journeys.specs.declared.numbered.NumberedStage.TheVariants as numbered
+use Rattle.feed_basis.specs.declared.numbered.NumberedStage.{NumberedStage}
+use Rattle.feed_basis.specs.declared.numbered.NumberedStage.TheVariants as numbered
 use Rattle.answer_lines.specs.declared.stage.Stage.{Stage}
 use Rattle.answer_lines.specs.declared.stage.Stage.TheVariants as stages
 

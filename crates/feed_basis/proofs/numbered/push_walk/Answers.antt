@@ -1,6 +1,6 @@
 use Rattle.std.proofs.Common.{arith, ap, unwrap_or}
-use Rattle.told_journeys.proofs.StageFacts.{walk_by}
-use Rattle.told_journeys.proofs.numbered.push_walk.Goals as goal
+use Rattle.feed_basis.proofs.StageFacts.{walk_by}
+use Rattle.feed_basis.proofs.numbered.push_walk.Goals as goal
 
 pub overflow_add-at : goal.overflow_add-at
 overflow_add-at c =

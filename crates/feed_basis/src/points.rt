@@ -2,12 +2,12 @@
 
 ghost use Rattle.std.specs.Prelude.{◌≤◌, IfOk};
 ghost use Rattle.std.specs.List.{All, AllZip};
-ghost use Rattle.told_journeys.specs.Points.{IsKnownJourney, TellsLeaving, TellsNumbers, Tells};
+ghost use Rattle.feed_basis.specs.Points.{IsKnownJourney, TellsLeaving, TellsNumbers, Tells};
 
+use crate::basis::Basis;
 use crate::numbered::numbered_stages;
 use crate::stages::stages_of;
 use answer_lines::Point;
-use feed_basis::Basis;
 use std::alloc::{AllocError, Global};
 use timetable::{LATEST_MOMENT, Numbers};
 

@@ -1,7 +1,7 @@
 use Rattle.std.proofs.Common.{take}
 use Rattle.std.specs.List.{AllZip}
-use Rattle.told_journeys.specs.Stages.{TellsStage}
-use Rattle.told_journeys.proofs.stages.stages_of.Given as goal
+use Rattle.feed_basis.specs.Stages.{TellsStage}
+use Rattle.feed_basis.proofs.stages.stages_of.Given as goal
 
 -- each of the stages so far is told
 abbrev pub invariant-loop-stage : goal.invariant-loop-stage

@@ -1,6 +1,6 @@
 use Rattle.std.proofs.Common.{◌≡◌, ◌≤◌, ◌++◌, drop}
-use Rattle.told_journeys.specs.Stages.{stages_of}
-use Rattle.told_journeys.proofs.numbered.numbered_stages.Given as goal
+use Rattle.feed_basis.specs.Stages.{stages_of}
+use Rattle.feed_basis.proofs.numbered.numbered_stages.Given as goal
 use Rattle.timetable.specs.declared.parts.TheConstants.{LATEST_MOMENT}
 
 -- the stages so far, and those of the legs that are left, are all of them

@@ -2,12 +2,12 @@
 
 ghost use Rattle.std.specs.Prelude.{IfOk};
 ghost use Rattle.std.specs.List.{All, AllZip};
-ghost use Rattle.told_journeys.specs.Points.{IsKnownStage};
-ghost use Rattle.told_journeys.specs.Stages.{TellsStage};
+ghost use Rattle.feed_basis.specs.Points.{IsKnownStage};
+ghost use Rattle.feed_basis.specs.Stages.{TellsStage};
 
+use crate::basis::Basis;
 use crate::numbered::NumberedStage;
 use answer_lines::Stage;
-use feed_basis::Basis;
 use gtfs_tables::Id;
 use std::alloc::{AllocError, Global};
 

@@ -2,10 +2,10 @@ use Rattle.std.proofs.Common.{◌≡◌, ◌≤◌, ◌+◌, ◌++◌, drop, get
 use Rattle.std.proofs.lemmas.List.{drop_more}
 use Rattle.timetable.specs.declared.parts.Leg.{Leg}
 use Rattle.timetable.specs.Journeys.{arrives}
-use Rattle.told_journeys.specs.Stages.{stages_of, walk_stage}
-use Rattle.told_journeys.proofs.LoopFacts.{stages_more}
-use Rattle.told_journeys.proofs.StageFacts.{arrives_by}
-use Rattle.told_journeys.proofs.numbered.numbered_stages.Goals as goal
+use Rattle.feed_basis.specs.Stages.{stages_of, walk_stage}
+use Rattle.feed_basis.proofs.LoopFacts.{stages_more}
+use Rattle.feed_basis.proofs.StageFacts.{arrives_by}
+use Rattle.feed_basis.proofs.numbered.numbered_stages.Goals as goal
 
 pub loop-leg-preserved : goal.loop-leg-preserved
 loop-leg-preserved c =

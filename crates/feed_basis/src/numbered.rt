@@ -2,7 +2,7 @@
 
 ghost use Rattle.std.specs.Prelude.{◌≡◌, ◌≤◌, ◌++◌, IfOk, OnOk};
 ghost use Rattle.timetable.specs.Table.{IsTable};
-ghost use Rattle.told_journeys.specs.Stages.{stages_of, walk_stage};
+ghost use Rattle.feed_basis.specs.Stages.{stages_of, walk_stage};
 
 use std::alloc::{AllocError, Global};
 use timetable::{LATEST_MOMENT, Leg, StopId, Timetable};

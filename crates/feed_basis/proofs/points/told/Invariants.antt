@@ -1,7 +1,7 @@
 use Rattle.std.proofs.Common.{take}
 use Rattle.std.specs.List.{AllZip}
-use Rattle.told_journeys.specs.Points.{TellsLeaving}
-use Rattle.told_journeys.proofs.points.told.Given as goal
+use Rattle.feed_basis.specs.Points.{TellsLeaving}
+use Rattle.feed_basis.proofs.points.told.Given as goal
 
 -- each of the journeys so far is told
 abbrev pub invariant-loop-journey : goal.invariant-loop-journey

@@ -1,2 +1,0 @@
-pub mod LoopFacts
-pub mod StageFacts
