@@ -1,6 +1,7 @@
 pub mod CommaFacts
 pub mod LinePlaces
 pub mod RowFacts
+pub mod TextLines
 pub mod TrimFacts
 pub mod LineFacts
 pub mod MarkFacts

@@ -1,23 +1,17 @@
 -- The records of lines where they stand in a file.
 use Rattle.std.proofs.Common.{◌≡◌, inl, inr, ℕ, zero, suc, ◌+◌, ◌-◌, ◌<◌, ◌≤◌, true, false, List, [], ◌∷◌, ◌++◌, length, take, drop, refl, arith, sym, ◌∙◌, ap, append_assoc, length-append, cond, nat_eq, nat_le, IsUtf8}
-use Rattle.std.specs.Prelude.{Result, Ok, Err, MatchResult, is_err}
 use Rattle.std.specs.List.{list_all}
 use Rattle.std.proofs.Math.Seq.{take-append_seam, drop-append_seam}
 use Rattle.std.proofs.lemmas.List.{drop-take, map-append}
 use Rattle.std.proofs.lemmas.Bool.{leb-true, le-leb}
 use Rattle.std.proofs.lemmas.List.Folds.{list_all-append}
-use Rattle.csv.specs.Reading.{records, default_config}
+use Rattle.csv.specs.Reading.{records, default_config, strip_bom}
 use Rattle.gtfs_text.specs.Lines.{AreLines, EndsWith, IsFrontLine, between_commas, is_plain, line_at, records_in, rows_at, without_line_feed}
 use Rattle.gtfs_text.specs.Sheets.{is_text}
 use Rattle.gtfs_text.specs.declared.lines.Place.{Place}
 use Rattle.gtfs_text.proofs.CommaFacts.{between_is_text}
 use Rattle.gtfs_text.proofs.TestFacts.{both}
 use Rattle.gtfs_text.proofs.LineFacts.{feed_gone, front_records, rest_is_no_mark, rest_shorter}
-
--- what was found to be UTF-8 is a text
-pub text_if_read : {T E : Type 0} (r : Result T E) (bytes : List ℕ) (P : T → Type 0) (Q : E → Type 0) → MatchResult r (λ s. P s × IsUtf8 bytes) Q → is_err r ≡ false → IsUtf8 bytes
-text_if_read (Ok s) bytes P Q cases good = cases.1
-text_if_read (Err e) bytes P Q cases good = cc good
 
 one_record : (line : List ℕ) → 0 < length line → records_in line ≡ between_commas line ∷ []
 one_record [] some = absurd (omega (arith, some))
@@ -103,6 +97,11 @@ line_before file here line after place ends front start size =
     let whole = ap length ends.whole ∙ length-append ends.front here in
     let parts = ap length tail.1 ∙ length-append line (tail.0 ++ after) in
     omega (arith, whole, parts, length-append tail.0 after, start, size)
+
+-- at first there is no line
+pub no_lines : (text file : List ℕ) → strip_bom text ≡ text → EndsWith file text → AreLines text file [] text
+no_lines text file no_mark end =
+    record { whole = refl; utf8 = refl; no_mark = no_mark; end = end; before = refl; few = omega (arith, ap length end.whole, length-append end.front text) }
 
 -- one more line with a record
 pub line_more : (text file rest line after : List ℕ) (places : List Place) (place : Place) → AreLines text file places rest → 0 < length rest

@@ -1,6 +1,6 @@
 //! The lines of a file that have no quotes. Most files have no others, and these need no reader of CSV.
 
-ghost use Rattle.std.specs.Prelude.{◌≡◌, ◌≤◌, true, [], length, take, IfOk, IfSome};
+ghost use Rattle.std.specs.Prelude.{◌≡◌, ◌≤◌, ◌↔◌, true, [], length, take, IfOk, IfSome, IsTrue, IsUtf8};
 ghost use Rattle.std.specs.List.{list_all};
 ghost use Rattle.csv.specs.Reading.{strip_bom};
 ghost use Rattle.gtfs_text.specs.Lines.{AreLines, EndsWith, IsFrontLine, is_plain, without_line_feed};
@@ -61,6 +61,14 @@ fn place_for(start: usize, size: usize) -> Option<Place>
     }
 }
 
+// Whether a line is UTF-8. The line isn't looked through if it is from a text that is.
+fn is_text_line(line: &[u8], is_text: bool) -> bool
+    requires { IsTrue is_text → IsUtf8 line.now }
+    ensures { IsTrue result ↔ IsUtf8 line.now }
+{
+    is_text || str::from_utf8(line).is_ok()
+}
+
 /// Adds the places of the lines that have a record, from the front of a text, with which a file ends, up to the first line that needs a
 /// reader of CSV. Gives the text that is left, with the line feed before it.
 pub(crate) fn add_plain_lines<'a>(
@@ -73,6 +81,8 @@ pub(crate) fn add_plain_lines<'a>(
     requires empty { lines.old.items ≡ [] }
     ensures { IfOk result (λ rest. AreLines text.now file.now lines.new.items rest.now) }
 {
+    // Most texts are UTF-8 as a whole, and then no line is tested by itself.
+    let is_text = str::from_utf8(text).is_ok();
     let mut rest = text;
     'lines: while !rest.is_empty() {
         let here = without_line_feed(rest);
@@ -83,7 +93,7 @@ pub(crate) fn add_plain_lines<'a>(
             let Some(place) = place_for(file.len() - here.len(), line.len()) else {
                 return Ok(rest);
             };
-            if str::from_utf8(line).is_err() {
+            if !is_text_line(line, is_text) {
                 return Ok(rest);
             }
             lines.push(place)?;
