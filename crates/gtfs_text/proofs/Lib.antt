@@ -1,4 +1,5 @@
 pub mod CommaFacts
+pub mod CommaMarks
 pub mod LinePlaces
 pub mod RowFacts
 pub mod TextLines

@@ -1,3 +1,4 @@
+pub mod Commas
 pub mod Faults
 pub mod Laws
 pub mod Lines

@@ -4,9 +4,11 @@
 //! [`whole`], [`time`] and [`date`] read a field's text by its type (the reference's "Field types").
 #![tactic(auto)]
 
+mod comma_bits;
 mod commas;
 mod fault;
 pub mod laws;
+mod line_fields;
 mod lines;
 mod marks;
 mod packed;

@@ -1,13 +1,16 @@
 //! A row of a sheet, and its fields one by one.
 
-ghost use Rattle.std.specs.Prelude.{◌≡◌, ◌<◌, ◌≤◌, ◌+◌, ◌==◌, ◌≢◌, true, [], ◌∷◌, length, map, take, drop, get_or, MatchOption, IfOk, OnOk, IfSome, IsTrue};
+ghost use Rattle.std.specs.Prelude.{◌≡◌, ◌<◌, ◌≤◌, ◌+◌, ◌==◌, ◌≢◌, true, [], ◌∷◌, ◌++◌, length, map, take, drop, get_or, MatchOption, IfOk, OnOk, IfSome, IsTrue};
 ghost use Rattle.std.specs.List.{list_all, position_from, position_or_len};
 ghost use Rattle.std.specs.Str.{bytes_eq};
 ghost use Rattle.csv.specs.Records.{fields_of};
+ghost use Rattle.gtfs_text.specs.Commas.{fields_from};
 ghost use Rattle.gtfs_text.specs.Lines.{is_comma, line_at};
 ghost use Rattle.gtfs_text.specs.Rows.{fields_in, kept_table};
 ghost use Rattle.gtfs_text.specs.Sheets.{is_text};
 
+use crate::comma_bits::commas_from;
+use crate::line_fields::add_marked;
 use crate::lines::Place;
 use crate::packed::split_field;
 use crate::spaces::without_spaces;
@@ -25,11 +28,18 @@ pub(crate) enum Row<'a> {
     Packed(&'a [u8]),
 }
 
+// The text of a file from a place on.
+fn text_from(file: &[u8], start: u32) -> &[u8]
+    ensures { result.now ≡ drop start file.now }
+{
+    file.split_at(file.len().min(start as usize)).1
+}
+
 // The line at a place of a file.
 fn text_at(file: &[u8], place: Place) -> &[u8]
     ensures { result.now ≡ line_at file.now place }
 {
-    let text = file.split_at(file.len().min(place.start as usize)).1;
+    let text = text_from(file, place.start);
     text.split_at(text.len().min(place.size as usize)).0
 }
 
@@ -124,12 +134,12 @@ pub(crate) fn field_at(row: Row<'_>, column: usize) -> &[u8]
     b""
 }
 
-/// The fields of a row of text, in place of what `fields` held.
-pub(crate) fn put_fields<'a>(row: Row<'a>, fields: &mut Vec<&'a str>) -> Result<(), AllocError>
+// Adds the fields of a row of text to those that `fields` holds.
+fn add_fields<'a>(row: Row<'a>, fields: &mut Vec<&'a str>) -> Result<(), AllocError>
     requires { is_text (fields_in row) ≡ true }
-    ensures { OnOk result (map (λ field. field.now) fields.new.items ≡ fields_in row.entry) }
+    ensures { OnOk result (map (λ field. field.now) fields.new.items
+        ≡ map (λ field. field.now) fields.old.items ++ fields_in row.entry) }
 {
-    fields.clear();
     let mut rest = row;
     'fields: while let Some((field, after)) = split_first(rest) {
         // The row is text, and so is each field of it.
@@ -139,13 +149,58 @@ pub(crate) fn put_fields<'a>(row: Row<'a>, fields: &mut Vec<&'a str>) -> Result<
     Ok(())
 }
 
+// Adds the fields of a line of text to those that `fields` holds. The line is as much of a text as `size` says.
+fn add_line<'a>(text: &'a [u8], size: usize, fields: &mut Vec<&'a str>) -> Result<(), AllocError>
+    requires within { size ≤ length text.now }
+    requires text { is_text (fields_from (take size text.now) 0) ≡ true }
+    ensures { OnOk result (map (λ field. field.now) fields.new.items
+        ≡ map (λ field. field.now) fields.old.items ++ fields_from (take size text.now) 0) }
+{
+    let line = text.split_at(size).0;
+    let mut next = 0;
+    let mut at = 0;
+    'chunks: while at < size && text.len() - at >= 64 {
+        next = add_marked(line, next, at, commas_from(text, size, at), fields)?;
+        at += 64;
+    }
+    let rest = line.split_at(next).1;
+    if at < size {
+        return add_fields(Row::Line(rest), fields);
+    }
+    // No comma is left, so that the rest is the last field. It is text, as the line is.
+    fields.push(unsafe { str::from_utf8_unchecked(without_spaces(rest)) })?;
+    Ok(())
+}
+
+/// The fields of the row of a number, which is text, in place of what `fields` held. The row is one of the lines of a file, or of the
+/// packed records after them.
+pub(crate) fn put_fields<'a>(
+    file: &'a [u8],
+    lines: &[Place],
+    packed: &'a ByteRecord,
+    number: usize,
+    fields: &mut Vec<&'a str>,
+) -> Result<(), AllocError>
+    requires { is_text (get_or (kept_table file.now lines.now (fields_of packed.now)) number []) ≡ true }
+    ensures { OnOk result (map (λ field. field.now) fields.new.items
+        ≡ get_or (kept_table file.now lines.now (fields_of packed.now)) number []) }
+{
+    fields.clear();
+    if number < lines.len() {
+        let text = text_from(file, lines[number].start);
+        let size = text.len().min(lines[number].size as usize);
+        return add_line(text, size, fields);
+    }
+    add_fields(row_at(file, lines, packed, number), fields)
+}
+
 /// The number of fields of a row of text.
 pub(crate) fn field_count(alloc: Global, row: Row<'_>) -> Result<usize, AllocError>
     requires { is_text (fields_in row) ≡ true }
     ensures { IfOk result (λ count. count ≡ length (fields_in row.entry)) }
 {
     let mut fields = Vec::new(alloc);
-    put_fields(row, &mut fields)?;
+    add_fields(row, &mut fields)?;
     Ok(fields.len())
 }
 

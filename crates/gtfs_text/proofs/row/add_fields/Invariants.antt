@@ -1,11 +1,11 @@
 use Rattle.std.proofs.Common.{◌≡◌, true, ◌++◌, length, map}
 use Rattle.gtfs_text.specs.Rows.{fields_in}
 use Rattle.gtfs_text.specs.Sheets.{is_text}
-use Rattle.gtfs_text.proofs.row.put_fields.Given as goal
+use Rattle.gtfs_text.proofs.row.add_fields.Given as goal
 
 abbrev pub invariant-fields : goal.invariant-fields
 invariant-fields l = record {
-  whole : map (λ field. field.now) l.fields.items ++ fields_in l.rest ≡ fields_in l.row;
+  whole : map (λ field. field.now) l.fields.items ++ fields_in l.rest ≡ map (λ field. field.now) l.fn.fields.items ++ fields_in l.row;
   text : is_text (fields_in l.rest) ≡ true;
 }
 
