@@ -1,9 +1,9 @@
 -- Spaces at the front and at the end of a field.
 use Rattle.std.proofs.Common.{◌≡◌, ◌≢◌, ℕ, suc, ◌+◌, ◌-◌, ◌<◌, ◌≤◌, false, List, [], ◌∷◌, ◌++◌, length, take, drop, get_or, refl, arith, sym, ◌∙◌, ap, nat_eq, drop-cons, add-one}
 use Rattle.std.proofs.Math.Seq.{take-suc}
-use Rattle.std.proofs.lemmas.List.{drop_all}
+use Rattle.std.proofs.lemmas.List.{drop_all, take_all}
 use Rattle.gtfs_text.proofs.TestFacts.{and_false}
-use Rattle.gtfs_text.specs.Sheets.{without_front_spaces, without_end_spaces}
+use Rattle.gtfs_text.specs.Sheets.{without_front_spaces, without_end_spaces, without_spaces}
 
 front_cons : (c : ℕ) (xs : List ℕ) → c ≡ 32 → without_front_spaces (c ∷ xs) ≡ without_front_spaces xs
 unfolding without_front_spaces
@@ -74,3 +74,14 @@ end_at s i p h ne same =
 
 pub end_at_start : (s : List ℕ) (i : ℕ) → i ≤ 0 → without_end_spaces (take i s) ≡ without_end_spaces s → take i s ≡ without_end_spaces s
 end_at_start s i h same = let z : i ≡ 0 = omega arith in rw z (sym end_none ∙ rw z at same)
+
+-- a text that neither begins nor ends with a space keeps all of it
+pub bare : (s : List ℕ) → 0 < length s → get_or s 0 0 ≢ 32 → get_or s (length s - 1) 0 ≢ 32 → without_spaces s ≡ s
+bare s some first last =
+    let front : s ≡ without_front_spaces s = front_at s 0 some first refl in
+    let whole : take (length s) s ≡ s = take_all (length s) s (omega arith) in
+    let end : take (length s) s ≡ without_end_spaces s = end_at s (length s) some (omega arith) last (ap without_end_spaces whole) in
+    ap without_end_spaces (sym front) ∙ sym end ∙ whole
+
+pub bare_none : without_spaces [] ≡ []
+bare_none = ap without_end_spaces front_none ∙ end_none
