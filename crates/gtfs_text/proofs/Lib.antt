@@ -1,3 +1,4 @@
+pub mod ClockFacts
 pub mod CommaFacts
 pub mod CommaMarks
 pub mod LinePlaces

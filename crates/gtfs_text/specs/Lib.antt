@@ -1,3 +1,4 @@
+pub mod Clock
 pub mod Commas
 pub mod Faults
 pub mod Laws

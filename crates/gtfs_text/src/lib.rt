@@ -4,6 +4,7 @@
 //! [`whole`], [`time`] and [`date`] read a field's text by its type (the reference's "Field types").
 #![tactic(auto)]
 
+mod clock;
 mod comma_bits;
 mod commas;
 mod fault;

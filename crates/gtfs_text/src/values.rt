@@ -5,6 +5,7 @@ ghost use Rattle.std.specs.List.{list_all};
 ghost use Rattle.std.specs.Char.{is_ascii_digit};
 ghost use Rattle.gtfs_text.specs.Values.{date_of, day_of, ymd, decimal, is_digits, whole_of, time_of, is_time, is_sixtieth, seconds_of};
 
+use crate::clock::usual_time;
 use jiff_core::civil::Date;
 
 // The number that these digits spell.
@@ -89,15 +90,25 @@ fn seconds_of(hours_text: &[u8], minutes_text: &[u8], seconds_text: &[u8]) -> Op
     Some(3600 * hours + 60 * minutes + seconds)
 }
 
+// The seconds of any text that is a time.
+fn any_time(text: &[u8]) -> Option<u32>
+    ensures { result ≡ time_of text.now }
+{
+    let (hours, rest) = text.split_at(text.len().saturating_sub(6));
+    let (minutes, seconds) = rest.split_at(rest.len().min(3));
+    seconds_of(hours, minutes, seconds)
+}
+
 /// The seconds that a "Time" counts from noon minus 12 hours of its service day; None where the text is no time.
 /// A time is one to three digits of hours, at most 167, then `:MM:SS`.
 pub fn time(text: &str) -> Option<u32>
     ensures { result ≡ time_of text.now }
 {
     let bytes = text.as_bytes();
-    let (hours, rest) = bytes.split_at(bytes.len().saturating_sub(6));
-    let (minutes, seconds) = rest.split_at(rest.len().min(3));
-    seconds_of(hours, minutes, seconds)
+    match usual_time(bytes) {
+        Some(seconds) => Some(seconds),
+        None => any_time(bytes),
+    }
 }
 
 // The day of the calendar whose year, month and day these digits spell.
