@@ -1,7 +1,7 @@
-use Rattle.std.proofs.Common.{◌≡◌, ◌∙◌, sym, ap, refl, ℕ, true, false, Option}
+use Rattle.std.proofs.Common.{◌∙◌, sym, ap, refl, ℕ, true, false, Option}
 use Rattle.std.specs.Prelude.{is_some}
 use Rattle.gtfs_text.specs.Values.{whole_of}
-use Rattle.gtfs_rows.specs.Rows.{text_under, texts_in}
+use Rattle.gtfs_rows.specs.Rows.{text_under}
 use Rattle.gtfs_calls.specs.StopTimes.{trip_id, stop_id, stop_sequence}
 use Rattle.gtfs_calls.proofs.CallRowFacts.{known, numbered, whole-value, pair_is}
 use Rattle.gtfs_calls.proofs.stop_times.call_key.Goals as goal

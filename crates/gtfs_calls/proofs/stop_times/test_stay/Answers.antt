@@ -1,4 +1,4 @@
-use Rattle.std.proofs.Common.{◌≡◌, ◌∙◌, sym, ap, refl, true, false, List, ℕ, Bor}
+use Rattle.std.proofs.Common.{◌≡◌, ◌∙◌, sym, ap, true, false, List, ℕ, Bor}
 use Rattle.gtfs_rows.specs.Rows.{texts_in}
 use Rattle.gtfs_calls.specs.StopTimes.{arrival_time, departure_time, pickup_type, drop_off_type, is_time_or_empty, is_boarding_rule, stay_at, stay_stands}
 use Rattle.gtfs_calls.proofs.CallRowFacts.{some-of, none-of, stay-fails, stay-holds}
