@@ -9,7 +9,7 @@ returns-then-running_trips-gt0 c =
     let t = c.args.tables.now in
     let day = c.loop-day.day in
     let lt : day < length c.args.cover.now.starts = let e = c.days-day-end.ensures.count in let h = c.loop-day-test.true in omega (arith, e, h) in
-    let start = c.days-day-end.ensures.starts.each day c.loop-day-test.true in
+    let start = c.days-day-end.ensures.starts.1.each day c.loop-day-test.true in
     let counted = rw (c.deref.ensures.value, c.trips.ensures.value) at c.running_trips.ensures in
     let trips : c.running_trips.result ≡ trips_on t start.0 =
     counted ∙ trips_counted t start.0 c.in_ok-running.running.items (day + 1) c.trips.ensures.valid.services
