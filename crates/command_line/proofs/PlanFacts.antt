@@ -5,18 +5,19 @@ use Rattle.clap.specs.Words.{Row, Text}
 use Rattle.gtfs_text.specs.Values.{date_of, ymd}
 use Rattle.options.specs.Settings.{HasSettings}
 use Rattle.options.specs.declared.settings.Settings.{Settings}
-use Rattle.command_line.specs.Formats.{IsStyle}
+use Rattle.option_words.specs.Formats.{IsStyle}
 use Rattle.command_line.specs.Jobs.{IsCommand, question_of}
 use Rattle.command_line.specs.Misreads.{IsBadDate, IsMisread, IsWord}
-use Rattle.command_line.specs.Readings.{IsDateWord, IsFaultOf, IsPlanFault, IsUnreadOf}
-use Rattle.command_line.specs.declared.format.Style.{Style}
+use Rattle.option_words.specs.Questions.{IsFaultOf}
+use Rattle.command_line.specs.Readings.{IsDateWord, IsPlanFault, IsUnreadOf}
+use Rattle.option_words.specs.declared.format.Style.{Style}
 use Rattle.command_line.specs.declared.job.Command.{Command}
 use Rattle.command_line.specs.declared.job.Plan.{Plan}
 use Rattle.command_line.specs.declared.unread.Unread.{Unread}
 use Rattle.command_line.specs.declared.unread.Word.{Word}
-use Rattle.command_line.specs.declared.unread.WordFault.{WordFault}
-use Rattle.command_line.specs.declared.unread.WordFault.TheVariants as faults
-use Rattle.command_line.proofs.DayFacts.{some_day}
+use Rattle.option_words.specs.declared.word_fault.WordFault.{WordFault}
+use Rattle.option_words.specs.declared.word_fault.WordFault.TheVariants as faults
+use Rattle.option_words.proofs.DayFacts.{some_day}
 
 -- `first` is the first covered day, if the settings' text is one
 module _ (name : Text) (rows : List Row) (settings : Settings) (style : Style) (first : Option Date)

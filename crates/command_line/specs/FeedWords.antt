@@ -1,13 +1,11 @@
 -- The words of commands over a feed as a whole, which take no covered days.
 use Rattle.std.specs.Prelude.{◌≡◌, ◌↔◌, IsTrue, List, Option, None, Some, MatchOption, codes}
-use Rattle.std.specs.Option.{option_map}
 use Rattle.jiff_core.specs.declared.civil.date.Date.{Date}
 use Rattle.clap.specs.Words.{Row, first_of}
 use Rattle.options.specs.Values.{HasFlag, HasText}
-use Rattle.command_line.specs.Days.{IsDate}
-use Rattle.command_line.specs.Formats.{IsPlainStyle, IsStyle}
+use Rattle.option_words.specs.Days.{IsDate}
+use Rattle.option_words.specs.Formats.{IsPlainStyle}
 use Rattle.command_line.specs.declared.feed_check.FeedCheck.{FeedCheck}
-use Rattle.command_line.specs.declared.stop_search.StopSearch.{StopSearch}
 
 -- the words of a check, whatever date they say
 pub record HasCheckWords (rows : List Row) (check : FeedCheck) : Type 0 where
@@ -23,11 +21,3 @@ IsNamedDate rows date =
 -- the words ask for this check
 abbrev pub IsCheck : List Row → FeedCheck → Type 0
 IsCheck rows check = HasCheckWords rows check × IsNamedDate rows check.date
-
--- the words ask for these stops
-pub record HasSearchedStops (rows : List Row) (search : StopSearch) : Type 0 where
-  pub feed : HasText rows (codes "feed") search.feed.now
-  pub text : option_map (λ text. text.now) search.text ≡ first_of (codes "text") rows
-  pub all : IsTrue search.all ↔ HasFlag rows (codes "all")
-  pub header : IsTrue search.header ↔ HasFlag rows (codes "header")
-  pub style : IsStyle (codes "stops") rows search.style

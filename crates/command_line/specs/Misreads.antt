@@ -1,53 +1,26 @@
 -- Why words give no job, and which fault of theirs is reported: one of `clap`, or else that they name no job, or else the first covered
 -- day or the date of a check, or else the day to leave on, or else the day of the last time to leave at; or else the time to leave at, or
 -- else the last such time.
-use Rattle.std.specs.Prelude.{◌≡◌, ◌⊎◌, ℕ, [], List, Option, None, Some, codes}
+use Rattle.std.specs.Prelude.{◌≡◌, ◌⊎◌, [], List, Option, None, Some, codes}
 use Rattle.jiff_core.specs.declared.civil.date.Date.{Date}
 use Rattle.clap.specs.Words.{Kinds, Row, Text}
 use Rattle.gtfs_text.specs.Values.{date_of}
 use Rattle.options.specs.Statuses.{IsStatus}
-use Rattle.question_lines.specs.declared.question.Question.{Question}
-use Rattle.command_line.specs.Days.{HasNoDate, HasNoTime, HasTime, IsDate, IsNamedDay}
+use Rattle.option_words.specs.Days.{HasNoDate, IsDate}
 use Rattle.command_line.specs.FeedWords.{HasCheckWords}
-use Rattle.command_line.specs.Jobs.{IsDayOf, IsOutline, NamesNoJob, question_of}
+use Rattle.command_line.specs.Jobs.{IsOutline, NamesNoJob, question_of}
 use Rattle.command_line.specs.declared.feed_check.FeedCheck.{FeedCheck}
-use Rattle.command_line.specs.declared.format.Style.{Style}
+use Rattle.option_words.specs.declared.format.Style.{Style}
 use Rattle.command_line.specs.declared.job.Plan.{Plan}
 use Rattle.command_line.specs.declared.unread.Unread.{Unread}
 use Rattle.command_line.specs.declared.unread.Unread.TheVariants as unread
 use Rattle.command_line.specs.declared.unread.Word.{Word}
-
--- a question is asked
-abbrev pub IsAsked : Option Question → Type 0
-IsAsked asked = (question : Question) × (asked ≡ Some question)
+use Rattle.option_words.specs.Questions.{IsAsked, LacksDay, LacksLastDay, LacksTime, LacksUntil}
 
 -- the word is this option with this text
 pub record IsWord (word : Word) (option text : Text) : Type 0 where
   pub option_is : word.option.now ≡ option
   pub text_is : word.text.now ≡ text
-
--- the day to leave on is named, and is none
-abbrev pub LacksDay : List Row → Type 0
-LacksDay rows = HasNoDate rows (codes "on")
-
--- there is a day to leave on, and the day of the last time is none
-abbrev pub LacksLastDay : List Row → Date → Type 0
-LacksLastDay rows first = ((day : Date) × IsDayOf rows first day) × HasNoDate rows (codes "until-on")
-
--- there are both days
-pub record HasDays (rows : List Row) (first : Date) : Type 0 where
-  pub day : Date
-  pub last : Date
-  pub is_day : IsDayOf rows first day
-  pub is_last : IsNamedDay rows (codes "until-on") day last
-
--- there are both days, and the time to leave at is none
-abbrev pub LacksTime : List Row → Date → Type 0
-LacksTime rows first = HasDays rows first × HasNoTime rows (codes "at")
-
--- there are both days and that time, and the last time to leave at is none
-abbrev pub LacksUntil : List Row → Date → Type 0
-LacksUntil rows first = (HasDays rows first × ((seconds : ℕ) × HasTime rows (codes "at") seconds)) × HasNoTime rows (codes "until")
 
 -- the date of a check is named, and is none
 abbrev pub NamesNoDate : List Row → Type 0

@@ -5,11 +5,11 @@ ghost use Rattle.clap.specs.Words.{rows_of, found_of};
 ghost use Rattle.command_line.specs.FeedWords.{IsCheck};
 ghost use Rattle.command_line.specs.FeedReadings.{IsCheckFault};
 
-use crate::format::{Style, plain_style_of};
 use crate::unread::{Unread, Word};
 use clap::ArgMatches;
 use gtfs_text::date;
 use jiff_core::civil::Date;
+use option_words::{Style, plain_style_of};
 use options::{flag_of, text_of};
 
 /// A check of a feed as a whole.

@@ -3,9 +3,9 @@
 ghost use Rattle.clap.specs.Words.{rows_of, found_of};
 ghost use Rattle.command_line.specs.Readings.{IsDateWord, IsUnreadOf, IsWordOf};
 
-use crate::format::Style;
 use clap::ArgMatches;
 use jiff_core::civil::Date;
+use option_words::{Style, WordFault};
 use options::text_of;
 
 /// An option and the text that the words have for it.
@@ -25,19 +25,6 @@ pub enum Unread<'a> {
     BadDate(Style, Word<'a>),
     /// A time is none: a fault to report in this style, with the word that has it.
     BadTime(Style, Word<'a>),
-}
-
-/// Why the words of a command give none.
-#[derive(Clone, Copy)]
-pub(crate) enum WordFault {
-    /// No command has the name, or a word isn't there.
-    NoJob,
-    BadDate,
-    // The day of the last time to leave at is none.
-    BadLastDay,
-    BadTime,
-    // The last time to leave at is none.
-    BadUntil,
 }
 
 // An option with its text: an empty one if there is none.

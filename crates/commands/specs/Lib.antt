@@ -1,13 +1,5 @@
-pub mod World
-pub mod Checks
 pub mod Feeds
-pub mod Files
 pub mod Idle
-pub mod Matrices
-pub mod Merged
-pub mod Rules
-pub mod Found
-pub mod Stored
 pub mod Served
 pub mod Runs
 pub mod Programs

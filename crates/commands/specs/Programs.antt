@@ -7,7 +7,7 @@ use Rattle.command_line.specs.Jobs.{IsJob}
 use Rattle.command_line.specs.Misreads.{IsUnread}
 use Rattle.command_line.specs.declared.job.Job.{Job}
 use Rattle.command_line.specs.declared.job.Job.TheVariants as jobs
-use Rattle.command_line.specs.declared.format.Style.{Style}
+use Rattle.option_words.specs.declared.format.Style.{Style}
 use Rattle.command_line.specs.declared.unread.Unread.{Unread}
 use Rattle.command_line.specs.declared.unread.Unread.TheVariants as unread
 use Rattle.command_line.specs.declared.unread.Word.{Word}
@@ -19,9 +19,9 @@ use Rattle.faults.specs.declared.fault.Fault.{Fault}
 use Rattle.faults.specs.declared.fault.Fault.TheVariants.{BadDate, BadTime, Memory}
 use Rattle.command_line.specs.Given.{folder_given, word_given}
 use Rattle.printing.specs.Tellings.{Telling}
-use Rattle.commands.specs.Checks.{AreStops, IsFolderChecked}
+use Rattle.feed_commands.specs.Checks.{AreStops, IsFolderChecked}
 use Rattle.commands.specs.Runs.{IsPlanRun, voice_of}
-use Rattle.commands.specs.World.{SystemView}
+use Rattle.program_system.specs.World.{SystemView}
 use denote.Ref.{Bor}
 
 -- in that style, of the word that is at fault

@@ -1,7 +1,7 @@
 -- What a run of a plan leaves.
 use Rattle.std.specs.Prelude.{◌≡◌, ◌⊎◌, ℕ, false, List, Option, None, Result, option_map}
 use Rattle.gtfs_tables.specs.Feed.{Feed}
-use Rattle.command_line.specs.declared.format.Style.{Style}
+use Rattle.option_words.specs.declared.format.Style.{Style}
 use Rattle.command_line.specs.declared.job.Command.{Command}
 use Rattle.command_line.specs.declared.job.Command.TheVariants as commands
 use Rattle.command_line.specs.declared.job.Plan.{Plan}
@@ -17,14 +17,14 @@ use Rattle.streams.specs.Streams.{StreamData}
 use Rattle.command_line.specs.Given.{given_by}
 use Rattle.printing.specs.Tellings.{tells_legs, tells_reply}
 use Rattle.commands.specs.Feeds.{IsGround}
-use Rattle.commands.specs.Found.{IsFoundPrinted}
+use Rattle.feed_commands.specs.Found.{IsFoundPrinted}
 use Rattle.commands.specs.Idle.{IsIdleSaid}
-use Rattle.commands.specs.Matrices.{IsMatrixRun}
-use Rattle.commands.specs.Rules.{IsReachFound, IsScanned, IsStopAnswer}
+use Rattle.feed_commands.specs.Matrices.{IsMatrixRun}
+use Rattle.feed_commands.specs.Finds.{IsReachFound, IsScanned, IsStopAnswer}
 use Rattle.commands.specs.Served.{IsNoLookup, IsServedBy, dialogue_of}
-use Rattle.commands.specs.Stored.{IsOverStore}
-use Rattle.commands.specs.World.{SystemView}
-use Rattle.commands.specs.declared.found.Found.{Found}
+use Rattle.store_commands.specs.Stored.{IsOverStore}
+use Rattle.program_system.specs.World.{SystemView}
+use Rattle.feed_commands.specs.declared.found.Found.{Found}
 
 abbrev pub voice_of : Plan → Voice
 voice_of plan = record { style = plan.style; given = given_by plan }

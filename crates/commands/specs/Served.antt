@@ -3,8 +3,8 @@ use Rattle.std.specs.Prelude.{◌≡◌, ◌↔◌, ◌⊎◌, ℕ, Bool, true, 
 use Rattle.std.specs.Io.KnownBytes.{Keeps}
 use Rattle.answer_lines.specs.Reports.{built_status as of_built, count_line}
 use Rattle.answer_lines.specs.declared.report.Built.{Built}
-use Rattle.command_line.specs.declared.format.Style.{Style}
-use Rattle.command_line.specs.declared.format.Style.TheVariants as styles
+use Rattle.option_words.specs.declared.format.Style.{Style}
+use Rattle.option_words.specs.declared.format.Style.TheVariants as styles
 use Rattle.feed_basis.specs.Basis.{BasisData}
 use Rattle.printing.specs.Faults.{IsFaultSaid, IsFaultText}
 use Rattle.printing.specs.Finished.{IsFaulted, StreamsData}
@@ -23,8 +23,8 @@ use Rattle.store_terms.specs.Stores.{IsUnopened, OnlyFailing, form_over}
 use Rattle.store_building.specs.declared.served.Served.{Served}
 use Rattle.streams.specs.Streams.{IsSaid, StreamData}
 use Rattle.printing.specs.Tellings.{Telling}
-use Rattle.commands.specs.Files.{IsKeptOut, IsNoticed}
-use Rattle.commands.specs.World.{SystemView}
+use Rattle.program_system.specs.Files.{IsKeptOut, IsNoticed}
+use Rattle.program_system.specs.World.{SystemView}
 use Rattle.commands.specs.declared.served.TheConstants.{UNREAD}
 
 -- the status of what came of a build

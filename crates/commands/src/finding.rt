@@ -1,50 +1,24 @@
 //! What a command finds: at the timetable, or over the file of a store.
 
 ghost use Rattle.std.specs.Prelude.{◌≡◌, option_map};
-ghost use Rattle.commands.specs.Rules.{IsReachFound, IsScanned};
+ghost use Rattle.feed_commands.specs.Finds.{IsReachFound, IsScanned};
 ghost use Rattle.commands.specs.Runs.{IsSearchFound};
-ghost use Rattle.commands.specs.World.{view_of};
+ghost use Rattle.program_system.specs.World.{view_of};
 
-use crate::found::{Found, found_answer, found_connections, found_report};
-use crate::opening::StoreFile;
-use crate::storing::over_store;
-use crate::system::System;
-use answering::{direct, scan};
-use command_line::{Minutes, Search, Style};
+use answering::direct;
+use command_line::Search;
+use option_words::{Minutes, Style};
 use faults::Fault;
 use feed_basis::Basis;
+use feed_commands::{Found, found_answer, reached, scanned};
 use printing::tells_legs;
+use program_system::{StoreFile, System};
 use question_lines::Question;
 use std::alloc::Global;
 use std::io::Write;
+use store_commands::over_store;
 use streams::Stream;
 use timetable::Rides;
-use told_connections::{scan_within, times_of};
-use told_reach::{reach_from, times_from};
-
-// What the rounds find: the best arrivals, or the connections if the question asks for them.
-fn scanned<'a>(
-    alloc: Global,
-    basis: &Basis,
-    rides: Rides,
-    question: &Question<'a>,
-    legs: bool,
-) -> Result<Found<'a>, Fault<'a>>
-    ensures { IsScanned basis.now rides legs question.now question.now.within result }
-{
-    match question.within {
-        None => {
-            let moment = basis.moment(question.day, question.seconds);
-            let answer = scan(alloc, basis, question, moment, rides, legs);
-            found_answer(question, answer)
-        }
-        Some(within) => {
-            let times = times_of(basis, question, within);
-            let found = scan_within(alloc, basis, question, times, rides, legs);
-            found_connections(question, found)
-        }
-    }
-}
 
 // The number of minutes, if there is one.
 fn number_of(minutes: Option<Minutes>) -> Option<u16>
@@ -53,31 +27,6 @@ fn number_of(minutes: Option<Minutes>) -> Option<u16>
     match minutes {
         Some(minutes) => Some(minutes.number),
         None => None,
-    }
-}
-
-// Where one can be, or how long one is on the way if the question asks for a window.
-fn reached<'a>(
-    alloc: Global,
-    basis: &'a Basis,
-    rides: Rides,
-    question: &Question<'a>,
-    minutes: Option<u16>,
-) -> Result<Found<'a>, Fault<'a>>
-    ensures { IsReachFound basis.now rides question.now minutes question.now.within result }
-{
-    match question.within {
-        None => {
-            let moment = basis.moment(question.day, question.seconds);
-            let reached = reach_from(alloc, basis, question.from, moment, minutes, rides);
-            found_report(reached)
-        }
-        Some(within) => {
-            let times = times_of(basis, question, within);
-            let (moment, until) = (times.moment, times.until);
-            let timed = times_from(alloc, basis, question.from, moment, until, minutes, rides);
-            found_report(timed)
-        }
     }
 }
 

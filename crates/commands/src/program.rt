@@ -4,18 +4,19 @@ ghost use Rattle.std.specs.Prelude.{◌≡◌, List, map};
 ghost use Rattle.clap.specs.Words.{Text};
 ghost use Rattle.command_line.specs.Programs.{IsMatched};
 ghost use Rattle.commands.specs.Programs.{AreFaultsListed, IsJobRun, IsPlainRun, IsProgramRun, IsRefused, folder_voice, word_voice};
-ghost use Rattle.commands.specs.World.{view_of};
+ghost use Rattle.program_system.specs.World.{view_of};
 ghost use Rattle.printing.specs.Finished.{IsFaulted, streams_of};
 
-use crate::checking::{check, stops};
-use crate::running::{Ended, run_plan, voice_of};
-use crate::system::System;
+use crate::running::{run_plan, voice_of};
 use clap::{ArgMatches, Error};
 use command_grammar::matches_of;
-use command_line::{Given, Job, Style, Unread, Word, read_words};
+use command_line::{Given, Job, Unread, Word, read_words};
+use option_words::Style;
 use disk_model::Disk;
 use faults::Fault;
+use feed_commands::{check, stops};
 use printing::{Streams, Teller, Told, Voice, finish, print, say_no_memory, show, tell_fault};
+use program_system::{Ended, System};
 use std::alloc::Global;
 use std::io::{BufRead, Write};
 

@@ -3,17 +3,16 @@
 ghost use Rattle.std.specs.Prelude.{◌≡◌};
 ghost use Rattle.commands.specs.Runs.{IsServed};
 ghost use Rattle.commands.specs.Served.{IsServedBy, dialogue_of};
-ghost use Rattle.commands.specs.World.{view_of};
+ghost use Rattle.program_system.specs.World.{view_of};
 ghost use Rattle.printing.specs.Finished.{streams_of};
 
-use crate::opening::{Access, Ready, StoreFile, open_ready, say_new};
 use crate::replies::FormatReplies;
-use crate::running::Ended;
 use crate::served::tell_serving;
-use crate::system::System;
-use command_line::{Plan, Style, Workers};
+use command_line::Plan;
+use option_words::{Style, Workers};
 use faults::Fault;
 use printing::{Streams, Teller, Voice, tell_fault};
+use program_system::{Access, Ended, Ready, StoreFile, System, open_ready, say_new};
 use reply_lines::{Lines, ReplyTeller};
 use std::alloc::Global;
 use std::io::{BufRead, Write};

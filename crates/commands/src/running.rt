@@ -3,32 +3,21 @@
 ghost use Rattle.std.specs.Prelude.{◌≡◌};
 ghost use Rattle.gtfs_tables.specs.Feed.{Feed, AreReaders};
 ghost use Rattle.commands.specs.Runs.{IsCommandRun, IsFoundRun, IsPlanRun, voice_of};
-ghost use Rattle.commands.specs.World.{view_of};
+ghost use Rattle.program_system.specs.World.{view_of};
 ghost use Rattle.printing.specs.Finished.{streams_of};
 
 use crate::finding::find;
-use crate::found::finish_found;
 use crate::idling::say_idle;
-use crate::opening::StoreFile;
 use crate::replying::{Site, run_serve};
-use crate::system::System;
-use crate::tabling::{Tabling, run_matrix};
 use command_line::{Command, Plan, Search, given_by};
-use disk_model::Disk;
 use feed_basis::{Basis, basis_of};
+use feed_commands::{Tabling, finish_found, run_matrix};
 use gtfs_tables::Files;
 use printing::{Streams, Voice, tell_fault};
+use program_system::{Ended, StoreFile, System};
 use std::alloc::Global;
 use std::io::{BufRead, Write};
 use timetable::Rides;
-
-/// What a run of the program leaves: the status to end with, the disk of the store if it was opened, and both streams.
-#[derive(Drop)]
-pub struct Ended<D: Disk + Drop, O: Write + Drop, E: Write + Drop> {
-    pub status: u8,
-    pub store: Option<D>,
-    pub streams: Streams<O, E>,
-}
 
 /// How a plan is told.
 pub fn voice_of<'a>(plan: &Plan<'a>) -> Voice<'a>

@@ -4,7 +4,8 @@ ghost use Rattle.printing.specs.Tellings.{any_text};
 
 use crate::replies::{Lookup, MEMORY_REFUSED, reply_text};
 use answer_lines::{Answer, Reach, Report, TimedStops};
-use command_line::{Format, Given, Plan, StopSearch};
+use command_line::{Given, Plan};
+use option_words::{Format, StopSearch};
 use connection_lines::Connections;
 use fault_places::{fault_json, hint};
 use faults::Fault;

@@ -1,7 +1,7 @@
 -- What standard error says of a fault.
 use Rattle.std.specs.Prelude.{◌≡◌, ◌⊎◌, ℕ, Bool, true, false, List, ◌++◌}
-use Rattle.command_line.specs.declared.format.Style.{Style}
-use Rattle.command_line.specs.declared.format.Style.TheVariants as styles
+use Rattle.option_words.specs.declared.format.Style.{Style}
+use Rattle.option_words.specs.declared.format.Style.TheVariants as styles
 use Rattle.faults.specs.Lines.{fault_lines}
 use Rattle.faults.specs.declared.fault.Fault.{Fault}
 use Rattle.faults.specs.declared.fault.Fault.TheVariants as faults

@@ -2,10 +2,10 @@
 use Rattle.std.specs.Prelude.{◌≡◌, ◌⊎◌, ℕ, Bool, true, List}
 use Rattle.answer_lines.specs.declared.answer.Answer.{Answer}
 use Rattle.answer_lines.specs.declared.report.Report.{Report}
-use Rattle.command_line.specs.declared.format.Format.{Format}
-use Rattle.command_line.specs.declared.format.Style.{Style}
-use Rattle.command_line.specs.declared.format.Style.TheVariants as styles
-use Rattle.command_line.specs.declared.stop_search.StopSearch.{StopSearch}
+use Rattle.option_words.specs.declared.format.Format.{Format}
+use Rattle.option_words.specs.declared.format.Style.{Style}
+use Rattle.option_words.specs.declared.format.Style.TheVariants as styles
+use Rattle.option_words.specs.declared.stop_search.StopSearch.{StopSearch}
 use Rattle.connection_lines.specs.declared.connections.Connections.{Connections}
 use Rattle.feed_basis.specs.Basis.{BasisData}
 use Rattle.feed_report.specs.declared.report.FeedReport.{FeedReport}

@@ -6,7 +6,8 @@ ghost use Rattle.printing.specs.Faults.{AreFaultLines, IsFaultSaid, IsFormatText
 ghost use Rattle.streams.specs.Streams.{IsSaid};
 
 use crate::teller::Teller;
-use command_line::{Given, Style};
+use command_line::Given;
+use option_words::Style;
 use faults::{Fault, FaultLines};
 use pattern_query::Refusal;
 use service_days::DayFault;

@@ -8,7 +8,8 @@ ghost use Rattle.printing.specs.Tellings.{IsStopsFault, Telling, tells_legs};
 
 use crate::asked::Asked;
 use answer_lines::{Answer, Report};
-use command_line::{Format, Given, Plan, StopSearch, Style};
+use command_line::{Given, Plan};
+use option_words::{Format, StopSearch, Style};
 use connection_lines::Connections;
 use faults::Fault;
 use feed_basis::Basis;

@@ -1,7 +1,7 @@
 //! Stops that are searched for, and what a feed has.
 
 use crate::texts::{line, stops_text};
-use command_line::{Format, StopSearch, Style};
+use option_words::{Format, StopSearch, Style};
 use feed_report::{FeedReport, is_feed_file};
 use feed_texts::{FeedText, ListedStop, StopList, feed_json};
 use gtfs_text::Sheet;

@@ -2,7 +2,7 @@
 
 use crate::texts::line;
 use answer_lines::{Reach, ReachedStop};
-use command_line::Format;
+use option_words::Format;
 use feed_texts::{ReachText, ReachedText, reach_csv, reach_geojson, reach_json};
 use std::alloc::{AllocError, Global};
 use told_names::{NameSheets, Names};

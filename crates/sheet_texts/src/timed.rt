@@ -2,7 +2,7 @@
 
 use crate::texts::line;
 use answer_lines::{TimedStop, TimedStops};
-use command_line::Format;
+use option_words::Format;
 use feed_texts::{TimedText, TimesText, times_csv, times_geojson, times_json};
 use std::alloc::{AllocError, Global};
 use told_names::{NameSheets, Names};

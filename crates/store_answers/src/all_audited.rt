@@ -10,7 +10,7 @@ ghost use Rattle.store_terms.specs.Stores.{IsUntold, OnlyFailing};
 
 use crate::audited::told;
 use answer_lines::{Audit, Report};
-use command_line::Workers;
+use option_words::Workers;
 use disk_model::Disk;
 use faults::Fault;
 use feed_basis::Basis;

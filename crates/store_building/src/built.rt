@@ -9,7 +9,7 @@ ghost use Rattle.store_terms.specs.Stores.{OnlyFailing};
 
 use crate::opening::open_unshown;
 use answer_lines::{Built, Report};
-use command_line::Workers;
+use option_words::Workers;
 use disk_model::Disk;
 use faults::Fault;
 use feed_basis::Basis;

@@ -1,7 +1,7 @@
 //! The system that the program is started on.
 
 use build_meter::Meter;
-use commands::System;
+use program_system::System;
 use disk_model::{FileDisk, FileFault};
 use feed_files::{FeedReader, list_folder, open_feed};
 use folder_teller::FolderTeller;

@@ -2,7 +2,7 @@
 
 use super::feed::{Failure, Source, feed, list_of};
 use super::teller::Saying;
-use commands::System;
+use program_system::System;
 use disk_model::{FileFault, MemDisk};
 use gtfs_tables::Files;
 use merging::MergeProgress;

@@ -1,9 +1,10 @@
 use Rattle.std.proofs.Common.{Some, codes, refl}
 use Rattle.clap.specs.Words.{rows_of, found_of}
-use Rattle.command_line.specs.Jobs.{HasPlaces, IsTask, task_question}
+use Rattle.option_words.specs.Questions.{HasPlaces}
+use Rattle.command_line.specs.Jobs.{IsTask, task_question}
 use Rattle.command_line.specs.declared.job.Task.TheVariants as tasks
 use Rattle.command_line.proofs.AskingFacts.{asks}
-use Rattle.command_line.proofs.FaultFacts.{of_part}
+use Rattle.option_words.proofs.FaultFacts.{of_part}
 use Rattle.command_line.proofs.words.ask_of.Goals as goal
 
 pub returns-in-Err-clause-fault : goal.returns-in-Err-clause-fault

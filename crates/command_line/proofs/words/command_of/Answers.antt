@@ -2,7 +2,7 @@ use Rattle.std.proofs.Common.{refl}
 use Rattle.clap.specs.Words.{rows_of, found_of}
 use Rattle.command_line.specs.Jobs.{IsCommand, IsSearch, question_of, search_question}
 use Rattle.command_line.specs.declared.job.Command.TheVariants as commands
-use Rattle.command_line.proofs.FaultFacts.{of_part}
+use Rattle.option_words.proofs.FaultFacts.{of_part}
 use Rattle.command_line.proofs.NameFacts.{found_command}
 use Rattle.command_line.proofs.words.command_of.Goals as goal
 

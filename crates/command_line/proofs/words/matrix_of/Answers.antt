@@ -1,9 +1,10 @@
 use Rattle.std.proofs.Common.{Some, codes, refl}
 use Rattle.clap.specs.Words.{rows_of, found_of}
-use Rattle.command_line.specs.Jobs.{HasPlaces, IsCommand, question_of}
+use Rattle.option_words.specs.Questions.{HasPlaces}
+use Rattle.command_line.specs.Jobs.{IsCommand, question_of}
 use Rattle.command_line.specs.declared.job.Command.TheVariants as commands
 use Rattle.command_line.proofs.AskingFacts.{tables}
-use Rattle.command_line.proofs.FaultFacts.{of_part}
+use Rattle.option_words.proofs.FaultFacts.{of_part}
 use Rattle.command_line.proofs.words.matrix_of.Goals as goal
 
 pub returns-in-Err-clause-fault : goal.returns-in-Err-clause-fault

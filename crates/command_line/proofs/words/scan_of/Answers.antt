@@ -1,9 +1,10 @@
 use Rattle.std.proofs.Common.{Some, codes, refl}
 use Rattle.clap.specs.Words.{rows_of, found_of}
-use Rattle.command_line.specs.Jobs.{HasPlaces, IsSearch, search_question}
+use Rattle.option_words.specs.Questions.{HasPlaces}
+use Rattle.command_line.specs.Jobs.{IsSearch, search_question}
 use Rattle.command_line.specs.declared.job.Search.TheVariants as searches
 use Rattle.command_line.proofs.AskingFacts.{scans}
-use Rattle.command_line.proofs.FaultFacts.{of_part}
+use Rattle.option_words.proofs.FaultFacts.{of_part}
 use Rattle.command_line.proofs.words.scan_of.Goals as goal
 
 pub returns-in-Err-clause-fault : goal.returns-in-Err-clause-fault

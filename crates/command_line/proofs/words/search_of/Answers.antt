@@ -2,7 +2,7 @@ use Rattle.std.proofs.Common.{◌∙◌, ap, option_map, refl, sym}
 use Rattle.clap.specs.Words.{rows_of, found_of, first_of}
 use Rattle.command_line.specs.Jobs.{IsSearch, IsTask, search_question, task_question}
 use Rattle.command_line.specs.declared.job.Search.TheVariants as searches
-use Rattle.command_line.proofs.FaultFacts.{of_part}
+use Rattle.option_words.proofs.FaultFacts.{of_part}
 use Rattle.command_line.proofs.NameFacts.{stored_search}
 use Rattle.command_line.proofs.words.search_of.Goals as goal
 

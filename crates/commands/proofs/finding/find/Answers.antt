@@ -2,7 +2,7 @@ use Rattle.std.proofs.Common.{refl}
 use Rattle.answering.specs.Answers.{IsAnswered, IsDirect}
 use Rattle.answering.specs.Refusals.{IsUnanswered, NoneMissing}
 use Rattle.feed_basis.specs.Ids.{stop_alone}
-use Rattle.commands.proofs.FoundFacts.{answer_found, matched}
+use Rattle.feed_commands.proofs.FoundFacts.{answer_found, matched}
 use Rattle.commands.proofs.finding.find.Goals as goal
 
 pub returns-in-Direct : goal.returns-in-Direct

@@ -3,7 +3,7 @@ use Rattle.faults.specs.declared.fault.Fault.TheVariants.{Memory}
 use Rattle.printing.specs.Finished.{streams_of}
 use Rattle.printing.specs.declared.fault.Voice.{Voice}
 use Rattle.commands.specs.Programs.{IsPlainRun}
-use Rattle.commands.specs.World.{view_of}
+use Rattle.program_system.specs.World.{view_of}
 use Rattle.commands.proofs.program.run_job.Goals as goal
 
 pub returns-in-Err : goal.returns-in-Err

@@ -1,8 +1,8 @@
 use Rattle.std.proofs.Common.{Bool, subst, inr}
 use Rattle.printing.specs.Finished.{streams_of}
 use Rattle.commands.specs.Served.{IsServingSaid, dialogue_of}
-use Rattle.commands.specs.World.{view_of}
-use Rattle.commands.proofs.RunFacts.{served_over}
+use Rattle.program_system.specs.World.{view_of}
+use Rattle.commands.proofs.ServedFacts.{served_over}
 use Rattle.commands.proofs.replying.serve_by.Goals as goal
 
 pub returns-in-Ok : goal.returns-in-Ok

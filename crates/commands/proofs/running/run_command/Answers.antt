@@ -1,9 +1,9 @@
 use Rattle.std.proofs.Common.{ℕ, subst}
 use Rattle.printing.specs.Finished.{streams_of}
 use Rattle.printing.specs.declared.fault.Voice.{Voice}
-use Rattle.commands.specs.Matrices.{IsMatrixRun}
+use Rattle.feed_commands.specs.Matrices.{IsMatrixRun}
 use Rattle.commands.specs.Runs.{IsFoundRun, IsServed, voice_of}
-use Rattle.commands.specs.World.{view_of}
+use Rattle.program_system.specs.World.{view_of}
 use Rattle.commands.proofs.running.run_command.Goals as goal
 
 pub returns-in-Find : goal.returns-in-Find

@@ -1,0 +1,2 @@
+pub mod FoundFacts
+pub mod TableFacts

@@ -1,0 +1,4 @@
+pub mod Checks
+pub mod Found
+pub mod Finds
+pub mod Matrices

@@ -1,0 +1,3 @@
+pub mod DayFacts
+pub mod FaultFacts
+pub mod MergeFacts

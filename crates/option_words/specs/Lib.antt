@@ -1,0 +1,10 @@
+pub mod AuditWords
+pub mod Days
+pub mod Formats
+pub mod MergeWords
+pub mod PartWords
+pub mod Questions
+pub mod ReachWords
+pub mod StopWords
+pub mod WithinWords
+pub mod WorkerWords
