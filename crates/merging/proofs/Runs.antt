@@ -1,6 +1,5 @@
 -- A merge that goes on.
 use Rattle.std.proofs.Common.{◌≡◌, ◌==◌, ◌||◌, ◌⊎◌, inl, inr, ℕ, zero, suc, ◌+◌, ◌<◌, ◌≤◌, Bool, true, false, cond, List, [], ◌∷◌, ◌++◌, Option, None, Some, ◌-◌, length, take, drop, refl, sym, ◌∙◌, ap, subst, arith, length-append, eq-eqb, take-append-drop}
-use Rattle.std.specs.List.{list_any}
 use Rattle.std.proofs.lemmas.Bool.{cases_lt}
 use Rattle.std.proofs.lemmas.List.{map-append, take-append-le, take_all, take_at}
 use Rattle.std.proofs.lemmas.List.Folds.{list_any-append}

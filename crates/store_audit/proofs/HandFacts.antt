@@ -1,11 +1,11 @@
 -- Trees that are audited as they come, and what comes of them at the end.
-use Rattle.std.proofs.Common.{◌≡◌, ◌∙◌, ◌<◌, ◌≤◌, ◌++◌, ℕ, List, [], ◌∷◌, Option, All, append_assoc, append-nil, refl, sym, ap, subst, inl, inr}
+use Rattle.std.proofs.Common.{◌≡◌, ◌∙◌, ◌<◌, ◌++◌, ℕ, List, [], ◌∷◌, Option, All, append_assoc, append-nil, refl, sym, ap, subst, inl, inr}
 use Rattle.std.specs.Global.{Vec}
 use Rattle.std.specs.List.{AllZip}
 use Rattle.std.proofs.lemmas.List.Elements.{All-nil, All-cons, All-head, All-tail}
 use Rattle.std.proofs.lemmas.List.Sorted.{IsPermutation-sym}
 use Rattle.timetable.specs.Table.{stops_of}
-use Rattle.pattern_tree.specs.Content.{Content, longest}
+use Rattle.pattern_tree.specs.Content.{Content}
 use Rattle.pattern_tree.proofs.OrderFacts.{longest_still}
 use Rattle.auditing.specs.declared.auditing.Difference.{Difference}
 use Rattle.recovery.specs.Keeping.{GivenAll}

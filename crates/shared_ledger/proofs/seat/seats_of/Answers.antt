@@ -1,6 +1,6 @@
-use Rattle.std.proofs.Common.{◌≡◌, ◌+◌, ◌++◌, ◌∷◌, [], ap, sym, ◌∙◌, arith}
+use Rattle.std.proofs.Common.{sym, arith}
 use Rattle.std.proofs.lemmas.List.FromFn.{map-range_with_len_more}
-use Rattle.shared_ledger.specs.Seats.{seat, all_seats}
+use Rattle.shared_ledger.specs.Seats.{seat}
 use Rattle.shared_ledger.proofs.seat.seats_of.Goals as goal
 
 pub loop-number-preserved : goal.loop-number-preserved

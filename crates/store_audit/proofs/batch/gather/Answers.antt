@@ -1,5 +1,5 @@
-use Rattle.std.proofs.Common.{◌≡◌, ◌∙◌, ◌∷◌, ◌++◌, [], List, ap, append_assoc}
-use Rattle.store_audit.specs.Hands.{Gathers, IsAuditOf}
+use Rattle.std.proofs.Common.{◌∙◌, ◌∷◌, ◌++◌, [], List, ap, append_assoc}
+use Rattle.store_audit.specs.Hands.{IsAuditOf}
 use Rattle.store_audit.specs.declared.due.TreeAudit.{TreeAudit}
 use Rattle.store_audit.proofs.ListFacts.{zip_more}
 use Rattle.store_audit.proofs.batch.gather.Goals as goal

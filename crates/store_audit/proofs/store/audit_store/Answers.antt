@@ -1,9 +1,7 @@
-use Rattle.std.proofs.Common.{◌≡◌, ◌⊎◌, ◌++◌, [], List, ap, subst, sym}
-use Rattle.std.specs.Arc.{arc_value}
+use Rattle.std.proofs.Common.{◌⊎◌, ◌++◌, [], List, ap, subst, sym}
 use Rattle.std.specs.Global.{Vec}
 use Rattle.std.specs.List.{AllZip}
 use Rattle.timetable.specs.Table.{Table}
-use Rattle.pattern_tree.specs.Content.{Content}
 use Rattle.recovery.specs.Giving.{IsGiven}
 use Rattle.recovery.specs.Recovery.{IsOutside, StandsForNoList}
 use Rattle.section_store.specs.Sections.{Form, form_of}

@@ -1,6 +1,5 @@
 use Rattle.std.proofs.Common.{◌≡◌, ◌<◌, ◌≤◌, ℕ, true, List, All, sym, subst}
 use Rattle.std.specs.List.{AllZip}
-use Rattle.std.proofs.lemmas.List.Elements.{All-weaker}
 use Rattle.timetable.specs.Journeys.{Reaches, foot}
 use Rattle.timetable.specs.Table.{Table, stops_of}
 use Rattle.timetable.specs.declared.parts.TheConstants.{LATEST_MOMENT}

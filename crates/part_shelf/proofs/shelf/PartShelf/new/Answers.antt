@@ -1,4 +1,4 @@
-use Rattle.std.proofs.Common.{rules, ◌≡◌, [], List, None, replicate, sym, subst}
+use Rattle.std.proofs.Common.{rules, ◌≡◌, [], None, replicate, sym, subst}
 use Rattle.std.specs.Arc.{arc_value}
 use Rattle.timetable.specs.Table.{Table, stops_of}
 use Rattle.section_store.specs.Sections.{form_of}
