@@ -7,10 +7,10 @@ ghost use Rattle.program_system.specs.World.{view_of};
 
 use answering::direct;
 use command_line::Search;
-use option_words::{Minutes, Style};
 use faults::Fault;
 use feed_basis::Basis;
 use feed_commands::{Found, found_answer, reached, scanned};
+use option_words::{Minutes, Style};
 use printing::tells_legs;
 use program_system::{StoreFile, System};
 use question_lines::Question;

@@ -7,12 +7,12 @@ ghost use Rattle.feed_report.specs.Counts.{IsCheckFault};
 ghost use Rattle.feed_commands.specs.Checks.{AreStops, IsChecked, IsFeedTold, IsFolderChecked, IsListTold, IsRefusedFeed};
 
 use command_line::{FeedCheck, Given};
-use option_words::{StopSearch, Style};
 use faults::Fault;
-use feed_faults::{FaultList, list_faults};
 use feed_faults::laws::first_is_reported;
+use feed_faults::{FaultList, list_faults};
 use feed_report::{FeedReport, counts_of};
 use gtfs_tables::{FeedFault, Files};
+use option_words::{StopSearch, Style};
 use printing::{Teller, Told, fault_report};
 use program_system::System;
 use std::alloc::Global;

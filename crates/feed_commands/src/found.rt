@@ -6,10 +6,10 @@ ghost use Rattle.printing.specs.Finished.{streams_of};
 
 use answer_lines::{Answer, Report};
 use command_line::Plan;
-use option_words::{Format, Style};
 use connection_lines::Connections;
 use faults::Fault;
 use feed_basis::Basis;
+use option_words::{Format, Style};
 use printing::{Asked, Streams, Teller, Told, Voice, copy_of, finish};
 use question_lines::Question;
 use std::alloc::Global;

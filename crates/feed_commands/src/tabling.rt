@@ -7,9 +7,9 @@ ghost use Rattle.program_system.specs.World.{view_of};
 ghost use Rattle.printing.specs.Finished.{streams_of};
 ghost use Rattle.stop_lists.specs.Lists.{Explains, IsContent, IsList, ids_in};
 
-use option_words::Workers;
 use faults::Fault;
 use feed_basis::Basis;
+use option_words::Workers;
 use pattern_query::Refusal;
 use printing::{Streams, Voice, say_no_memory, say_unwritten, tell_fault};
 use program_system::{Ended, System};

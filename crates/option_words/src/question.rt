@@ -6,8 +6,8 @@ ghost use Rattle.option_words.specs.Days.{HasNoDate, IsNamedDay};
 ghost use Rattle.option_words.specs.Questions.{HasPlaces};
 ghost use Rattle.option_words.specs.Questions.{ArePlaces, AreTimesIn, IsDayIn, IsFaultOf, LacksDayIn, LacksPlaces, LacksTimes};
 
-use crate::word_fault::WordFault;
 use crate::within::{names_until, next_of, until_of, within_of};
+use crate::word_fault::WordFault;
 use clap::ArgMatches;
 use gtfs_text::{date, time};
 use jiff_core::civil::Date;

@@ -7,8 +7,8 @@ ghost use Rattle.streams.specs.Streams.{IsSaid};
 
 use crate::teller::Teller;
 use command_line::Given;
-use option_words::Style;
 use faults::{Fault, FaultLines};
+use option_words::Style;
 use pattern_query::Refusal;
 use service_days::DayFault;
 use std::alloc::Global;

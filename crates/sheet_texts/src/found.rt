@@ -1,12 +1,12 @@
 //! Stops that are searched for, and what a feed has.
 
 use crate::texts::{line, stops_text};
-use option_words::{Format, StopSearch, Style};
 use feed_report::{FeedReport, is_feed_file};
 use feed_texts::{FeedText, ListedStop, StopList, feed_json};
 use gtfs_text::Sheet;
 use itineraries::places_of;
 use itinerary_texts::Place;
+use option_words::{Format, StopSearch, Style};
 use std::alloc::{AllocError, Global};
 use std::format;
 use stop_search::{FIELDS, Listing, StopRow, list_stops};

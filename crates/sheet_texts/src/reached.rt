@@ -2,8 +2,8 @@
 
 use crate::texts::line;
 use answer_lines::{Reach, ReachedStop};
-use option_words::Format;
 use feed_texts::{ReachText, ReachedText, reach_csv, reach_geojson, reach_json};
+use option_words::Format;
 use std::alloc::{AllocError, Global};
 use told_names::{NameSheets, Names};
 use zone_clock::Clock;

@@ -1,10 +1,10 @@
 //! Texts in formats, each with a line's end. Each call fails only if memory runs out.
 
 use answer_lines::DayTime;
-use option_words::Format;
 use feed_texts::{StopList, stop_list_geojson, stop_list_json};
 use itineraries::Asked;
 use itinerary_texts::{Itinerary, geojson, itinerary_json, people_text};
+use option_words::Format;
 use question_lines::{Question, Within};
 use std::alloc::{AllocError, Global};
 

@@ -2,8 +2,8 @@
 
 use crate::texts::line;
 use answer_lines::{TimedStop, TimedStops};
-use option_words::Format;
 use feed_texts::{TimedText, TimesText, times_csv, times_geojson, times_json};
+use option_words::Format;
 use std::alloc::{AllocError, Global};
 use told_names::{NameSheets, Names};
 use zone_clock::Clock;

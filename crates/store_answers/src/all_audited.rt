@@ -10,10 +10,10 @@ ghost use Rattle.store_terms.specs.Stores.{IsUntold, OnlyFailing};
 
 use crate::audited::told;
 use answer_lines::{Audit, Report};
-use option_words::Workers;
 use disk_model::Disk;
 use faults::Fault;
 use feed_basis::Basis;
+use option_words::Workers;
 use section_store::going_laws::goes_on;
 use std::alloc::{AllocError, Global};
 use std::slice;

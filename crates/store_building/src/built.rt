@@ -9,10 +9,10 @@ ghost use Rattle.store_terms.specs.Stores.{OnlyFailing};
 
 use crate::opening::open_unshown;
 use answer_lines::{Built, Report};
-use option_words::Workers;
 use disk_model::Disk;
 use faults::Fault;
 use feed_basis::Basis;
+use option_words::Workers;
 use precomputing::{Audience, Crew, Free, Halt, Outcome, Progress, count_in, precompute_telling};
 use recovery::laws::opening_goes_on;
 use section_store::going_laws::goes_on;

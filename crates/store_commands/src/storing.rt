@@ -8,10 +8,10 @@ ghost use Rattle.store_terms.specs.Stores.{OnlyFailing};
 
 use crate::merging_parts::merge_on;
 use command_line::Task;
-use option_words::{Audited, Style};
 use disk_model::Disk;
 use faults::{Fault, Side, in_migration};
 use feed_commands::{Found, found_answer, found_connections, found_report};
+use option_words::{Audited, Style};
 use printing::tells_legs;
 use program_system::{Access, Ready, StoreFile, System, open_ready, say_new};
 use question_lines::Question;

@@ -1,11 +1,11 @@
 //! The system that the program is started on.
 
 use build_meter::Meter;
-use program_system::System;
 use disk_model::{FileDisk, FileFault};
 use feed_files::{FeedReader, list_folder, open_feed};
 use folder_teller::FolderTeller;
 use gtfs_tables::Files;
+use program_system::System;
 use recovery::is_begun;
 use std::alloc::Global;
 use std::hash::RandomState;

@@ -2,12 +2,12 @@
 
 use super::feed::{Failure, Source, feed, list_of};
 use super::teller::Saying;
-use program_system::System;
 use disk_model::{FileFault, MemDisk};
 use gtfs_tables::Files;
 use merging::MergeProgress;
 use migration::MigrationProgress;
 use precomputing::Progress;
+use program_system::System;
 use std::alloc::Global;
 use std::cell::Cell;
 use std::hash::RandomState;
