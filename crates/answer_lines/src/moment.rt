@@ -3,7 +3,7 @@ ghost use Rattle.std.specs.Prelude.{Some};
 ghost use Rattle.answer_lines.specs.Printed.{date_text, day_time_text};
 ghost use Rattle.answer_lines.specs.Moments.{TellsMoment};
 
-use jiff_core::civil::Date;
+use civil_dates::Date;
 use service_days::Cover;
 use std::fmt;
 
@@ -15,8 +15,8 @@ impl fmt::Display for ShownDate {
     ghost output = { λ shown. Some (date_text shown.0) };
 
     fn fmt<W: fmt::Write>(&self, f: &mut fmt::Formatter<W>) -> fmt::Result {
-        let Date { year, month, day } = self.0;
-        let year = year.unsigned_abs();
+        let year = self.0.year().unsigned_abs();
+        let (month, day) = (self.0.month(), self.0.day());
         write!(f, "{year:04}{month:02}{day:02}")
     }
 }

@@ -21,7 +21,7 @@ use Rattle.option_words.specs.declared.workers.Workers.{Workers}
 abbrev mark_of : Text → ℕ
 mark_of text = get_or text 0 0 * 16 + length text
 
-differs : {a b : Text} → eqb (mark_of a) (mark_of b) ≡ false → a ≡ b → ⊥
+pub differs : {a b : Text} → eqb (mark_of a) (mark_of b) ≡ false → a ≡ b → ⊥
 differs {a} {b} differ same = eqb-false (mark_of a) (mark_of b) differ (ap mark_of same)
 
 module _ (rows : List Row) where

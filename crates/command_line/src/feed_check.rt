@@ -6,9 +6,9 @@ ghost use Rattle.command_line.specs.FeedWords.{IsCheck};
 ghost use Rattle.command_line.specs.FeedReadings.{IsCheckFault};
 
 use crate::unread::{Unread, Word};
+use civil_dates::Date;
 use clap::ArgMatches;
 use gtfs_text::date;
-use jiff_core::civil::Date;
 use option_words::{Style, plain_style_of};
 use options::{flag_of, text_of};
 

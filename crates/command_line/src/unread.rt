@@ -3,8 +3,8 @@
 ghost use Rattle.clap.specs.Words.{rows_of, found_of};
 ghost use Rattle.command_line.specs.Readings.{IsDateWord, IsUnreadOf, IsWordOf};
 
+use civil_dates::Date;
 use clap::ArgMatches;
-use jiff_core::civil::Date;
 use option_words::{Style, WordFault};
 use options::text_of;
 

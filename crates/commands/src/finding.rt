@@ -5,11 +5,10 @@ ghost use Rattle.feed_commands.specs.Finds.{IsReachFound, IsScanned};
 ghost use Rattle.commands.specs.Runs.{IsSearchFound};
 ghost use Rattle.program_system.specs.World.{view_of};
 
-use answering::direct;
 use command_line::Search;
 use faults::Fault;
 use feed_basis::Basis;
-use feed_commands::{Found, found_answer, reached, scanned};
+use feed_commands::{Found, reached, ridden, scanned};
 use option_words::{Minutes, Style};
 use printing::tells_legs;
 use program_system::{StoreFile, System};
@@ -30,8 +29,8 @@ fn number_of(minutes: Option<Minutes>) -> Option<u16>
     }
 }
 
-/// Finds what a command searches for, to be told in the style: at the timetable, or over the file of a store. The disk of the store comes
-/// back if it was opened. Standard error says if a new store is begun.
+/// Finds what a command searches for, to be reported in the style: at the timetable, or over the file of a store. The disk of the store
+/// comes back if it was opened. Standard error says if a new store is begun.
 pub fn find<'a, S: System, E: Write + Drop>(
     alloc: Global,
     system: &S,
@@ -46,11 +45,7 @@ pub fn find<'a, S: System, E: Write + Drop>(
         style basis.now rides search.now result.0 result.1 err.old err.new }
 {
     match search {
-        Search::Direct { question } => {
-            let moment = basis.moment(question.day, question.seconds);
-            let answer = direct(alloc, basis, question, moment);
-            (found_answer(question, answer), None)
-        }
+        Search::Direct { question } => (ridden(alloc, basis, question), None),
         Search::Scan { question, legs } => {
             let legs = tells_legs(style, *legs);
             (scanned(alloc, basis, rides, question, legs), None)

@@ -12,12 +12,12 @@ ghost use Rattle.service_days.specs.Answers.{IsMoment};
 ghost use Rattle.timetable.specs.Table.{IsTable, stops_of};
 
 use answer_lines::{DayTime, day_time};
+use civil_dates::Date;
 use direct_connections::Network;
 use faults::Fault;
 use feed_ids::{Groups, Names};
 use feed_timetable::{assemble, names_of, repeats_of};
 use gtfs_tables::{Files, Frequency, Tables, read_tables};
-use jiff_core::civil::Date;
 use options::Settings;
 use service_days::Cover;
 use service_span::{Idle, idle_of};
@@ -80,7 +80,7 @@ impl Basis {
         &self.timetable
     }
 
-    /// The timetable with its lines and direct connections. It fails only where memory runs out.
+    /// The timetable with its lines and direct connections. It fails only if memory runs out.
     pub fn network(&self, alloc: Global) -> Result<Network, AllocError>
         ensures { IfOk result (λ network. network ≡ self.now.timetable) }
     {
@@ -140,7 +140,7 @@ impl Basis {
         day_time(&self.cover, moment)
     }
 
-    /// The moment of a time of a day, in seconds from the start of the first covered day; none where the day isn't covered, or the
+    /// The moment of a time of a day, in seconds from the start of the first covered day. None if the day isn't covered, or the
     /// time is past 167:59:59.
     pub fn moment(&self, day: Date, seconds: u32) -> Option<u32>
         ensures { IsMoment self.now.cover day seconds result }
@@ -148,7 +148,7 @@ impl Basis {
         self.cover.moment(day, seconds)
     }
 
-    /// The moment of a time that was told by `day_time`, also of one past 167:59:59; none if the day isn't covered.
+    /// The moment of a time that `day_time` gave, also of one past 167:59:59; none if the day isn't covered.
     pub fn told(&self, day: Date, seconds: u32) -> Option<u32>
         ensures { IsTold self.now.cover day seconds result }
     {
@@ -188,8 +188,8 @@ fn basis_over<'a>(
     })
 }
 
-/// What questions are asked of, over the feed's files and the days from the first one on. It is given only where every test of the feed
-/// holds and the settings' zone is one. Ids are looked up under `hash_keys`: where the system gave no randomness for them, that is the
+/// What questions are asked of, over the feed's files and the days from the first one on. It is given only if every test of the feed
+/// holds and the settings' zone is one. Ids are looked up under `hash_keys`: if the system gave no randomness for them, that is the
 /// fault, and nothing is read.
 pub fn basis_of<'a, R: Read + Drop>(
     alloc: Global,

@@ -1,10 +1,11 @@
 //! What a search over the timetable finds.
 
 ghost use Rattle.std.specs.Prelude.{◌≡◌};
-ghost use Rattle.feed_commands.specs.Finds.{IsReachFound, IsScanned};
+ghost use Rattle.answering.specs.Answers.{IsDirect};
+ghost use Rattle.feed_commands.specs.Finds.{IsReachFound, IsScanned, IsStopAnswer};
 
 use crate::found::{Found, found_answer, found_connections, found_report};
-use answering::scan;
+use answering::{direct, scan};
 use faults::Fault;
 use feed_basis::Basis;
 use question_lines::Question;
@@ -12,6 +13,19 @@ use std::alloc::Global;
 use timetable::Rides;
 use told_connections::{scan_within, times_of};
 use told_reach::{reach_from, times_from};
+
+/// What one ride finds: the least arrival without walks and changes.
+pub fn ridden<'a>(
+    alloc: Global,
+    basis: &Basis,
+    question: &Question<'a>,
+) -> Result<Found<'a>, Fault<'a>>
+    ensures { IsStopAnswer basis.now question.now (IsDirect basis.now) result }
+{
+    let moment = basis.moment(question.day, question.seconds);
+    let answer = direct(alloc, basis, question, moment);
+    found_answer(question, answer)
+}
 
 /// What the rounds find: the best arrivals, or the connections if the question asks for them.
 pub fn scanned<'a>(

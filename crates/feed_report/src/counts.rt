@@ -5,9 +5,9 @@ ghost use Rattle.gtfs_tables.specs.Feed.{Feed, AreReaders};
 ghost use Rattle.feed_report.specs.Counts.{AreCounts, IsCheckFault, IsMissing, counts_in};
 
 use crate::service::{Service, service_of};
+use civil_dates::Date;
 use faults::Fault;
 use gtfs_tables::{Files, Skipped, Tables, read_tables};
-use jiff_core::civil::Date;
 use std::alloc::Global;
 use std::hash::RandomState;
 use std::io::Read;
@@ -81,10 +81,10 @@ fn counted(tables: &Tables, service: Option<Service>, missing: Missing) -> Count
 }
 
 /// Reads the feed's files, counts what the feed has, and looks for its days of service. The trips of seven days are counted: from three
-/// days before the date to three days after it, or from the first day of service on. Counts are given only where every test of the feed
+/// days before the date to three days after it, or from the first day of service on. Counts are given only if every test of the feed
 /// holds; else the fault of the first test that doesn't.
 ///
-/// Ids are looked up under `hash_keys`: where the system gave no randomness for them, that is the fault, and nothing is read. A reader that
+/// Ids are looked up under `hash_keys`: if the system gave no randomness for them, that is the fault, and nothing is read. A reader that
 /// fails (`ReadFailed`) and want of memory can come in place of any answer.
 pub fn counts_of<R: Read + Drop>(
     alloc: Global,

@@ -3,8 +3,8 @@
 ghost use Rattle.std.specs.Prelude.{IfOk};
 ghost use Rattle.feed_report.specs.ServiceDays.{AreServiceDays, IsWeek, IsWeekAround};
 
+use civil_dates::Date;
 use gtfs_tables::Tables;
-use jiff_core::civil::Date;
 use service_span::{DayTrips, Span, span_of, trips_by_day};
 use std::alloc::{AllocError, Global};
 
@@ -25,7 +25,7 @@ fn week_around(date: Date) -> (Date, u8)
         let Ok(day) = first.yesterday() else {
             return (first, before + 4);
         };
-        if day.year < 0 {
+        if day.year() < 0 {
             return (first, before + 4);
         }
         first = day;

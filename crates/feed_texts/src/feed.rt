@@ -1,9 +1,9 @@
 //! What a feed has, for machines.
 
 use answer_lines::ShownDate;
+use civil_dates::Date;
 use feed_report::{Counts, FeedReport, Missing, Service};
 use gtfs_tables::Skipped;
-use jiff_core::civil::Date;
 use json_writer::JsonWriter;
 use service_span::DayTrips;
 use std::alloc::{AllocError, Global};

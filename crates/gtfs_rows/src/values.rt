@@ -1,7 +1,7 @@
 //! The rows of a feed, as values.
 
 use crate::id::Id;
-use jiff_core::civil::Date;
+use civil_dates::Date;
 
 /// A row of stops.txt that is a stop. Stops are numbered from 0 in file order.
 #[derive(Debug, Drop)]
@@ -52,7 +52,7 @@ pub struct CalendarDate {
 /// A row of stop_times.txt: one call of a trip at a stop. Times are seconds from noon less twelve hours of the service day.
 #[derive(Clone, Copy, Debug, PartialEq, Eq)]
 pub struct StopTime {
-    /// The row of the file, counted from 1 behind the header.
+    /// The row of the file, counted from 1 after the header.
     pub row: u32,
     /// The number of the trip.
     pub trip: u32,

@@ -7,14 +7,13 @@ ghost use Rattle.gtfs_rows.specs.Faults.{Answers};
 ghost use Rattle.gtfs_rows.specs.Rows.{IsContent, optional_tests, rows_of, table_in};
 ghost use Rattle.gtfs_services.specs.CalendarDates.{change_of, field_tests, calendar_date_tests, calendar_date_value, calendar_dates_tests, calendar_date_values, AreDateColumns};
 
+use civil_dates::Date;
 use gtfs_rows::{
     CalendarDate, DateChange, FaultKind, FeedFault, FeedFile, Id, ROW_LIMIT, filled_rows,
     open_sheet, text_under,
 };
 use gtfs_text::{Sheet, date};
 use indexmap::IndexSet;
-use jiff::civil;
-use jiff_core::civil::Date;
 use std::alloc::Global;
 use std::hash::RandomState;
 use std::io::Read;
@@ -59,8 +58,7 @@ pub fn service_date(service: &str, date: Date) -> ServiceDate<'_>
     ensures month { result.2 ≡ pos date.month }
     ensures day { result.3 ≡ pos date.day }
 {
-    let date = civil::Date::from_plain(date);
-    (service, date.year(), date.month(), date.day())
+    (service, date.year(), date.month() as i8, date.day() as i8)
 }
 
 /// The values of a row of calendar_dates.txt, if its fields pass their tests. Whether it is the first of its service and date isn't tested.
@@ -92,7 +90,7 @@ pub fn read_row(
     })
 }
 
-// The rows, where each passes its tests. Their services and days join `dates`.
+// The rows, if each passes its tests. Their services and days join `dates`.
 fn keep_rows<'a>(
     alloc: Global,
     sheet: &'a Sheet,
@@ -117,7 +115,7 @@ fn keep_rows<'a>(
     Ok(rows)
 }
 
-// The rows, where each passes its tests.
+// The rows, if each passes its tests.
 fn read_rows(
     alloc: Global,
     hash_keys: RandomState,
@@ -132,7 +130,7 @@ fn read_rows(
     keep_rows(alloc, sheet, columns, &mut dates)
 }
 
-// The rows of the file, where each of its tests holds.
+// The rows of the file, if each of its tests holds.
 fn read_sheet(
     alloc: Global,
     hash_keys: RandomState,
@@ -152,12 +150,12 @@ fn read_sheet(
 }
 
 /// Reads calendar_dates.txt (GTFS Schedule reference, calendar_dates.txt): one value for each row that isn't blank, in
-/// file order; none where there is no such file. Rows are counted from 1.
+/// file order; none if there is no such file. Rows are counted from 1.
 ///
-/// The error is the first of these, with its row: `BadCsv` for a record that isn't UTF-8, where the header is row 0;
-/// `MissingColumn`, row 0, where one of the three columns isn't there; then row by row `BadField` for an empty
+/// The error is the first of these, with its row: `BadCsv` for a record that isn't UTF-8 (the header is row 0);
+/// `MissingColumn`, row 0, if one of the three columns isn't there; then row by row `BadField` for an empty
 /// `service_id`, for a `date` that is no day of the calendar and for an `exception_type` that is neither `1` nor `2`, and
-/// `DuplicateKey` where an earlier row has the service and the day; then `TooMany`, row 0, for more than 999,999,999 rows,
+/// `DuplicateKey` if an earlier row has the service and the day; then `TooMany`, row 0, for more than 999,999,999 rows,
 /// blank ones among them. `ReadFailed` and `Memory` can come in place of any answer. Services and days are looked up under
 /// `hash_keys`, which nobody who writes a feed can know.
 pub fn read_calendar_dates<R: Read + Drop>(

@@ -6,7 +6,7 @@ ghost use Rattle.std.specs.Char.{is_ascii_digit};
 ghost use Rattle.gtfs_text.specs.Values.{date_of, day_of, ymd, decimal, is_digits, whole_of, time_of, is_time, is_sixtieth, seconds_of};
 
 use crate::clock::usual_time;
-use jiff_core::civil::Date;
+use civil_dates::Date;
 
 // The number that these digits spell.
 fn decimal(digits: &[u8]) -> u32
@@ -35,7 +35,7 @@ fn is_digits(least: usize, most: usize, text: &[u8]) -> bool
     least <= text.len() && text.len() <= most && all_digits(text)
 }
 
-/// The number of a "Non-negative integer" of at most nine digits; None where the text is no such number.
+/// The number of a "Non-negative integer" of at most nine digits; None if the text is no such number.
 /// Signs, spaces and digits of other scripts make it none. Zeros may stand before the number.
 pub fn whole(text: &str) -> Option<u32>
     ensures { result ≡ whole_of text.now }
@@ -48,7 +48,7 @@ pub fn whole(text: &str) -> Option<u32>
     }
 }
 
-// The hours that one to three digits spell, where they are at most 167.
+// The hours that one to three digits spell, if they are at most 167.
 fn hours(text: &[u8]) -> Option<u32>
     ensures { result ≡ (if is_digits 1 3 text.now && nat_le (decimal text.now) 167 then Some (decimal text.now) else None) }
 {
@@ -65,7 +65,7 @@ fn hours(text: &[u8]) -> Option<u32>
     if hours <= 167 { Some(hours) } else { None }
 }
 
-// The minutes or the seconds that `:` and two digits spell, where they are at most 59.
+// The minutes or the seconds that `:` and two digits spell, if they are at most 59.
 fn sixtieth(text: &[u8]) -> Option<u32>
     ensures { result ≡ (if is_sixtieth text.now then Some (decimal (drop 1 text.now)) else None) }
 {
@@ -99,7 +99,7 @@ fn any_time(text: &[u8]) -> Option<u32>
     seconds_of(hours, minutes, seconds)
 }
 
-/// The seconds that a "Time" counts from noon minus 12 hours of its service day; None where the text is no time.
+/// The seconds that a "Time" counts from noon minus 12 hours of its service day; None if the text is no time.
 /// A time is one to three digits of hours, at most 167, then `:MM:SS`.
 pub fn time(text: &str) -> Option<u32>
     ensures { result ≡ time_of text.now }
@@ -125,7 +125,7 @@ fn day(year: &[u8], month: &[u8], day: &[u8]) -> Option<Date>
     }
 }
 
-/// The day of a "Date", `YYYYMMDD` with a year from 0000 to 9999; None where the text names no day of the calendar.
+/// The day of a "Date", `YYYYMMDD` with a year from 0000 to 9999; None if the text names no day of the calendar.
 pub fn date(text: &str) -> Option<Date>
     ensures { option_map ymd result ≡ date_of text.now }
 {

@@ -2,9 +2,9 @@
 
 use answer_lines::DayTime;
 use arrayvec::ArrayString;
+use jiff::Timestamp;
 use jiff::civil::DateTime;
-use jiff::{Timestamp, tz};
-use jiff_core::{Offset, Timestamp as PlainTimestamp};
+use jiff::tz::Offset;
 use std::fmt;
 use std::fmt::Write;
 
@@ -20,16 +20,26 @@ pub struct Time {
 /// A moment, and the zone's offset from UTC at that moment.
 #[derive(Clone, Copy)]
 pub struct Shown {
-    pub moment: PlainTimestamp,
-    pub offset: Offset,
+    /// In seconds from 1970-01-01T00:00:00Z.
+    pub moment: i64,
+    /// In seconds, positive to the east of Greenwich.
+    pub offset: i32,
     /// Whether the offset is known. Else the moment is taken by local time, with no offset.
     pub is_placed: bool,
 }
 
 impl Shown {
+    // The moment and the offset, if jiff has them.
+    fn instant(&self) -> Option<(Timestamp, Offset)> {
+        let moment = Timestamp::from_second(self.moment).ok()?;
+        let offset = Offset::from_seconds(self.offset).ok()?;
+        Some((moment, offset))
+    }
+
     // What the zone's clock shows.
-    fn local(&self) -> DateTime {
-        DateTime::from_plain(self.offset.to_datetime(self.moment))
+    fn local(&self) -> Option<DateTime> {
+        let (moment, offset) = self.instant()?;
+        Some(offset.to_datetime(moment))
     }
 }
 
@@ -38,12 +48,13 @@ impl Time {
     pub(crate) fn iso(&self) -> Option<ArrayString<38>> {
         let shown = self.shown?;
         if shown.is_placed {
-            let moment = Timestamp::from_plain(shown.moment);
-            return Some(moment.display_with_offset(tz::Offset::from_plain(shown.offset)));
+            let (moment, offset) = shown.instant()?;
+            return Some(moment.display_with_offset(offset));
         }
+        let local = shown.local()?;
         let mut text = ArrayString::new();
         // It has 19 bytes, since the moment is one of whole seconds.
-        let _ = write!(text, "{}", shown.local());
+        let _ = write!(text, "{local}");
         Some(text)
     }
 
@@ -60,10 +71,9 @@ impl Time {
 /// and its time.
 impl fmt::Display for Time {
     fn fmt<W: fmt::Write>(&self, f: &mut fmt::Formatter<W>) -> fmt::Result {
-        let Some(shown) = self.shown else {
+        let Some(at) = self.shown.and_then(|shown| shown.local()) else {
             return write!(f, "{}", self.told);
         };
-        let at = shown.local();
         let (year, month, day) = (at.year(), at.month(), at.day());
         let (hour, minute, second) = (at.hour(), at.minute(), at.second());
         write!(f, "{year:04}-{month:02}-{day:02} {hour:02}:{minute:02}")?;

@@ -3,6 +3,7 @@ use Rattle.std.specs.Prelude.{◌≡◌, ◌==◌, ◌<◌, List, MatchOption, S
 use Rattle.std.specs.List.{after_first, before_first}
 use Rattle.clap.specs.Words.{Row, Text, first_of}
 use Rattle.gtfs_text.specs.Values.{whole_of}
+use Rattle.options.specs.Values.{HasText}
 use Rattle.stop_parts.specs.Parts.{Share, whole}
 
 -- The text is I/N, two whole numbers of at most nine digits: the part of number I among N parts. I is less than N, as parts are counted
@@ -15,3 +16,7 @@ pub record NamesPart (text : Text) (part : Share) : Type 0 where
 -- that part; all stops, if the words name none
 abbrev pub AsksPart : List Row → Share → Type 0
 AsksPart rows part = MatchOption (first_of (codes "part") rows) (part ≡ whole) (λ text. NamesPart text part)
+
+-- the words name this text as a part, and it names none
+abbrev pub IsMisnamedPart : List Row → Text → Type 0
+IsMisnamedPart rows text = HasText rows (codes "part") text × ((part : Share) → ¬ NamesPart text part)

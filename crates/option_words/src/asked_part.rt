@@ -1,8 +1,8 @@
 //! Which part of the stops the words ask for.
 
 ghost use Rattle.std.specs.Prelude.{IfNone, IfSome};
-ghost use Rattle.clap.specs.Words.{rows_of, found_of};
-ghost use Rattle.option_words.specs.PartWords.{AsksPart, NamesPart};
+ghost use Rattle.clap.specs.Words.{Text, rows_of, found_of};
+ghost use Rattle.option_words.specs.PartWords.{AsksPart, NamesPart, IsMisnamedPart};
 ghost use Rattle.stop_parts.specs.Parts.{Share};
 
 use clap::ArgMatches;
@@ -32,8 +32,11 @@ pub fn part_of(found: &ArgMatches<'_>) -> Option<Part>
     }
 }
 
-/// The text of a part that is none; none if there is no such text.
-pub fn misnamed_part<'a>(found: &ArgMatches<'a>) -> Option<&'a str> {
+/// The text that the words name as a part, if it names none.
+pub fn misnamed_part<'a>(found: &ArgMatches<'a>) -> Option<&'a str>
+    ensures text { IfSome result (λ text. IsMisnamedPart (rows_of (found_of found.now)) text.now) }
+    ensures none { IfNone result ((text : Text) → ¬ IsMisnamedPart (rows_of (found_of found.now)) text) }
+{
     match text_of(found, "part") {
         Some(text) if named_part(text).is_none() => Some(text),
         _ => None,

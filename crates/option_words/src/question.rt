@@ -8,9 +8,9 @@ ghost use Rattle.option_words.specs.Questions.{ArePlaces, AreTimesIn, IsDayIn, I
 
 use crate::within::{names_until, next_of, until_of, within_of};
 use crate::word_fault::WordFault;
+use civil_dates::Date;
 use clap::ArgMatches;
 use gtfs_text::{date, time};
-use jiff_core::civil::Date;
 use options::text_of;
 use question_lines::Question;
 
@@ -24,7 +24,7 @@ struct Places<'a> {
     next: Option<u16>,
 }
 
-// The question's texts, of which the option `start` has the place to leave from, and `goal` that to go to: none if one of its words isn't
+// The question's texts, of which the option `start` has the place to leave from, and `goal` that to go to. None if one of its words isn't
 // there, the number of connections is out of its range, or a day is named for a last time that isn't.
 fn places_of<'m, 'a>(found: &'m ArgMatches<'a>, start: &str, goal: &str) -> Option<Places<'m>>
     ensures places { IfSome result (ArePlaces start.now goal.now (rows_of (found_of found.now))) }
@@ -40,7 +40,7 @@ fn places_of<'m, 'a>(found: &'m ArgMatches<'a>, start: &str, goal: &str) -> Opti
     Some(Places { from, to, at, next })
 }
 
-// The day that an option names, or else the other one; none where the option's text is no day.
+// The day that an option names, or else the other one; none if the option's text is no day.
 fn named_day(found: &ArgMatches<'_>, option: &str, other: Date) -> Option<Date>
     ensures day { IfSome result (IsNamedDay (rows_of (found_of found.now)) option.now other) }
     ensures none { IfNone result (HasNoDate (rows_of (found_of found.now)) option.now) }

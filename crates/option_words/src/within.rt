@@ -7,9 +7,9 @@ ghost use Rattle.option_words.specs.Days.{HasNoTime, IsNamedDay};
 ghost use Rattle.option_words.specs.WithinWords.{HasNext, IsNextOf, IsUntilOf, NamesUntil, within_of};
 
 use crate::word_fault::WordFault;
+use civil_dates::Date;
 use clap::ArgMatches;
 use gtfs_text::time;
-use jiff_core::civil::Date;
 use options::{number_of, text_of};
 use question_lines::{Until, Within};
 
@@ -23,7 +23,7 @@ pub fn names_until(found: &ArgMatches<'_>) -> bool
     text_of(found, "until-on").is_none() || text_of(found, "until").is_some()
 }
 
-// The number of connections that is named; none where it is out of its range.
+// The number of connections that is named; none if it is out of its range.
 fn number_next(found: &ArgMatches<'_>) -> Option<u16>
     ensures next { IfSome result (HasNext (rows_of (found_of found.now))) }
     ensures none { IfNone result ((number : ℕ) → ¬ HasNext (rows_of (found_of found.now)) number) }
@@ -35,7 +35,7 @@ fn number_next(found: &ArgMatches<'_>) -> Option<u16>
     Some(number)
 }
 
-/// How many connections are asked for at most, if a number is named; none where that is out of its range.
+/// How many connections are asked for at most, if a number is named; none if that is out of its range.
 pub(crate) fn next_of(found: &ArgMatches<'_>) -> Option<Option<u16>>
     ensures next { IfSome result (IsNextOf (rows_of (found_of found.now))) }
     ensures none { IfNone result ((number : Option ℕ) → ¬ IsNextOf (rows_of (found_of found.now)) number) }

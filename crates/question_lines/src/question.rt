@@ -4,8 +4,8 @@ ghost use Rattle.std.specs.Prelude.{◌≡◌, [], ◌∷◌, MatchOption, Optio
 ghost use Rattle.question_lines.specs.Questions.{AreFields, IsQuestion, IsWithin, LacksFields, NotQuestion, cut_at_tabs};
 ghost use Rattle.question_lines.specs.declared.question.Within.{Within as WithinData};
 
+use civil_dates::Date;
 use gtfs_text::{date, time};
-use jiff_core::civil::Date;
 use std::str;
 
 /// The longest line that is a question, in bytes, without its end.
@@ -53,7 +53,7 @@ struct Fields<'a> {
     last: Option<&'a str>,
 }
 
-// What stands before the first tab, and what behind it; none where there is no tab.
+// What stands before the first tab, and what after it; none if there is no tab.
 fn cut(text: &str) -> Option<(&str, &str)>
     ensures { MatchOption result
         (cut_at_tabs text.now ≡ text.now ∷ [])
@@ -62,7 +62,7 @@ fn cut(text: &str) -> Option<(&str, &str)>
     text.split_once('\t')
 }
 
-// The four or five fields of a line; none where it hasn't exactly so many.
+// The four or five fields of a line; none if it has more or fewer.
 fn fields_of(text: &str) -> Option<Fields<'_>>
     ensures { MatchOption result (LacksFields text.now)
         (λ f. AreFields text.now f.from.now f.to.now f.day.now f.time.now (option_map (λ last. last.now) f.last)) }
@@ -91,7 +91,7 @@ fn fields_of(text: &str) -> Option<Fields<'_>>
     }
 }
 
-// Which connections a question on the day asks for, by the text of its last time to leave at; none where that is no time.
+// Which connections a question on the day asks for, by the text of its last time to leave at; none if that is no time.
 fn within_of(last: Option<&str>, day: Date) -> Option<Option<Within>>
     ensures { MatchOption result
         ((within : Option WithinData) → ¬ IsWithin (option_map (λ last. last.now) last.entry) day within)
@@ -105,7 +105,7 @@ fn within_of(last: Option<&str>, day: Date) -> Option<Option<Within>>
     Some(Some(Within { until, next: None }))
 }
 
-/// The question that a line is; none where it is none.
+/// The question that a line is; none if it is none.
 pub(crate) fn question_of(line: &[u8]) -> Option<Question<'_>>
     ensures { MatchOption result (NotQuestion line.now) (IsQuestion line.now) }
 {

@@ -3,9 +3,9 @@
 ghost use Rattle.std.specs.Prelude.{◌≡◌, IfOk};
 ghost use Rattle.timetable.specs.Table.{stops_of};
 
+use civil_dates::Date;
 use feed_timetable::assemble;
 use gtfs_tables::{Files, Tables, read_tables};
-use jiff_core::civil::Date;
 use service_days::Cover;
 use std::hash::RandomState;
 use std::test::Fail;
@@ -55,7 +55,7 @@ impl Feed<'static> {
     };
 }
 
-/// Which days are covered: so many from a day of January 2024 on, by the clock of a zone's rule; and the seconds of a walk or
+/// Which days are covered: `days` from a day of January 2024 on, by the clock of a zone's rule. And the seconds of a walk or
 /// change whose row gives none.
 #[derive(Clone, Copy)]
 pub struct Span {
@@ -113,7 +113,7 @@ pub fn table_of(rt: &HostRuntime, feed: Feed<'_>, span: Span) -> Result<Timetabl
     Ok(assemble(rt.alloc(), &tables, &cover, span.default_walk.min(86_400))?)
 }
 
-// The timetable, where it has so many stops.
+// The timetable, if it has `stops` stops.
 pub(crate) fn with_stops(table: Timetable, stops: usize) -> Result<Timetable, Fail>
     ensures { IfOk result (λ table. stops_of table ≡ stops) }
 {

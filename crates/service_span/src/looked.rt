@@ -9,8 +9,8 @@ ghost use Rattle.service_days.specs.Runs.{removes};
 ghost use Rattle.service_span.specs.Days.{service_of};
 ghost use Rattle.service_span.specs.Looked.{day_number, is_member, is_removed};
 
+use civil_dates::Date;
 use gtfs_tables::{CalendarDate, Tables};
-use jiff_core::civil::Date;
 use service_days::is_added;
 use std::alloc::{AllocError, Global};
 use std::collections::BTreeSet;

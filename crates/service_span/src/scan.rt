@@ -8,8 +8,8 @@ ghost use Rattle.service_span.specs.Spans.{IsSpanWhere};
 
 use crate::looked::{ServiceDates, day_number};
 use crate::span::Span;
+use civil_dates::Date;
 use gtfs_tables::CalendarRow;
-use jiff_core::civil::Date;
 use service_days::is_marked;
 
 // Whether the date's weekday is marked, and the date isn't removed.

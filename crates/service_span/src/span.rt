@@ -9,8 +9,8 @@ ghost use Rattle.service_span.specs.Spans.{IsSpan, IsSpanWhere};
 
 use crate::looked::{Names, ServiceDates, is_named, named_services, removed_dates};
 use crate::scan::row_span;
+use civil_dates::Date;
 use gtfs_tables::{CalendarDate, CalendarRow, Tables};
-use jiff_core::civil::Date;
 use service_days::is_added;
 use std::alloc::{AllocError, Global};
 

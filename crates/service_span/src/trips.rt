@@ -7,8 +7,8 @@ ghost use Rattle.service_days.specs.Noon.{IsDaysAfter};
 ghost use Rattle.service_span.specs.TripCounts.{AreDayTrips};
 
 use crate::looked::day_number;
+use civil_dates::Date;
 use gtfs_tables::{Tables, Trip};
-use jiff_core::civil::Date;
 use service_days::{Dates, Days, running_days};
 use std::alloc::{AllocError, Global};
 

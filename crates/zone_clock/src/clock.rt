@@ -1,10 +1,10 @@
 //! The clock of a zone.
 
 use answer_lines::DayTime;
+use civil_dates::{Date, plain};
 use itinerary_texts::{Shown, Time};
 use jiff::tz::TimeZone;
 use jiff::{Error, SignedDuration, civil};
-use jiff_core::civil::Date;
 use jiff_tz::TimeZone as PlainZone;
 
 // The rule of a local time whose offset from UTC isn't known (the abbreviation `-00` of the tz database, "Theory and pragmatics").
@@ -37,12 +37,12 @@ impl Clock {
     // Noon of the service day by the zone's clock, twelve hours back, and the seconds on (GTFS Schedule reference, "Field types", Time).
     fn shown(&self, day: Date, seconds: u32) -> Result<Shown, Error> {
         let zone = TimeZone::from_plain(self.zone);
-        let noon = civil::Date::from_plain(day).at(12, 0, 0, 0);
+        let noon = civil::Date::from_plain(plain(day)).at(12, 0, 0, 0);
         let noon = noon.to_zoned(zone)?.timestamp();
         let moment = noon.checked_add(SignedDuration::from_secs(i64::from(seconds) - 43_200))?;
         Ok(Shown {
-            moment: moment.to_plain(),
-            offset: zone.to_offset(moment).to_plain(),
+            moment: moment.as_second(),
+            offset: zone.to_offset(moment).seconds(),
             is_placed: self.is_placed,
         })
     }

@@ -1,8 +1,8 @@
 //! Trips that frequencies.txt repeats, and trips of the day before the first covered day.
 
+use civil_dates::Date;
 use feed_timetable::{assemble, repeats_of};
 use gtfs_tables::Frequency;
-use jiff_core::civil::Date;
 use sample_feed::{Feed, Span, table_of, tables_of};
 use service_days::Cover;
 use std::test::Fail;

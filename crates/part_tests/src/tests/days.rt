@@ -1,6 +1,6 @@
 //! Covered days, and timetables of them.
 
-use jiff_core::civil::Date;
+use civil_dates::Date;
 use sample_feed::{Feed, Span, demo, table_of};
 use service_days::Cover;
 use std::alloc::{AllocError, Global};
@@ -42,9 +42,9 @@ fn starts_of_days(rt: HostRuntime) -> Result<(), Fail> {
     Ok(())
 }
 
-// The sample feed's timetable on a Tuesday: the horizon and the number of stops; the seconds of each change; a walk; and three trips, each
-// with its number, day and number of calls, and for each call the stop, the arrival, the departure, and 3, as one may board and alight. The
-// number of a stop takes two bytes here,
+// The sample feed's timetable on a Tuesday: the horizon and the number of stops; the seconds of each change; a walk; and three trips. Each
+// trip has its number, day and number of calls, and for each call the stop, the arrival, the departure, and 3, as one may board and alight.
+// The number of a stop takes two bytes here,
 const OLD_DEMO: [u8; 140] = *b"\x00\x09\x3A\x7F\x00\x05\
     \x00\x00\x00\x00\x00\x00\x00\x78\x00\x00\x00\x00\x00\x00\x00\x00\x00\x00\x00\x00\
     \x00\x00\x00\x01\x00\x02\x00\x04\x00\x00\x00\xF0\

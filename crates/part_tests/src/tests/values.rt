@@ -1,5 +1,6 @@
 //! The values of texts, and the texts of faults that no program prints.
 
+use civil_dates::Date;
 use gtfs_text::{date, time, whole};
 use pattern_tree::TreeFault;
 use service_days::DayFault;
@@ -33,11 +34,11 @@ const TIMES: [(&str, Option<u32>); 11] = [
     ("０8:00:00", None),
 ];
 
-// Each date with its days since the first of January of its year.
-const DATES: [(&str, Option<u16>); 10] = [
-    ("20240229", Some(60)),
-    ("00000229", Some(60)),
-    ("99991231", Some(365)),
+// Each date with its year, month and day.
+const DATES: [(&str, Option<(i16, u8, u8)>); 10] = [
+    ("20240229", Some((2024, 2, 29))),
+    ("00000229", Some((0, 2, 29))),
+    ("99991231", Some((9999, 12, 31))),
     ("20230229", None),
     ("19000229", None),
     ("20240431", None),
@@ -47,11 +48,18 @@ const DATES: [(&str, Option<u16>); 10] = [
     ("２0240101", None),
 ];
 
+// The year, the month and the day of a date.
+fn parts_of(date: Date) -> (i16, u8, u8) {
+    (date.year(), date.month(), date.day())
+}
+
 // Whether all three readings of texts give what they should.
 fn are_right() -> bool {
     NUMBERS.iter().all(|(text, number)| whole(text) == *number)
         && TIMES.iter().all(|(text, seconds)| time(text) == *seconds)
-        && DATES.iter().all(|(text, day)| date(text).map(|found| found.day_of_year()) == *day)
+        && DATES
+            .iter()
+            .all(|(text, day)| date(text).map(parts_of) == *day)
 }
 
 #[test]

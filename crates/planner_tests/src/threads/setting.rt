@@ -4,10 +4,10 @@ ghost use Rattle.std.specs.Prelude.{◌≡◌, ◌<◌, ◌≤◌, IfSome};
 ghost use Rattle.serving.specs.Answers.{IsOver};
 
 use board::Reader;
+use civil_dates::Date;
 use disk_model::MemDisk;
 use feed_basis::{Basis, basis_of};
 use gtfs_tables::Files;
-use jiff_core::civil::Date;
 use options::Settings;
 use pattern_query::Refusal;
 use planner::{AskFault, Desk, Opened, Planner};
@@ -71,7 +71,7 @@ pub struct Setting {
     pub reader: Reader,
 }
 
-/// Opens a planner with an empty store. None where memory runs out.
+/// Opens a planner with an empty store. None if memory runs out.
 pub fn open<R: Wait>(rt: &R, alloc: Global, basis: &Basis) -> Option<Setting>
     ensures over { IfSome result (λ s. IsOver basis.now s.planner) }
     ensures desk { IfSome result (λ s. s.desk.form ≡ s.planner.form) }
@@ -82,7 +82,7 @@ pub fn open<R: Wait>(rt: &R, alloc: Global, basis: &Basis) -> Option<Setting>
     open_on(rt, alloc, basis, MemDisk::new(alloc))
 }
 
-/// Opens a planner with the store of a disk. None where that fails.
+/// Opens a planner with the store of a disk. None if that fails.
 pub fn open_on<R: Wait>(rt: &R, alloc: Global, basis: &Basis, disk: MemDisk) -> Option<Setting>
     ensures over { IfSome result (λ s. IsOver basis.now s.planner) }
     ensures desk { IfSome result (λ s. s.desk.form ≡ s.planner.form) }

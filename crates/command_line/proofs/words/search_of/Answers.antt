@@ -6,6 +6,51 @@ use Rattle.option_words.proofs.FaultFacts.{of_part}
 use Rattle.command_line.proofs.NameFacts.{stored_search}
 use Rattle.command_line.proofs.words.search_of.Goals as goal
 
+pub returns-in-direct-clause-search : goal.returns-in-direct-clause-search
+returns-in-direct-clause-search c = rw c.in-direct.is c.direct_of.ensures.search
+
+pub returns-in-direct-clause-times : goal.returns-in-direct-clause-times
+returns-in-direct-clause-times c = c.direct_of.ensures.times
+
+pub returns-in-direct-clause-fault : goal.returns-in-direct-clause-fault
+returns-in-direct-clause-fault c = rw c.in-direct.is c.direct_of.ensures.fault
+
+pub returns-in-scan-clause-search : goal.returns-in-scan-clause-search
+returns-in-scan-clause-search c = rw c.in-scan.is c.scan_of.ensures.search
+
+pub returns-in-scan-clause-times : goal.returns-in-scan-clause-times
+returns-in-scan-clause-times c = c.scan_of.ensures.times
+
+pub returns-in-scan-clause-fault : goal.returns-in-scan-clause-fault
+returns-in-scan-clause-fault c = rw c.in-scan.is c.scan_of.ensures.fault
+
+pub returns-in-reach-clause-search : goal.returns-in-reach-clause-search
+returns-in-reach-clause-search c = rw c.in-reach.is c.reach_of.ensures.search
+
+pub returns-in-reach-clause-times : goal.returns-in-reach-clause-times
+returns-in-reach-clause-times c = c.reach_of.ensures.times
+
+pub returns-in-reach-clause-fault : goal.returns-in-reach-clause-fault
+returns-in-reach-clause-fault c = rw c.in-reach.is c.reach_of.ensures.fault
+
+pub returns-in-Ok-clause-times : goal.returns-in-Ok-clause-times
+returns-in-Ok-clause-times c = c.in-Ok.ensures.times
+
+pub returns-in-Ok-clause-fault : goal.returns-in-Ok-clause-fault
+returns-in-Ok-clause-fault c = tt
+
+pub returns-in-Err-clause-search : goal.returns-in-Err-clause-search
+returns-in-Err-clause-search c = tt
+
+pub returns-in-Err-clause-times : goal.returns-in-Err-clause-times
+returns-in-Err-clause-times c = tt
+
+pub returns-in_default-text_of-clause-search : goal.returns-in_default-text_of-clause-search
+returns-in_default-text_of-clause-search c = tt
+
+pub returns-in_default-text_of-clause-times : goal.returns-in_default-text_of-clause-times
+returns-in_default-text_of-clause-times c = tt
+
 pub returns-in-Err-clause-fault : goal.returns-in-Err-clause-fault
 returns-in-Err-clause-fault c =
     let name = c.args.name.now in

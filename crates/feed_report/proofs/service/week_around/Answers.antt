@@ -17,8 +17,8 @@ returns-in_default c = record {
       absurd (let bottom : ⊥ = cc in bottom);
 }
 
-pub returns-then-day-lt0 : goal.returns-then-day-lt0
-returns-then-day-lt0 c = record {
+pub returns-then-year-lt0 : goal.returns-then-year-lt0
+returns-then-year-lt0 c = record {
   before = c.loop-before.before;
   few = omega arith;
   first_is = c.loop-before.invariant;
@@ -26,7 +26,7 @@ returns-then-day-lt0 c = record {
   all = λ less earlier is.
       let value = c.in-Ok.ensures.value in
       let same : earlier ≡ c.in-Ok.day = same_date earlier c.in-Ok.day (omega (arith, signed_arith, is, value)) in
-      let negative = c.if-day-lt0.true in
+      let negative = c.if-year-lt0.true in
       let year = ap (λ d. d.year) same in
       omega (arith, signed_arith, negative, year);
 }

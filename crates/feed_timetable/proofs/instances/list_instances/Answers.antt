@@ -1,11 +1,15 @@
-use Rattle.std.proofs.Common.{◌≡◌, ◌++◌, List, length, arith, sym, ◌∙◌, ap}
+use Rattle.std.proofs.Common.{◌≡◌, ◌+◌, ◌++◌, List, length, arith, sym, ◌∙◌, ap}
 use Rattle.gtfs_rows.specs.declared.values.Trip.{Trip}
 use Rattle.timetable.specs.Table.{Run}
 use Rattle.feed_timetable.specs.Instances.{instances_from}
 use Rattle.feed_timetable.specs.Running.{listed}
-use Rattle.feed_timetable.proofs.Listing.{listed_due, listed_not, listed_day}
+use Rattle.feed_timetable.proofs.Listing.{due_several, listed_due, listed_not, listed_day}
 use Rattle.feed_timetable.proofs.instances.list_instances.Goals as goal
 use Rattle.feed_timetable.proofs.instances.list_instances.Goals.{then-is_due+in_ok-list_trip, else-is_due}
+
+pub list_trip-requires-clause-several : goal.list_trip-requires-clause-several
+list_trip-requires-clause-several c =
+    due_several c.args.tables.now c.args.running.now (c.loop-number.number + 1) c.loop-trip.trip (sym c.is_due.ensures ∙ c.if-is_due.true)
 
 pub loop-trip-preserved : goal.loop-trip-preserved
 loop-trip-preserved c =
