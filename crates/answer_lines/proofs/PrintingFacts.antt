@@ -24,10 +24,10 @@ pub all_written : (a b : Option (List ℕ)) (text rest : List ℕ) → rest ≡ 
 all_written a b text rest none so_far =
     subst (Appends a b) (sym (so_far.1 ∙ ap (λ t. so_far.0 ++ t) none ∙ append-nil so_far.0)) so_far.2
 
--- bytes that were written whole, where the flush was refused
+-- bytes that were written whole, if the flush was refused
 pub not_flushed : (a b c : Option (List ℕ)) (text : List ℕ) → Appends a b text → Keeps b c → AppendsBeginning a c text
 not_flushed a b c text whole kept = ([], (text, sym (append-nil text), Appends-kept a b c text whole kept))
 
--- what is left behind so many bytes
+-- what is left after `count` bytes
 pub behind : (count : ℕ) (bytes : List ℕ) → take (length bytes - count) (drop count bytes) ≡ drop count bytes
 behind count bytes = ap (λ n. take n (drop count bytes)) (sym (length-drop count bytes)) ∙ take-length (drop count bytes)

@@ -11,7 +11,7 @@ use Rattle.answer_lines.specs.declared.moment.DayTime.{DayTime}
 use Rattle.answer_lines.specs.declared.stage.Stage.{Stage}
 use Rattle.answer_lines.specs.declared.stage.Stage.TheVariants as stages
 
--- a number in decimal digits, with zeros in front where it has fewer than so many
+-- a number in decimal digits, with zeros before them if it has fewer than `width`
 abbrev pub with_zeros : ℕ → ℕ → List ℕ
 with_zeros width n = replicate (width - length (decimal n)) 48 ++ decimal n
 
@@ -41,7 +41,7 @@ point_text point =
     (codes "rides " ++ (decimal point.rides ++ (codes " arrive " ++ day_time_text point.at)))
     ++ flat_map (λ stage. 10 ∷ stage_text stage) point.stages.items
 
--- a line for each point and each of its stages, without a line's end behind the last
+-- a line for each point and each of its stages, without a line's end after the last
 unfoldable pub points_text : List Point → List ℕ
 points_text [] = codes "no journey"
 points_text (point ∷ points) = point_text point ++ flat_map (λ p. 10 ∷ point_text p) points

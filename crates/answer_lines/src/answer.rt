@@ -8,7 +8,7 @@ use crate::moment::DayTime;
 use crate::stage::Stage;
 use std::fmt;
 
-/// A best journey: how many rides it takes, when it arrives, and its rides and walks where they are wanted. Shown as
+/// A best journey: how many rides it takes, when it arrives, and its rides and walks if they are wanted. Shown as
 /// `rides N arrive DATE TIME`, with a line below for each ride and walk.
 #[derive(Debug, Drop)]
 pub struct Point {
@@ -22,7 +22,7 @@ pub struct Point {
 pub enum Answer {
     NoRide,
     Arrive(DayTime),
-    /// The best journeys, by rising rides; none where there is no journey.
+    /// The best journeys, by rising rides; none if there is no journey.
     Points(Vec<Point>),
 }
 
@@ -50,7 +50,7 @@ impl fmt::Display for Answer {
     }
 }
 
-// A line for each point and each of its stages, without a line's end behind the last.
+// A line for each point and each of its stages, without a line's end after the last.
 fn write_points<W: fmt::Write>(f: &mut fmt::Formatter<W>, points: &[Point]) -> fmt::Result
     ensures { WritesOnOk W.write_str_gives f.old result (points_text points.now) f.new }
 {

@@ -29,7 +29,7 @@ impl From<AllocError> for PrintFault {
     }
 }
 
-// Writes the bytes. Where the writer refuses, some of them from the first on were written.
+// Writes the bytes. If the writer refuses, some of them from the first on were written.
 fn write_bytes<W: Write>(out: &mut W, bytes: &[u8]) -> Result<(), PrintFault>
     ensures ok { OnOk result (Appends (W.contents out.old) (W.contents out.new) bytes.now) }
     ensures refused { result ≡ Err PrintFault.Refused → AppendsBeginning (W.contents out.old) (W.contents out.new) bytes.now }
@@ -53,8 +53,8 @@ fn write_bytes<W: Write>(out: &mut W, bytes: &[u8]) -> Result<(), PrintFault>
     Err(PrintFault::Refused)
 }
 
-/// Writes bytes on `out`, and flushes. It takes no memory. Where `out` refuses a write, a beginning of the bytes stands there, all of them
-/// where only the flush was refused.
+/// Writes bytes on `out`, and flushes. It takes no memory. If `out` refuses a write, a beginning of the bytes stands there, all of them if
+/// only the flush was refused.
 pub fn print_bytes<W: Write>(bytes: &[u8], out: &mut W) -> Result<(), PrintFault>
     ensures ok { OnOk result (Appends (W.contents out.old) (W.contents out.new) bytes.now) }
     ensures refused { result ≡ Err PrintFault.Refused → AppendsBeginning (W.contents out.old) (W.contents out.new) bytes.now }
@@ -67,8 +67,8 @@ pub fn print_bytes<W: Write>(bytes: &[u8], out: &mut W) -> Result<(), PrintFault
     }
 }
 
-/// Prints a text on `out`, and flushes. Where `out` refuses a write, a beginning of the text stands there, all of it where only
-/// the flush was refused; where memory runs out, nothing does.
+/// Prints a text on `out`, and flushes. If `out` refuses a write, a beginning of the text stands there, all of it if only the flush was
+/// refused. If memory runs out, nothing stands there.
 pub fn print<T: Display + Drop, W: Write>(
     alloc: Global,
     text: T,

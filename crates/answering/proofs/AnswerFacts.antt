@@ -65,7 +65,7 @@ shown_numbers basis Of (n ∷ front) (point ∷ points) h = (
 pub one_of_all : {X : Type 0} (P : X → Type 0) (xs : List X) (x : X) → All P xs → Contains xs x → P x
 one_of_all P xs x all c = let i = at_from_Contains xs x c in subst P (i.2 x) (all i.0 x i.1)
 
--- points that leave last are told
+-- points that leave last are reported
 pub last_asked : (table : Table) (held : Held) (froms tos : List ℕ) (d : ℕ) (points : List PointData)
     → All (IsAskedPoint table held froms tos d) points → All (LeavesLast table (IsAskedPoint table held froms tos d)) points
     → ((k : ℕ) → AreComplete table held k froms → All (IsLatest (ReachesBetween table k froms tos)) points)
@@ -96,7 +96,7 @@ are_reached Of (p ∷ journeys) are =
     All-cons (IsReached Of) (numbers p) (map numbers journeys) (p, are 0 p (omega arith), refl)
     (are_reached Of journeys (All-tail Of p journeys are))
 
--- journeys between the stops are told
+-- journeys between the stops are reported
 pub shown_journeys : (basis : BasisData) (Of : PointData → Type 0) (wanted : Bool) (journeys : List PointData) (points : List Point)
     → All Of journeys → AllZip (TellsLeaving basis wanted) journeys points
     → AllZip (TellsReached basis Of wanted) (map numbers journeys) points

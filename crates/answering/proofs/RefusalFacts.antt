@@ -18,7 +18,7 @@ leaves_at (Some x) horizon d is covered bound = ap Some (sym is)
 some_same : (a b : ℕ) → Some a ≡ Some b → a ≡ b
 some_same a b e = cc
 
--- nor is one covered where that one isn't
+-- nor is one covered if that one isn't
 pub not_covered : (table : Table) (moment : Option ℕ) (d : ℕ) → d ≡ unwrap_or moment 4_294_967_295 → table.horizon < d → ¬ IsCovered table moment
 not_covered table moment d is late covered =
     let at : d ≡ covered.0 = is ∙ ap (λ o. unwrap_or o 4_294_967_295) covered.1 in

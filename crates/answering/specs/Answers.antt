@@ -23,7 +23,7 @@ use Rattle.feed_basis.specs.Stages.{TellsStage, stages_of}
 abbrev pub IsRideBetween : BasisData → List ℕ → List ℕ → ℕ → Leg → Type 0
 IsRideBetween basis froms tos d leg = (p : ℕ) × (q : ℕ) × Contains froms p × Contains tos q × Serves basis.timetable p q d leg
 
--- no ride only where there is none, else the arrival of a ride that arrives as early as any
+-- no ride only if there is none, else the arrival of a ride that arrives as early as any
 abbrev pub IsDirect : BasisData → List ℕ → List ℕ → ℕ → Answer → Type 0
 IsDirect basis froms tos d answers.NoRide = (leg : Leg) → ¬ IsRideBetween basis froms tos d leg
 IsDirect basis froms tos d (answers.Arrive time) =
@@ -47,14 +47,14 @@ pub record AreStagesOf (basis : BasisData) (Of : PointData → Type 0) (n : Numb
   pub reaches : numbers point ≡ n
   pub told : AllZip (TellsStage basis) (stages_of basis.timetable point.from point.departure point.legs point.to) stages
 
--- what is told has the rides and the arrival of these numbers, and the stages of such a point if they are wanted
+-- what is reported has the rides and the arrival of these numbers, and the stages of such a point if they are wanted
 pub record TellsReached (basis : BasisData) (Of : PointData → Type 0) (wanted : Bool) (n : Numbers) (told : Point) : Type 0 where
   pub rides : told.rides ≡ n.rides
   pub at : TellsMoment basis.cover n.arrival told.at
   pub staged : wanted ≡ true → AreStagesOf basis Of n told.stages.items
   pub unstaged : wanted ≡ false → told.stages.items ≡ []
 
--- each point tells the numbers of this front at its index
+-- each point reports the numbers of this front at its index
 abbrev pub TellsFront : BasisData → (PointData → Type 0) → Bool → List Numbers → Answer → Type 0
 TellsFront basis Of wanted front answers.NoRide = ⊥
 TellsFront basis Of wanted front (answers.Arrive time) = ⊥

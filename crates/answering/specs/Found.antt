@@ -9,7 +9,7 @@ use Rattle.answering.specs.Answers.{IsLastAsked}
 use Rattle.question_lines.specs.declared.question.Question.{Question}
 use Rattle.feed_basis.specs.Basis.{BasisData}
 
--- journeys between the stops of the question's ids at d, from the trees of the first; the best of all where these trees are complete
+-- journeys between the stops of the question's ids at d, from the trees of the first; the best of all if these trees are complete
 pub record AreFound (basis : BasisData) (held : Held) (question : Question) (d : ℕ) (points : List PointData) : Type 0 where
   pub froms : List ℕ
   pub tos : List ℕ

@@ -133,7 +133,7 @@ fn scan_with_legs(
 }
 
 /// The best arrivals from stop to stop over journeys of at most `rides` rides, by rounds: no tree is asked. With `legs` the rides and
-/// walks of each journey are told, for which the timetable's lines are made.
+/// walks of each journey are reported, for which the timetable's lines are made.
 pub fn scan<'a>(
     alloc: Global,
     basis: &Basis,
@@ -186,9 +186,9 @@ pub fn journeys<'a, T: Trees>(
     }
 }
 
-/// The best journeys between the question's places, each a stop or a station, from the trees of the first place's stops, with their rides
-/// and walks where `legs` wants them. Each is a journey with its numbers, whatever the trees hold; where the trees are complete, these
-/// are the best of all journeys. The network is that of the basis's timetable.
+/// The best journeys between the question's places, each a stop or a station, from the trees of the first place's stops. They have their
+/// rides and walks if `legs` wants them. Each is a journey with its numbers, whatever the trees hold; if the trees are complete, these are
+/// the best of all journeys. The network is that of the basis's timetable.
 pub fn ask<'a, T: Trees>(
     alloc: Global,
     basis: &'a Basis,

@@ -12,7 +12,7 @@ use Rattle.pattern_query.specs.Answer.{TreeReaches}
 use Rattle.auditing.specs.Audits.{Agrees}
 use Rattle.auditing.specs.Comparing.{ridden}
 
--- the rides of each are fewer than those of all behind it
+-- the rides of each are fewer than those of all after it
 abbrev pub Rising : List Numbers → Type 0
 Rising xs = AllPairs (λ a b. a.rides < b.rides) xs
 

@@ -52,8 +52,8 @@ fn marks_of(alloc: Global, stops: usize, marked: bool) -> Result<Vec<bool>, Allo
     Ok(vec![in alloc; marked; stops]?)
 }
 
-/// Marks the stops to which the patterns may lack one of a best journey: those at which a pair ends of the tree that is built for the
-/// source, but that the patterns don't have. If that tree would be too large, each stop is marked. It fails only if memory runs out.
+/// Marks the stops to which the patterns may lack one of a best journey. These are the stops at which a pair ends that the tree built for
+/// the source has and the patterns don't. If that tree would be too large, each stop is marked. It fails only if memory runs out.
 pub(crate) fn lacking_stops(
     alloc: Global,
     table: &Timetable,

@@ -10,7 +10,7 @@ sources_of questions = questions.sources
 abbrev pub stops_of : Questions → ℕ
 stops_of questions = questions.stops
 
--- from one of the first `sources` stops to another, of so many, at a time from 05:00:00 to before 22:00:00
+-- from one of the first `sources` stops to another, of `stops`, at a time from 05:00:00 to before 22:00:00
 pub record IsAsked (sources stops : ℕ) (question : Question) : Type 0 where
   pub from : question.from < sources
   pub to : question.to < stops

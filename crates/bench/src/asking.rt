@@ -53,7 +53,7 @@ fn tree_arrival(network: &Network, trees: &[Patterns], question: Question) -> Op
     Some(point.arrival())
 }
 
-/// Asks for the least arrival of one ride, so many times: by the lines. Between fewer than two stops nothing is asked.
+/// Asks for the least arrival of one ride, `queries` times: by the lines. Between fewer than two stops nothing is asked.
 pub fn ask_direct(network: &Network, queries: u32, seed: u32) -> Total {
     let mut total = Total::default();
     let stops = network.timetable().stops();
@@ -67,7 +67,7 @@ pub fn ask_direct(network: &Network, queries: u32, seed: u32) -> Total {
     total
 }
 
-/// Asks for the least arrival of one ride, so many times: looking at each trip. Between fewer than two stops nothing is asked.
+/// Asks for the least arrival of one ride, `queries` times: looking at each trip. Between fewer than two stops nothing is asked.
 pub fn ask_plain(timetable: &Timetable, queries: u32, seed: u32) -> Total {
     let mut total = Total::default();
     let Some(mut questions) = Questions::new(seed, timetable.stops(), timetable.stops()) else {
@@ -79,9 +79,9 @@ pub fn ask_plain(timetable: &Timetable, queries: u32, seed: u32) -> Total {
     total
 }
 
-/// Asks for the best journeys of at most as many rides as the scratch has, so many times, from the first `sources` stops: by the rounds.
-/// The arrival that counts is the earliest one. Between fewer than two stops, and from no sources, nothing is asked. It fails only
-/// where memory runs out.
+/// Asks for the best journeys of at most as many rides as the scratch has, `queries` times, from the first `sources` stops: by the rounds.
+/// The arrival that counts is the earliest one. Between fewer than two stops, and from no sources, nothing is asked. It fails only if
+/// memory runs out.
 pub fn ask_rounds(
     timetable: &Timetable,
     scratch: &mut Scratch,
@@ -102,7 +102,7 @@ pub fn ask_rounds(
     Ok(total)
 }
 
-/// Asks for the best journeys, so many times, from the sources of the trees: from these trees. The arrival that counts is the earliest
+/// Asks for the best journeys, `queries` times, from the sources of the trees: from these trees. The arrival that counts is the earliest
 /// one. Between fewer than two stops, and from no trees, nothing is asked.
 pub fn ask_trees(network: &Network, trees: &[Patterns], queries: u32, seed: u32) -> Total {
     let mut total = Total::default();

@@ -19,7 +19,7 @@ pub struct TreeSize {
     pub ends: u32,
 }
 
-/// The trees that were built: the patterns of each, and the texts of all, one behind the other.
+/// The trees that were built: the patterns of each, and the texts of all, one after the other.
 #[derive(Drop)]
 pub struct Trees {
     pub patterns: Vec<Patterns>,

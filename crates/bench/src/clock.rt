@@ -3,12 +3,12 @@
 use std::io::Write;
 use std::time::{Duration, Instant};
 
-/// Now, by the system's clock: none where it has none.
+/// Now, by the system's clock: none if it has none.
 pub fn now(rt: &HostRuntime) -> Option<Instant> {
     Instant::now(rt).ok()
 }
 
-/// Tells on standard error how long a part took that began at `start`, and how many things it was about. Gives its nanoseconds.
+/// Prints on standard error how long a part took that began at `start`, and how many things it was about. Gives its nanoseconds.
 /// Without a clock each part takes no time.
 pub fn tell(rt: &HostRuntime, name: &str, count: u64, start: Option<Instant>) -> u64 {
     let took = match (start, now(rt)) {

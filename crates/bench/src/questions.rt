@@ -37,8 +37,8 @@ impl Questions {
     ghost use Rattle.std.specs.Prelude.{IfSome, IfNone};
     ghost use Rattle.bench.specs.Asked.{sources_of, stops_of, IsAsked};
 
-    /// Questions from the first `sources` stops, between so many stops; none where there are fewer than two stops, or more than a
-    /// timetable has, or no sources, or more than stops.
+    /// Questions from the first `sources` stops, between `stops` stops. None if there are fewer than two stops, or more than a timetable
+    /// has, or no sources, or more than stops.
     pub fn new(seed: u32, sources: usize, stops: usize) -> Option<Questions>
         ensures sources { IfSome result (λ questions. sources_of questions ≡ sources) }
         ensures stops { IfSome result (λ questions. stops_of questions ≡ stops) }

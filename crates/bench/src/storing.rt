@@ -117,7 +117,7 @@ fn write_piece<D: Disk>(disk: &mut D, end: u64, piece: &[u8]) -> Result<(), Disk
     write_and_sync(disk, end, &[0xA5])
 }
 
-// Makes the calls of the disk that the puts of the trees make, at the end of the file, behind its last gate.
+// Makes the calls of the disk that the puts of the trees make, at the end of the file, after its last gate.
 fn measure_calls(
     rt: &HostRuntime,
     disk: &mut FileDisk,
@@ -149,8 +149,8 @@ fn measure_sameness(rt: &HostRuntime, table: &Timetable, rides: Rides, trees: &[
     tell(rt, "is_for", ours as u64, start);
 }
 
-/// Measures the store in a file, for this timetable and at most so many rides: how it is read and opened, and how the trees of the first
-/// sources are put to it that it doesn't have.
+/// Measures the store in a file, for this timetable and at most `rides` rides: how it is read and opened, and how trees are put to it.
+/// These are the trees of the first sources that it doesn't have.
 pub fn measure_store(
     rt: &HostRuntime,
     table: &Arc<Timetable>,

@@ -20,8 +20,8 @@ impl fmt::Display for Rewritten {
     }
 }
 
-/// Reads so many texts, one behind the other, over the number of stops. It ends early at bytes that begin with no text, and fails
-/// only where memory runs out.
+/// Reads `count` texts, one after the other, over the number of stops. It ends early at bytes that begin with no text, and fails only if
+/// memory runs out.
 pub fn read_texts(
     alloc: Global,
     texts: &[u8],
@@ -43,7 +43,7 @@ pub fn read_texts(
     Ok(trees)
 }
 
-/// Writes the texts of the trees, one behind the other. It fails only where memory runs out.
+/// Writes the texts of the trees, one after the other. It fails only if memory runs out.
 pub fn write_texts(alloc: Global, trees: &[PatternTree<Global>]) -> Result<Vec<u8>, AllocError> {
     let mut texts = Vec::new(alloc);
     for tree in trees {

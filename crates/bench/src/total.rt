@@ -29,8 +29,8 @@ impl fmt::Display for Total {
     }
 }
 
-/// How many times as long one of the slow questions took as one of the fast ones, in whole times: `slow_count` questions took
-/// `slow` nanoseconds, and `fast_count` questions `fast`. No time counts as one nanosecond.
+/// How many times as long one of the slow questions took as one of the fast ones, in whole times. `slow_count` questions took `slow`
+/// nanoseconds, and `fast_count` questions `fast`. No time counts as one nanosecond.
 pub fn times_faster(slow: u64, slow_count: u32, fast: u64, fast_count: u32) -> u64
     ensures { result ≡ times_faster_of slow slow_count fast fast_count }
 {

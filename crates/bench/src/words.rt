@@ -45,7 +45,7 @@ pub struct Measure<'a> {
     pub seed: u32,
     /// The trees of how many sources are built.
     pub sources: u32,
-    /// The file of a store, where one is measured.
+    /// The file of a store, if one is measured.
     pub store: Option<&'a str>,
 }
 
@@ -73,7 +73,7 @@ fn found<'a>(alloc: Global, words: &'a [&'a str]) -> Result<ArgMatches<'a>, Erro
     command(alloc)?.try_get_matches_from(words)
 }
 
-// What the words say to measure: none where a word isn't there, or is out of its range.
+// What the words say to measure: none if a word isn't there, or is out of its range.
 fn measure_of<'a>(found: &ArgMatches<'a>) -> Option<Measure<'a>>
     ensures measure { IfSome result (IsMeasure (rows_of (found_of found.now))) }
     ensures none { IfNone result (NamesNothing (rows_of (found_of found.now))) }
@@ -95,9 +95,9 @@ fn measure_of<'a>(found: &ArgMatches<'a>) -> Option<Measure<'a>>
     })
 }
 
-/// Reads the words of the benchmark, the first of which is its name: what they say to measure, with exactly their values. An `Err`
-/// is the status to end with, and what the user is to be told stands in `err`: the help that was asked for with status 0, a fault
-/// of words with 2, want of memory with 7.
+/// Reads the words of the benchmark, the first of which is its name: what they say to measure, with exactly their values. An `Err` is the
+/// status to end with, and what the user is to read stands in `err`. That is the help that was asked for with status 0, a fault of words
+/// with 2, want of memory with 7.
 pub fn read_words<'a, E: Write>(
     alloc: Global,
     words: &'a [&'a str],

@@ -34,7 +34,7 @@ fn shared_trees(alloc: Global, trees: Vec<PatternTree>) -> Result<Vec<SharedPatt
     Ok(shared)
 }
 
-// A list of these trees, and all that is known of it; none where there are too many to be counted.
+// A list of these trees, and all that is known of it; none if there are too many to be counted.
 fn list_of(trees: &[SharedPatterns]) -> Option<(History, Told)>
     ensures book { IfSome result (λ r. r.0.count.book ≡ r.1.book) }
     ensures list { IfSome result (λ r. r.1.list ≡ trees.now) }
@@ -146,7 +146,7 @@ fn opened_writer<R: Wait>(
     Ok(Writer::new(copies, history, told, origin))
 }
 
-// So many readers.
+// As many readers as `readers` says.
 fn seats(alloc: Global, writer: &mut Writer, readers: usize) -> Result<Vec<Reader>, AllocError>
     ensures count { IfOk result (λ seats. length seats.items ≡ readers) }
     ensures each { IfOk result (λ seats.

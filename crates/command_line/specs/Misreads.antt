@@ -1,6 +1,5 @@
--- Why words give no job, and which fault of theirs is reported: one of `clap`, or else that they name no job, or else the first covered
--- day or the date of a check, or else the day to leave on, or else the day of the last time to leave at; or else the time to leave at, or
--- else the last such time.
+-- Why words give no job, and which fault of theirs is reported. It is the first of these: one of `clap`; that they name no job; the first
+-- covered day or the date of a check; the day to leave on; the day of the last time to leave at; the time to leave at; the last such time.
 use Rattle.std.specs.Prelude.{◌≡◌, ◌⊎◌, [], List, Option, None, Some, codes}
 use Rattle.jiff_core.specs.declared.civil.date.Date.{Date}
 use Rattle.clap.specs.Words.{Kinds, Row, Text}
@@ -64,8 +63,8 @@ abbrev pub IsMisreadIn : (List Row → Plan → Type 0) → Style → Option (Te
 IsMisreadIn Fault style None = ⊥
 IsMisreadIn Fault style (Some met) = IsMisread Fault style met.0 met.1
 
--- The words have no job, and what is to be shown goes with such a status; or clap takes them, and they have a job but for a day that is
--- none, or for a time: the word that has it is named.
+-- The words have no job, and what is to be shown goes with such a status. Or clap takes them, and they have a job but for a day that is
+-- none, or for a time. The word that has it is named.
 abbrev pub IsUnread : Kinds → Option (Text × List Row) → Unread → Type 0
 IsUnread kinds met (unread.Shown status) = IsStatus kinds (NamesNoJob met) status
 IsUnread kinds met (unread.BadDate style word) =

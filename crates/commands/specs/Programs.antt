@@ -28,7 +28,7 @@ use denote.Ref.{Bor}
 abbrev pub word_voice : Style → Word → Voice
 word_voice style word = record { style = style; given = word_given word }
 
--- What comes of words that give no job: a text is shown, help on standard output, a fault of the words on standard error; or the fault of
+-- What comes of words that give no job: a text is shown, help on standard output, a fault of the words on standard error. Or the fault of
 -- a day or of a time is said, of the word that has it.
 abbrev pub IsRefused : Telling → Unread → StreamsData → StreamsData → ℕ → Type 0
 IsRefused t (unread.Shown meant) old new status = (text : List ℕ) × IsShown text meant old new status
@@ -46,7 +46,7 @@ pub record NameJob (words : List Text) (job : Job) : Type 0 where
   pub faultless : fault_of program_app words ≡ []
   pub is : IsJob (subcommand_of program_app words) job
 
--- this is told, or its fault, and no store was opened
+-- this is reported, or its fault, and no store was opened
 pub record IsPlainRun {D : Type 0} (v : SystemView D) (voice : Voice) (told : Result Told Fault) (old new : StreamsData) (status : ℕ)
     (disk : Option D) : Type 0 where
   pub finished : IsFinished v.telling voice told old new status

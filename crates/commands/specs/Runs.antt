@@ -29,8 +29,8 @@ use Rattle.feed_commands.specs.declared.found.Found.{Found}
 abbrev pub voice_of : Plan → Voice
 voice_of plan = record { style = plan.style; given = given_by plan }
 
--- What a command finds, to be told in a style: at the timetable, which takes no store; or over the file of a store. Standard error of before
--- and after is last.
+-- What a command finds, to be reported in a style: at the timetable, which takes no store; or over the file of a store. Standard error of
+-- before and after is last.
 abbrev pub IsSearchFound : {D : Type 0} → SystemView D → Style → BasisData → ℕ → Search → Result Found Fault → Option D → StreamData → StreamData → Type 0
 IsSearchFound v style basis k (searches.Direct question) found disk old new =
     IsStopAnswer basis question (IsDirect basis) found × (disk ≡ None) × (new ≡ old)
@@ -41,7 +41,7 @@ IsSearchFound v style basis k (searches.Reach question minutes) found disk old n
 IsSearchFound v style basis k (searches.Stored store task) found disk old new =
     IsOverStore v style basis k store.now task found disk old new
 
--- it was found, or has a fault, and that was told
+-- it was found, or has a fault, and that was reported
 pub record IsFoundRun {D : Type 0} (v : SystemView D) (plan : Plan) (basis : BasisData) (k : ℕ) (search : Search) (old new : StreamsData)
     (status : ℕ) (disk : Option D) : Type 0 where
   pub found : Result Found Fault

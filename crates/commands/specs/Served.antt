@@ -72,7 +72,7 @@ pub record IsShutOut {D : Type 0} (v : SystemView D) (form : Form) (path : List 
   pub kept_out : IsKeptOut v form path fault disk
   pub faulted : IsFaulted v.telling voice fault old new status
 
--- the replies are told so, with rides and walks if they are wanted, to the lines of this input
+-- the replies are printed so, with rides and walks if they are wanted, to the lines of this input
 pub record Dialogue : Type 1 where
   pub tells : ReplyTelling
   pub wanted : Bool

@@ -20,7 +20,7 @@ use program_system::{Ended, System};
 use std::alloc::Global;
 use std::io::{BufRead, Write};
 
-// Ends with what is told, or its fault, without a store.
+// Ends with what is reported, or its fault, without a store.
 fn ended<S: System, O: Write + Drop, E: Write + Drop>(
     alloc: Global,
     system: &S,

@@ -25,7 +25,7 @@ pub struct Site<'a> {
     pub workers: Workers,
 }
 
-// Replies to the questions of the input at the site, as `replies` tells them.
+// Replies to the questions of the input at the site, as `replies` says them.
 fn serve_by<S: System, R: ReplyTeller, I: BufRead, O: Write + Drop, E: Write + Drop>(
     alloc: Global,
     system: &S,
@@ -80,7 +80,7 @@ fn serve_by<S: System, R: ReplyTeller, I: BufRead, O: Write + Drop, E: Write + D
 }
 
 /// Replies to the questions of the input, line by line, as the plan's style has the replies, at the site, while workers build the trees
-/// that its file lacks. What a format tells is looked up before the file is opened.
+/// that its file lacks. What a format reports is looked up before the file is opened.
 pub fn run_serve<S: System, I: BufRead, O: Write + Drop, E: Write + Drop>(
     alloc: Global,
     system: &S,

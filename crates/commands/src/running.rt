@@ -19,7 +19,7 @@ use std::alloc::Global;
 use std::io::{BufRead, Write};
 use timetable::Rides;
 
-/// How a plan is told.
+/// How a plan is reported.
 pub fn voice_of<'a>(plan: &Plan<'a>) -> Voice<'a>
     ensures { result ≡ voice_of plan.now }
 {
@@ -101,12 +101,12 @@ fn run_command<S: System, I: BufRead, O: Write + Drop, E: Write + Drop>(
     }
 }
 
-/// Does the plan over the feed's files, and over the disk of the store that it names, which is opened only if the feed and its days are
+/// Does the plan over the feed's files, and over the disk of the store that it names. The disk is opened only if the feed and its days are
 /// without fault. Questions that are asked line by line stand in `input`. Standard error says if no trip runs on the covered days.
 ///
-/// The status is 0 if it is done; 1 if the feed or its days are at fault, or the system gives no randomness for hash keys; 3 if a stop has
-/// no tree, since it would be too large, memory was refused for it, or the questions ended before it was
-/// built; 4 if the store is at fault, or its device; 6 if the question is; 7 if memory ran out; 8 if standard output refused a write.
+/// The status is 0 if it is done; 1 if the feed or its days are at fault, or the system gives no randomness for hash keys. It is 3 if a
+/// stop has no tree, since it would be too large, memory was refused for it, or the questions ended before it was built. It is 4 if the
+/// store is at fault, or its device; 6 if the question is; 7 if memory ran out; 8 if standard output refused a write.
 pub fn run_plan<S: System, I: BufRead, O: Write + Drop, E: Write + Drop>(
     alloc: Global,
     system: &S,

@@ -28,7 +28,7 @@ abbrev pub walk_line : Option ℕ → List ℕ
 walk_line None = []
 walk_line (Some seconds) = codes "walk seconds " ++ (decimal seconds ++ 10 ∷ [])
 
--- the moment from which on connections aren't told
+-- the moment from which on connections aren't reported
 abbrev pub next_line : Option DayTime → List ℕ
 next_line None = []
 next_line (Some time) = codes "more from " ++ (day_time_text time ++ 10 ∷ [])

@@ -24,7 +24,7 @@ pub struct Connections {
     pub walk: Option<u32>,
     /// By departure, then by arrival.
     pub list: Vec<Connection>,
-    /// The moment from which on connections aren't told; none if all are.
+    /// The moment from which on connections aren't reported; none if all are.
     pub next: Option<DayTime>,
 }
 
@@ -92,7 +92,7 @@ fn write_list<W: fmt::Write>(f: &mut fmt::Formatter<W>, list: &[Connection]) -> 
     Ok(())
 }
 
-// A line if connections aren't told from some moment on.
+// A line if connections aren't reported from some moment on.
 fn write_next<W: fmt::Write>(f: &mut fmt::Formatter<W>, next: Option<DayTime>) -> fmt::Result
     ensures { WritesOnOk W.write_str_gives f.old result (next_line next) f.new }
 {

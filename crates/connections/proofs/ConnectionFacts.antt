@@ -112,7 +112,7 @@ module _ (table : Table) (k s : ℕ) where
 
     module _ (rounds kept : List (List (Option Mark))) (known : t < stops_of table) (now : AreLeastAt table k s e rounds)
         (later : AreLeastAt table k s (e + 1) kept) where
-      -- where one was there later with as many rides, it is no connection, and else it is one
+      -- if one was there later with as many rides, it is no connection, and else it is one
       pub connects_if : IsSooner (arrival_in rounds n.rides t) (arrival_in kept n.rides t) → Connects (Reaches table 0 k s t) e n
       connects_if sooner = record {
         ridden = ridden;

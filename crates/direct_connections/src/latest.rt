@@ -71,7 +71,7 @@ fn last_ride(
 
 impl Direct {
     /// A ride from one stop to another that arrives at `by` or before, in seconds from the start of the first covered day, and departs
-    /// as late as any; none only if there is none. It was made for this timetable, of these lines. It takes no memory.
+    /// as late as any. None only if there is none. It was made for this timetable, of these lines. It takes no memory.
     ///
     /// The positions of both stops are gone through once, side by side, as `earliest` does it. On a line the last instance is found by
     /// binary search. Later positions of alighting aren't searched, since no instance arrives there earlier.

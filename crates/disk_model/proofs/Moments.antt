@@ -10,7 +10,7 @@ use Rattle.disk_model.specs.Disk.{State, spliced_bytes, next_state, after_write,
 use Rattle.disk_model.specs.Moments.{moments, Leaves, LeavesOnly}
 use Rattle.disk_model.specs.Laws.{WritesLeave, CutsLeave, SyncsLeave, FailuresGrow}
 
--- where nothing was done
+-- if nothing was done
 pub still : (old new : State) (P : List ℕ → Type 0) → new ≡ old → LeavesOnly old new P
 still old new P is = record { since = []; are = ap moments is ∙ sym (append-nil (moments old)); each = All-nil (Leaves P) }
 

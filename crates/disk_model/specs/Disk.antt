@@ -31,7 +31,7 @@ after_cut len disk = next_state (take len disk.read) (with_cut len disk.now) dis
 abbrev pub after_sync : State → State
 after_sync disk = next_state disk.read (settled_image disk.read) disk
 
--- what reads give once a write of so many bytes was done in part: any bytes in its range, the same elsewhere
+-- what reads give once a write of `count` bytes was done in part: any bytes in its range, the same elsewhere
 pub record IsTorn (at count : ℕ) (old new : List ℕ) : Type 0 where
   pub before : take at new ≡ take at old
   pub behind : drop (at + count) new ≡ drop (at + count) old

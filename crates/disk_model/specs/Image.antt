@@ -1,6 +1,5 @@
--- What a crash may leave of a file: its length lies between the least and the greatest length since the last sync that
--- succeeded; a byte below every length since then and in no range written since then is as it was at that sync; every
--- other byte may be anything.
+-- What a crash may leave of a file. Its length lies between the least and the greatest length since the last sync that succeeded. A byte
+-- below every length since then and in no range written since then is as it was at that sync. Every other byte may be anything.
 use Rattle.std.specs.Prelude.{◌<◌, ◌≤◌, ◌≡◌, ◌⊎◌, ℕ, ◌+◌, min, max, List, [], ◌∷◌, ◌++◌, length, get_or}
 
 -- the file as it was at the last sync, the least and the greatest length since, and the ranges written since, the oldest
@@ -30,7 +29,7 @@ pub record IsOutcome (image : Image) (bytes : List ℕ) : Type 0 where
 abbrev pub settled_image : List ℕ → Image
 settled_image bytes = record { synced = bytes; least = length bytes; greatest = length bytes; ranges = [] }
 
--- after a write of so many bytes, done or done in part
+-- after a write of `count` bytes, done or done in part
 abbrev pub with_write : ℕ → ℕ → Image → Image
 with_write at count image =
     record {

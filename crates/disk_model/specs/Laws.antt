@@ -1,4 +1,4 @@
--- Theorems about the definitions alone.
+-- Theorems about only the definitions.
 use Rattle.std.specs.Prelude.{◌≡◌, ◌≤◌, ◌⊎◌, ◌↔◌, ℕ, List, [], ◌∷◌, ◌++◌, length, Result, Err}
 use Rattle.disk_model.specs.Image.{Image, IsOutcome, settled_image, with_write, with_cut}
 use Rattle.disk_model.specs.Disk.{State, IsTorn, IsShortened, Writes, Cuts, Syncs, Counts, Grew}

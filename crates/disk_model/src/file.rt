@@ -16,18 +16,18 @@ use std::rt::Files;
 /// A file of the operating system.
 ///
 /// No contract can say what such a file holds. So it is proved only that each call that failed is counted and that a read says no
-/// more bytes than its buffer has. That the file does as an honest disk does is a premise, `IsHonestFile`: a read gives what was written
-/// last, and after `sync` the bytes and the length stand through a crash. No proof can open that premise, and nothing shows it. If a reader
-/// grants it, each clause that begins with `honest` holds of the file, with some state that no clause names.
+/// more bytes than its buffer has. That the file does as an honest disk does is a premise, `IsHonestFile`. It says that a read gives what
+/// was written last, and that after `sync` the bytes and the length stand through a crash. No proof can open that premise, and nothing
+/// shows it. If a reader grants it, each clause that begins with `honest` holds of the file, with some state that no clause names.
 ///
 /// A second process that writes the file would break that. So a disk that writes holds the system's exclusive lock of its
-/// file, and disks that only read share one: no disk writes while another has the file open. The system drops the lock
+/// file, and disks that only read share one. No disk writes while another has the file open. The system drops the lock
 /// when the disk is dropped and when its process ends, in whatever way: a crash leaves no lock behind. The lock binds only
 /// those that ask for it. A file on a network share may break the premise too, and so may a drive that answers before it has written.
 /// On a full disk a write fails and may have been done in part, as any write that fails.
 ///
-/// Opening a file brings its name to the disk too, so that a crash can't lose a file that was just made. Where the path is
-/// a link, that is the name of the link.
+/// Opening a file brings its name to the disk too, so that a crash can't lose a file that was just made. If the path is a link, that is the
+/// name of the link.
 #[derive(Drop)]
 pub struct FileDisk {
     file: File,

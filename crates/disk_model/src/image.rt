@@ -89,7 +89,7 @@ impl CrashImage {
         self.least <= place || self.is_covered(place)
     }
 
-    // How many places below a length are open; none where a crash can't leave that length.
+    // How many places below a length are open; none if a crash can't leave that length.
     pub fn open_bytes(&self, len: u64) -> Option<u64>
         ensures { SomeIff result (IsLength (image_of self.now) len) (open_count (image_of self.now) 0 len) }
     {
@@ -105,7 +105,7 @@ impl CrashImage {
         Some(open)
     }
 
-    // The bytes that a crash leaves, of that length, the open ones from the fill in rising order; none where it can't
+    // The bytes that a crash leaves, of that length, the open ones from the fill in rising order. None if it can't
     // leave that length or the fill is too short.
     pub fn left(&self, alloc: Global, len: u64, fill: &[u8]) -> Result<Option<Vec<u8>>, AllocError>
         ensures { IfOk result (λ left. MatchOption left (¬ CanCrash (image_of self.now) len fill.now)

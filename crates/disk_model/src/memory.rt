@@ -25,8 +25,8 @@ pub enum Call {
     Crashed(Vec<u8>),
 }
 
-/// A file in memory, for tests of what stands on a disk. It is honest. A call fails where it is told to: what reads give
-/// stays, but a crash may leave a write or a cut done in part. Or it fails where there is no memory for it, and then nothing
+/// A file in memory, for tests of what stands on a disk. It is honest. A call fails if it was set to fail: what reads give
+/// stays, but a crash may leave a write or a cut done in part. Or it fails if there is no memory for it, and then nothing
 /// is done.
 ///
 /// It keeps every call that changes something, with its bytes, so that what a crash may leave is known at each moment.
@@ -91,7 +91,7 @@ impl MemDisk {
         self.plan = Plan::From(n);
     }
 
-    /// How many places below a length are open: a crash may leave any bytes there. None where it can't leave that length.
+    /// How many places below a length are open: a crash may leave any bytes there. None if it can't leave that length.
     /// It takes no memory.
     pub fn open_bytes(&self, len: u64) -> Option<u64>
         ensures { SomeIff result (IsLength (state_of self.now).now len) (open_count (state_of self.now).now 0 len) }
@@ -99,10 +99,10 @@ impl MemDisk {
         self.image.open_bytes(len)
     }
 
-    /// A crash that leaves so many bytes: the open ones from the fill, in rising order, the others as they were at the
+    /// A crash that leaves `len` bytes: the open ones from the fill, in rising order, the others as they were at the
     /// last sync. No call is told to fail any more.
     ///
-    /// `Err` gives the disk as it was: where a crash can't leave that length, the fill has too few bytes, or memory is
+    /// `Err` gives the disk as it was: if a crash can't leave that length, the fill has too few bytes, or memory is
     /// refused.
     pub fn crash(self, len: u64, fill: &[u8]) -> Result<MemDisk, MemDisk>
         ensures crashed { IfOk result (λ disk. CanCrash (state_of self).now len fill.now
@@ -248,7 +248,7 @@ impl Disk for MemDisk {
 
     ghost may_stay = { λ disk h. disk.sound };
 
-    // It fails only where it is told to.
+    // It fails only if it was set to fail.
     fn len(&mut self) -> Result<u64, DiskFault>
         ensures counted { Counts result (failures_of self.old) (failures_of self.new) }
         ensures same { state_of self.new ≡ state_of self.old }
@@ -262,7 +262,7 @@ impl Disk for MemDisk {
         Ok(self.bytes.len() as u64)
     }
 
-    // It fails only where it is told to.
+    // It fails only if it was set to fail.
     fn read_at(&mut self, pos: u64, buf: &mut [u8]) -> Result<usize, DiskFault>
         ensures counted { Counts result (failures_of self.old) (failures_of self.new) }
         ensures fits { IfOk result (λ n. n ≤ length buf.old) }

@@ -138,7 +138,7 @@ pub(crate) fn write_migration<W: fmt::Write>(
     write_cause(f, fault)
 }
 
-/// Why one of the two files of a migration isn't used, as recovery tells it. Want of memory is nobody's.
+/// Why one of the two files of a migration isn't used, as recovery reports it. Want of memory is nobody's.
 pub fn of_migrated<'a>(side: Side, fault: RecoverFault) -> Fault<'a>
     ensures { result ≡ of_migrated side fault }
 {

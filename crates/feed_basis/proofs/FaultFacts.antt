@@ -1,4 +1,4 @@
--- Which fault of a feed or its days is told.
+-- Which fault of a feed or its days is reported.
 use Rattle.std.proofs.Common.{◌≡◌, None, Err}
 use Rattle.jiff_core.specs.declared.civil.date.Date.{Date}
 use Rattle.gtfs_rows.specs.Faults.{first_fault}

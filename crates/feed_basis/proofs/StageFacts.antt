@@ -28,7 +28,7 @@ departs_by table leg valid ride = go (call_at table leg.instance leg.board) refl
   go None e = omega arith
   go (Some c) e = (call_is (calls_are table leg.instance valid) leg.board c e).early
 
--- one who leaves later for the same arrival leaves early enough to be told of
+-- one who leaves later for the same arrival leaves early enough to be reported
 pub leaves_early : (table : Table) (s t d e z : ℕ) (legs : List Leg) → IsTable table → d ≤ LATEST_MOMENT → Journey table s d legs t z
     → Journey table s e legs t z → e ≤ LATEST_MOMENT
 leaves_early table s t d e z [] valid early at_d at_e = go (foot table s t) at_d at_e where

@@ -55,8 +55,8 @@ pub record IsSound (basis : BasisData) : Type 0 where
   pub stops : length basis.names.stops ≡ stops_of basis.timetable
   pub trips : All (λ run. run.trip < length basis.names.trips) basis.timetable.instances
 
--- The moment of a told time: the start of its service day and the seconds, added. None is for a day that isn't covered, or for a moment
--- that takes more than four bytes. Unlike a time of a feed, a told time may be past 167:59:59.
+-- The moment of a reported time: the start of its service day and the seconds, added. None is for a day that isn't covered, or for a moment
+-- that takes more than four bytes. Unlike a time of a feed, a reported time may be past 167:59:59.
 abbrev pub IsTold : CoverDays → Date → ℕ → Option ℕ → Type 0
 IsTold c date seconds (Some moment) = (start : ℕ) × IsMoment c date 0 (Some start) × (moment ≡ start + seconds)
 IsTold c date seconds None = (start : ℕ) → IsMoment c date 0 (Some start) → 2 ^ 32 ≤ start + seconds

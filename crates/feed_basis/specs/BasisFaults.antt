@@ -40,7 +40,7 @@ IsKeyedFault feed settings first faults.FileTooLarge = ⊥
 IsKeyedFault feed settings first (faults.Part path f) = ⊥
 IsKeyedFault feed settings first (faults.OtherTree stop part before) = ⊥
 
--- Where the system gave no randomness for hash keys, that is the fault, whatever the feed is.
+-- If the system gave no randomness for hash keys, that is the fault, whatever the feed is.
 abbrev pub IsBasisFault : Bool → Feed → Settings → Date → Fault → Type 0
 IsBasisFault false feed settings first fault = fault ≡ faults.NoRandomness
 IsBasisFault true feed settings first fault = IsKeyedFault feed settings first fault

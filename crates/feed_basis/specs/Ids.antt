@@ -4,7 +4,7 @@ use Rattle.std.specs.Option.{option_map}
 use Rattle.feed_ids.specs.NameLists.{NameLists}
 use Rattle.feed_ids.specs.Names.{stop_named}
 
--- the stop of the id alone
+-- only the stop of the id
 abbrev pub stop_alone : NameLists → List ℕ → Option (List ℕ)
 stop_alone names id = option_map (λ stop. stop ∷ []) (stop_named names id)
 

@@ -1,4 +1,4 @@
--- A journey as it is told.
+-- A journey as it is reported.
 use Rattle.std.specs.Prelude.{◌≡◌, ℕ, ◌<◌, Bool, true, false, [], length}
 use Rattle.std.specs.List.{All, AllZip}
 use Rattle.timetable.specs.declared.parts.Numbers.{Numbers}
@@ -22,7 +22,7 @@ IsKnownStage basis (numbered.Walk p q a z) = (p < length basis.names.stops) × (
 abbrev pub IsKnownJourney : BasisData → ℕ → PointData → Type 0
 IsKnownJourney basis d p = All (IsKnownStage basis) (stages_of basis.timetable p.from d p.legs p.to)
 
--- a point tells this journey, which begins at d
+-- a point reports this journey, which begins at d
 pub record Tells (basis : BasisData) (d : ℕ) (wanted : Bool) (p : PointData) (point : Point) : Type 0 where
   pub rides : point.rides ≡ p.rides
   pub at : TellsMoment basis.cover p.arrival point.at
@@ -33,7 +33,7 @@ pub record Tells (basis : BasisData) (d : ℕ) (wanted : Bool) (p : PointData) (
 abbrev pub TellsLeaving : BasisData → Bool → PointData → Point → Type 0
 TellsLeaving basis wanted p point = Tells basis p.departure wanted p point
 
--- a point has these numbers, and nothing else is told of it
+-- a point has these numbers, and nothing else is reported of it
 pub record TellsNumbers (basis : BasisData) (n : Numbers) (point : Point) : Type 0 where
   pub rides : point.rides ≡ n.rides
   pub at : TellsMoment basis.cover n.arrival point.at

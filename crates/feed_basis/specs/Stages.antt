@@ -1,4 +1,4 @@
--- How a journey is told: its rides, and the walks before, between and after them. One who stays at a stop isn't told of.
+-- How a journey is reported: its rides, and the walks before, between and after them. If one stays at a stop, that isn't reported.
 -- GTFS Schedule, stop_times.txt and transfers.txt: a ride is part of a trip, and a walk leads from one stop to another.
 use Rattle.std.specs.Prelude.{◌≡◌, ℕ, ◌+◌, ◌==◌, List, [], ◌∷◌, ◌++◌, slice_get, slice_index_or, if◌then◌else◌}
 use Rattle.std.specs.Option.{option_map, unwrap_or}
@@ -13,7 +13,7 @@ use Rattle.feed_basis.specs.declared.numbered.NumberedStage.TheVariants as numbe
 use Rattle.answer_lines.specs.declared.stage.Stage.{Stage}
 use Rattle.answer_lines.specs.declared.stage.Stage.TheVariants as stages
 
--- the walk from p, begun at the moment a, to q: none where the two are one stop
+-- the walk from p, begun at the moment a, to q: none if the two are one stop
 abbrev pub walk_stage : Table → ℕ → ℕ → ℕ → List NumberedStage
 walk_stage table p a q = if p == q then [] else (numbered.Walk p q a (a + unwrap_or (walk table p q) 0) ∷ [])
 
@@ -33,7 +33,8 @@ trip_of table instance = unwrap_or (option_map (λ run. run.trip) (slice_get tab
 abbrev pub trip_id : Table → NameLists → ℕ → List ℕ
 trip_id table names instance = slice_index_or names.trips (trip_of table instance) []
 
--- a ride is told by its leg and trip, and the stop and time at which it boards and alights; a walk by its stops, and when it begins and arrives
+-- a ride is reported by its leg and trip, and the stop and time at which it boards and alights; a walk by its stops, and when it begins and
+-- arrives
 abbrev pub TellsStage : BasisData → NumberedStage → Stage → Type 0
 TellsStage basis (numbered.Ride leg) (stages.Ride ride trip board leaves alight comes) =
     (ride ≡ leg) × (trip ≡ trip_id basis.timetable basis.names leg.instance)

@@ -1,5 +1,5 @@
-//! What the program's questions are asked of: a feed's timetable on the covered days, and the ids of its stops and trips; or the fault
-//! of the feed or its days. It also makes what is printed of a journey: its numbers, and its rides and walks with ids and times.
+//! What the program's questions are asked of: a feed's timetable on the covered days, and the ids of its stops and trips; or the
+//! fault of the feed or its days. It also makes what is printed of a journey: its numbers, and its rides and walks with ids and times.
 #![tactic(auto)]
 
 mod basis;

@@ -19,7 +19,7 @@ pub enum NumberedStage {
     },
 }
 
-// Puts in the walk between two stops that begins at the moment, where they are two.
+// Puts in the walk between two stops that begins at the moment, if they are two.
 fn push_walk(
     stages: &mut Vec<NumberedStage>,
     table: &Timetable,
@@ -42,8 +42,7 @@ fn push_walk(
     Ok(())
 }
 
-/// The rides and walks of one who is at a stop at the moment, takes the legs, and goes to another stop. It fails only where
-/// memory runs out.
+/// The rides and walks of one who is at a stop at the moment, takes the legs, and goes to another stop. It fails only if memory runs out.
 pub fn numbered_stages(
     alloc: Global,
     table: &Timetable,

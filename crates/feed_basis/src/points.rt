@@ -11,7 +11,7 @@ use answer_lines::Point;
 use std::alloc::{AllocError, Global};
 use timetable::{LATEST_MOMENT, Numbers};
 
-/// Each of these numbers as a point, without rides and walks. It fails only where memory runs out.
+/// Each of these numbers as a point, without rides and walks. It fails only if memory runs out.
 pub fn points_of(alloc: Global, basis: &Basis, front: &[Numbers]) -> Result<Vec<Point>, AllocError>
     ensures { IfOk result (λ points. AllZip (TellsNumbers basis.now) front.now points.items) }
 {

@@ -1,4 +1,4 @@
-//! Rides and walks as they are told.
+//! Rides and walks as they are reported.
 
 ghost use Rattle.std.specs.Prelude.{IfOk};
 ghost use Rattle.std.specs.List.{All, AllZip};
@@ -11,7 +11,7 @@ use answer_lines::Stage;
 use gtfs_tables::Id;
 use std::alloc::{AllocError, Global};
 
-// A ride or a walk, as it is told. It fails only where memory runs out.
+// A ride or a walk, as it is reported. It fails only if memory runs out.
 fn stage_of(alloc: Global, basis: &Basis, stage: NumberedStage) -> Result<Stage, AllocError>
     requires { IsKnownStage basis.now stage }
     ensures { IfOk result (TellsStage basis.now stage) }
@@ -45,7 +45,7 @@ fn stage_of(alloc: Global, basis: &Basis, stage: NumberedStage) -> Result<Stage,
     Ok(told)
 }
 
-/// Rides and walks, as they are told. It fails only where memory runs out.
+/// Rides and walks, as they are reported. It fails only if memory runs out.
 pub fn stages_of(
     alloc: Global,
     basis: &Basis,

@@ -33,14 +33,14 @@ FindsConnections Right found =
 abbrev pub FindsReport : (Report → Type 0) → Found → Type 0
 FindsReport Right found = (report : Report) × (found ≡ founds.Report report) × Right report
 
--- a question between stops, over the timetable alone
+-- a question between stops, over only the timetable
 abbrev pub IsStopAnswer : BasisData → Question → (List ℕ → List ℕ → ℕ → Answer → Type 0) → Result Found Fault → Type 0
 IsStopAnswer basis question Right found =
     (moment : Option ℕ) × IsMoment basis.cover question.day question.seconds moment
     × MatchResult found (FindsAnswer (IsAnswered (stop_alone basis.names) Right basis.timetable moment question))
     (IsUnanswered (stop_alone basis.names) NoneMissing basis.timetable moment question)
 
--- a question between stops for connections, over the timetable alone
+-- a question between stops for connections, over only the timetable
 abbrev pub IsWindowAnswer : BasisData → ℕ → Bool → Question → Within → Result Found Fault → Type 0
 IsWindowAnswer basis k wanted question within found =
     (times : Times) × AreTimesOf basis question within times

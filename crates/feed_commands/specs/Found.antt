@@ -1,4 +1,4 @@
--- How what a command finds is told.
+-- How what a command finds is reported.
 use Rattle.std.specs.Prelude.{◌≡◌, ◌⊎◌, ℕ, List, Result, Ok, Err, String, string_bytes}
 use Rattle.std.specs.Global.{Global}
 use Rattle.answer_lines.specs.Reports.{report_status}
@@ -27,7 +27,7 @@ lines_of (founds.Answer question answer) = tolds.Answer answer
 lines_of (founds.Connections question connections) = tolds.Connections connections
 lines_of (founds.Report report) = tolds.Report report
 
--- the text tells what is found in a format
+-- the text reports, in a format, what is found
 abbrev pub IsTextOf : Telling → Format → BasisData → Found → List ℕ → Type 0
 IsTextOf t format basis (founds.Answer question answer) text = t.tells format basis answer text
 IsTextOf t format basis (founds.Connections question connections) text = t.connects format basis connections text
@@ -55,7 +55,7 @@ abbrev pub IsTold : Telling → Style → BasisData → Result Found Fault → R
 IsTold t style basis (Ok found) told = IsToldAs t style basis found told
 IsTold t style basis (Err fault) told = told ≡ Err fault
 
--- what is found is told and printed, or its fault is said
+-- what is found is reported and printed, or its fault is said
 pub record IsFoundPrinted (t : Telling) (voice : Voice) (basis : BasisData) (found : Result Found Fault) (old new : StreamsData)
     (status : ℕ) : Type 0 where
   pub told : Result Told Fault

@@ -48,8 +48,8 @@ abbrev pub unknown_in : Fault → Option (Bor (List ℕ))
 unknown_in (faults.Question (refusals.UnknownStop id)) = Some id
 unknown_in fault = None
 
--- The id stands first on this line of the file of this path, of two files with these bytes. It is the file of the stops to leave from, or the
--- other one if that one doesn't list the id.
+-- The id stands first on this line of the file of this path, of two files with these bytes. It is the file of the stops to leave from, or
+-- the other one if that one doesn't list the id.
 abbrev pub IsPlace : Question → List ℕ → List ℕ → List ℕ → List ℕ → ℕ → Type 0
 IsPlace question from to id path n =
     ((path ≡ question.from.now) × IsLineOf from id n)

@@ -1,4 +1,4 @@
-//! What a command finds, and how it is told.
+//! What a command finds, and how it is printed.
 
 ghost use Rattle.std.specs.Prelude.{◌≡◌};
 ghost use Rattle.feed_commands.specs.Found.{IsFoundPrinted, IsTold, IsToldIn, found_by, found_status, lines_of};
@@ -147,7 +147,7 @@ fn told<'a, T: Teller>(
     }
 }
 
-/// Prints what a plan found as the voice tells it, or says its fault. Gives the status.
+/// Prints what a plan found as the voice says it, or says its fault. Gives the status.
 pub fn finish_found<'a, T: Teller, O: Write + Drop, E: Write + Drop>(
     alloc: Global,
     teller: &T,

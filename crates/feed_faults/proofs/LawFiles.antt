@@ -28,7 +28,7 @@ use Rattle.file_faults.specs.Seen.{passing}
 use Rattle.file_faults.specs.Tables.{calendar_dates_faults, calendar_faults, call_columns, call_row_tests, columns_test, date_tests, distinct_ids, frequencies_faults, has_few_ids, ids_known, row_faults, size_test, start_tests, stop_times_faults, stops_faults, transfers_faults, trip_faults, trips_faults, trips_known}
 use Rattle.feed_faults.proofs.LawFacts.{Agree, agree-append, agree-each, agree-else, agree-file, agree-optional, agree-plain, agree-rows, agree-table, apart-to}
 
--- where all rows pass their tests, each row passes those in front
+-- if all rows pass their tests, each row passes those at the front
 passing-all : (tests front : ℕ → List Test) → ((row : ℕ) → first_fault (tests row) ≡ None → first_fault (front row) ≡ None) → (rows : List ℕ)
     → first_fault (flat_map tests rows) ≡ None → passing front rows ≡ rows
 passing-all tests front go [] passed = refl

@@ -8,7 +8,7 @@ use Rattle.std.proofs.lemmas.Option.{none-some}
 use Rattle.std.proofs.lemmas.Slice.Eq.{bytes_eq-Decides}
 use Rattle.std.specs.Cmp.Lexicographic.{nat_list_eq_equiv}
 
--- what one more behind others adds to what was found
+-- what one more after others adds to what was found
 abbrev pub found_or : Option ℕ → Bool → ℕ → Option ℕ
 found_or (Some n) here index = Some n
 found_or None here index = cond here (Some index) None

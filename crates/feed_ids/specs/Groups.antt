@@ -2,7 +2,7 @@
 use Rattle.std.specs.Prelude.{ℕ, ◌<◌, List, [], slice_index_or}
 use Rattle.std.specs.List.{All}
 
--- the items of a group, none where there is no such group
+-- the items of a group, none if there is no such group
 abbrev pub group : {X : Type 0} → List (List X) → ℕ → List X
 group groups n = slice_index_or groups n []
 

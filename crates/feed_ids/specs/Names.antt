@@ -29,12 +29,12 @@ abbrev pub stops_in : Place → List ℕ
 stops_in (places.Stop stop) = stop ∷ []
 stops_in (places.Station stops) = stops.now
 
--- the stop alone, where there is one, else the others
+-- only the stop, if there is one, else the others
 abbrev pub one_or : Option ℕ → Option (List ℕ) → Option (List ℕ)
 one_or (Some stop) others = Some (stop ∷ [])
 one_or None others = others
 
--- the stop of the id, else the stops of the station of the id, in the order of their numbers; none where the id names nothing
+-- the stop of the id, else the stops of the station of the id, in the order of their numbers; none if the id names nothing
 abbrev pub stops_at : NameLists → List ℕ → Option (List ℕ)
 stops_at names id = one_or (stop_named names id) (option_map (group names.children) (station_named names id))
 

@@ -11,7 +11,7 @@ use std::collections::HashMap;
 use std::hash::RandomState;
 use std::marker::Model;
 
-// The index of each id among others: the first where there are several.
+// The index of each id among others: the first if there are several.
 type Numbers = HashMap<String, usize, RandomState>;
 
 /// Ids in their order, and the index of each.

@@ -87,7 +87,7 @@ impl Names {
         self.trips[number as usize].as_str()
     }
 
-    /// The stop of that id; none where the id names a station or nothing.
+    /// The stop of that id; none if the id names a station or nothing.
     pub fn stop_named(&self, id: &str) -> Option<StopId>
         ensures value { result ≡ stop_named self.now id.now }
         ensures known { IfSome result (λ stop. stop < length self.now.stops) }

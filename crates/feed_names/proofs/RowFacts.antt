@@ -42,14 +42,14 @@ row_before table column row id below =
     let e : drop row table ≡ get_or table row [] ∷ drop (row + 1) table = drop-cons table row [] below ∙ ap (λ n. get_or table row [] ∷ drop n table) (sym (add-one row)) in
     ap (position_from (λ fields. bytes_eq id (get_or fields column [])) row) e
 
--- behind the last row
+-- after the last row
 pub row_behind : (table : Table) (column : ℕ) (id : List ℕ) → row_from table column (row_count table + 1) id ≡ None
 row_behind table column id =
     let far : length table ≤ row_count table + 1 = omega arith in
     let e : drop (row_count table + 1) table ≡ [] = drop_of_length-le table far in
     ap (position_from (λ fields. bytes_eq id (get_or fields column [])) (row_count table + 1)) e
 
--- the row is kept for its own id, where that is asked for
+-- the row is kept for its own id, if that is asked for
 pub kept : (key : Bor (List ℕ)) (old new : BTreeMap (Bor (List ℕ)) ℕ) (row : ℕ)
     → UpdatesBy (λ x y. slice_cmp nat_cmp x.now y.now) (λ k. slice_cmp nat_cmp key.now k.now) old new (Some row)
     → (q : List ℕ) → row_of new q ≡ cond (bytes_eq q key.now) (Some row) (row_of old q)

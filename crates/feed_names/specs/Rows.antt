@@ -1,4 +1,4 @@
--- Which row of a file tells of an id.
+-- Which row of a file is about an id.
 -- GTFS Schedule reference: an id is unique in its file. A feed may break that in a file that no answer is read from: the first row counts.
 use Rattle.std.specs.Prelude.{ℕ, Bool, List, [], drop, get_or, Option, None, Some}
 use Rattle.std.specs.List.{list_any, position_from}
@@ -14,12 +14,12 @@ use denote.Ref.{Bor}
 abbrev pub first_row : Table → ℕ → List ℕ → Option ℕ
 first_row table column id = position_from (λ fields. bytes_eq id (get_or fields column [])) 1 (drop 1 table)
 
--- the same in the column of a name: none where there is no such column
+-- the same in the column of a name: none if there is no such column
 abbrev pub first_row_in : Table → Option ℕ → List ℕ → Option ℕ
 first_row_in table None id = None
 first_row_in table (Some column) id = first_row table column id
 
--- what a row has in the column of a name: nothing where there is no such column
+-- what a row has in the column of a name: nothing if there is no such column
 abbrev pub text_in : Table → ℕ → Option ℕ → List ℕ
 text_in table row None = []
 text_in table row (Some column) = cell table row column

@@ -23,12 +23,12 @@ pub record IsRouteName (table : Table) (row : ℕ) (route : RouteName) : Type 0 
   pub short_name : string_bytes route.short_name ≡ text_at table row (codes "route_short_name")
   pub long_name : string_bytes route.long_name ≡ text_at table row (codes "route_long_name")
 
--- what is told of an id is what the first row tells that has it in the column of ids; nothing where there is no such row
+-- what is said of an id is what the first row says that has it in the column of ids; nothing if there is no such row
 abbrev pub IsNamed : {X : Type 0} → (Table → ℕ → X → Type 0) → Table → List ℕ → List ℕ → Option X → Type 0
 IsNamed tells table key id None = first_row_in table (column_of table key) id ≡ None
 IsNamed tells table key id (Some name) = (row : ℕ) × (first_row_in table (column_of table key) id ≡ Some row) × tells table row name
 
--- the sheet of a file's records where each of them is UTF-8
+-- the sheet of a file's records if each of them is UTF-8
 abbrev pub IsSheetOf : List ℕ → Option Table → Type 0
 IsSheetOf bytes None = (row : ℕ) × (bad_record (records_of bytes) ≡ Some row)
 IsSheetOf bytes (Some table) = (bad_record (records_of bytes) ≡ None) × (table ≡ table_of (records_of bytes))

@@ -8,7 +8,7 @@ use std::alloc::{AllocError, Global};
 use std::io::ErrorKind;
 use std::{format, fs};
 
-// The bytes of the file of that name in the folder: none where it can't be read. It fails only where memory runs out.
+// The bytes of the file of that name in the folder: none if it can't be read. It fails only if memory runs out.
 fn bytes_of(
     rt: &HostRuntime,
     alloc: Global,
@@ -25,7 +25,7 @@ fn bytes_of(
     }
 }
 
-/// The sheet of a file's bytes, none where one of its records isn't UTF-8. It fails only where memory runs out.
+/// The sheet of a file's bytes, none if one of its records isn't UTF-8. It fails only if memory runs out.
 pub fn sheet_of(alloc: Global, bytes: Vec<u8>) -> Result<Option<Sheet>, AllocError>
     ensures { IfOk result (IsSheetOf bytes.items) }
 {
@@ -36,8 +36,8 @@ pub fn sheet_of(alloc: Global, bytes: Vec<u8>) -> Result<Option<Sheet>, AllocErr
     }
 }
 
-/// The sheet of the file of that name in a feed's folder; none where it isn't there, can't be read, or has a record that isn't UTF-8: that
-/// is no fault here, and ids stand for names. It fails only where memory runs out.
+/// The sheet of the file of that name in a feed's folder; none if it isn't there, can't be read, or has a record that isn't UTF-8. That is
+/// no fault here, and ids stand for names. It fails only if memory runs out.
 pub fn open_names(
     rt: &HostRuntime,
     alloc: Global,

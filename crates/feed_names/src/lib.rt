@@ -1,4 +1,4 @@
-//! What a feed tells people of its stops, trips and routes, by their ids: texts to be shown, on which no answer stands.
+//! What a feed says to people of its stops, trips and routes, by their ids: texts to be shown, on which no answer stands.
 #![tactic(auto)]
 
 mod files;

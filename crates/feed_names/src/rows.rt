@@ -1,4 +1,4 @@
-//! The rows of a file that tell of ids.
+//! The rows of a file that are about ids.
 
 ghost use Rattle.std.specs.Prelude.{◌≡◌, ℕ, List, true, IfOk};
 ghost use Rattle.gtfs_text.specs.Sheets.{column_of};
@@ -19,7 +19,7 @@ fn set_of<'a>(alloc: Global, ids: &[&'a str]) -> Result<BTreeSet<&'a str>, Alloc
     Ok(set)
 }
 
-// For each of the ids that are asked for the number of the first row that has it in the column, where one does.
+// For each of the ids that are asked for the number of the first row that has it in the column, if one does.
 fn rows_by<'a>(
     alloc: Global,
     sheet: &'a Sheet,
@@ -41,8 +41,8 @@ fn rows_by<'a>(
     Ok(rows)
 }
 
-/// For each of these ids the number of the first row that has it in the column of this name, where one does; rows are numbered from 1. It
-/// fails only where memory runs out. The time grows with the rows, not with the rows times the ids.
+/// For each of these ids the number of the first row that has it in the column of this name, if one does. Rows are numbered from 1. It
+/// fails only if memory runs out. The time grows with the rows, not with the rows times the ids.
 pub fn first_rows<'a>(
     alloc: Global,
     sheet: &'a Sheet,

@@ -11,7 +11,7 @@ use gtfs_text::Sheet;
 use std::alloc::{AllocError, Global};
 use std::collections::BTreeMap;
 
-// What a row has in the column of that name: nothing where there is no such column.
+// What a row has in the column of that name: nothing if there is no such column.
 fn text_at(alloc: Global, sheet: &Sheet, row: usize, name: &str) -> Result<String, AllocError>
     requires { row < length sheet.now }
     ensures { IfOk result (λ text. string_bytes text ≡ text_at sheet.now row name.now) }
@@ -22,7 +22,7 @@ fn text_at(alloc: Global, sheet: &Sheet, row: usize, name: &str) -> Result<Strin
     }
 }
 
-/// What a row of a file tells people of the thing that it is about.
+/// What a row of a file says to people of the thing that it is about.
 pub trait NamedRow: Sized + Drop {
     ghost key: { List ℕ };
 
@@ -37,7 +37,7 @@ pub trait NamedRow: Sized + Drop {
         ensures { IfOk result (tells sheet.now row) };
 }
 
-/// What stops.txt tells people of a stop or a station: each text is empty where the feed has none.
+/// What stops.txt says to people of a stop or a station: each text is empty if the feed has none.
 #[derive(Debug, Drop, PartialEq, Eq)]
 pub struct StopName {
     /// `stop_name`.
@@ -72,7 +72,7 @@ impl NamedRow for StopName {
     }
 }
 
-/// What trips.txt tells people of a trip: each text is empty where the feed has none.
+/// What trips.txt says to people of a trip: each text is empty if the feed has none.
 #[derive(Debug, Drop, PartialEq, Eq)]
 pub struct TripName {
     /// `route_id`.
@@ -104,7 +104,7 @@ impl NamedRow for TripName {
     }
 }
 
-/// What routes.txt tells people of a route: each text is empty where the feed has none.
+/// What routes.txt says to people of a route: each text is empty if the feed has none.
 #[derive(Debug, Drop, PartialEq, Eq)]
 pub struct RouteName {
     /// `route_short_name`, as the number of a bus.
@@ -133,7 +133,7 @@ impl NamedRow for RouteName {
     }
 }
 
-// What a file tells people of an id, by the rows of ids.
+// What a file says to people of an id, by the rows of ids.
 fn name_of<T: NamedRow>(
     alloc: Global,
     sheet: &Sheet,
@@ -149,8 +149,8 @@ fn name_of<T: NamedRow>(
     }
 }
 
-/// What a file tells people of each of these ids, by the first row that has the id: none where no row has it, or where the file has no
-/// column for ids. It fails only where memory runs out.
+/// What a file says to people of each of these ids, by the first row that has the id. None if no row has it, or if the file has no column
+/// for ids. It fails only if memory runs out.
 pub fn names_of<T: NamedRow>(
     alloc: Global,
     sheet: &Sheet,

@@ -1,4 +1,4 @@
--- How many of each a feed has, from the bytes of its files on; or why that isn't told.
+-- How many of each a feed has, from the bytes of its files on; or why that isn't reported.
 -- GTFS Schedule reference, "Dataset files": calendar.txt, calendar_dates.txt, transfers.txt and frequencies.txt may be left out.
 use Rattle.std.specs.Prelude.{◌≡◌, ◌↔◌, Bool, true, false, IsTrue, Option, None, length, sum_by}
 use Rattle.jiff_core.specs.declared.civil.date.Date.{Date}
@@ -66,7 +66,7 @@ IsReadingFault feed faults.FileTooLarge = ⊥
 IsReadingFault feed (faults.Part path f) = ⊥
 IsReadingFault feed (faults.OtherTree stop part before) = ⊥
 
--- where the system gave no randomness for hash keys, that is the fault, whatever the feed is
+-- if the system gave no randomness for hash keys, that is the fault, whatever the feed is
 abbrev pub IsCheckFault : Bool → Feed → Fault → Type 0
 IsCheckFault false feed fault = fault ≡ faults.NoRandomness
 IsCheckFault true feed fault = IsReadingFault feed fault

@@ -20,7 +20,7 @@ pub struct NamedStop<'a> {
     pub name: &'a str,
 }
 
-/// A fault, as it is told to machines.
+/// A fault, as it is reported to machines.
 #[derive(Clone, Copy)]
 pub struct FaultText<'a> {
     /// As `F3`; none if the fault has no code.
@@ -29,7 +29,7 @@ pub struct FaultText<'a> {
     pub name: &'a str,
     /// The feed's file that is at fault.
     pub file: Option<&'a str>,
-    /// Its row, from 1 behind the header; 0 for the header or the whole file.
+    /// Its row, from 1 after the header; 0 for the header or the whole file.
     pub row: Option<usize>,
     /// The id that the fault is about.
     pub id: Option<&'a str>,
@@ -57,7 +57,7 @@ fn write_given(out: &mut JsonWriter, given: &[GivenText<'_>]) {
     out.end_list();
 }
 
-// Writes stops and stations, if there are any to tell of.
+// Writes stops and stations, if there are any to report.
 fn write_stops(out: &mut JsonWriter, stops: &Option<&[NamedStop<'_>]>) {
     let Some(stops) = stops else {
         out.null();

@@ -54,7 +54,7 @@ instances_from t start day trip =
 abbrev pub instances_on : TableValues → CoverDays → ℕ → ℕ → List Run
 instances_on t c day trip = instances_from t (slice_index c.starts day) day trip
 
--- of calls those that don't depart before so long after the start of their day, counted from then; an arrival before is then
+-- of calls those that don't depart earlier than `before` seconds after the start of their day, counted from then; an arrival before is then
 abbrev pub calls_left : ℕ → List Call → List Call
 calls_left before calls =
     map (λ call. record {

@@ -70,7 +70,7 @@ fn few_instances(
     Ok(counts.instances)
 }
 
-// The walks and changes of all stops by the index of the tables, where the walks aren't too many.
+// The walks and changes of all stops by the index of the tables, if the walks aren't too many.
 fn few_ways_by(
     alloc: Global,
     tables: &Tables,

@@ -5,7 +5,7 @@ use std::alloc::{AllocError, Global};
 use std::io::ErrorKind;
 use std::{format, fs};
 
-// The line of a folder that the system doesn't tell of.
+// The line of a folder that the system reports nothing of.
 fn error_line(alloc: Global, folder: &str, kind: ErrorKind) -> Result<String, AllocError> {
     match kind {
         ErrorKind::NotFound => format!(in alloc; "There is no folder \"{}\".\n", Shown(folder)),

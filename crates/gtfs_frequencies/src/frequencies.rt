@@ -168,7 +168,7 @@ fn read_sheet(
 /// Reads frequencies.txt (GTFS Schedule reference, frequencies.txt): one value for each row that isn't blank, in file order; none
 /// if there is no such file. Rows are counted from 1, and a trip has the number of its id in `trips`.
 ///
-/// The error is the first of these, with its row: `BadCsv` for a record that isn't UTF-8, where the header is row 0;
+/// The error is the first of these, with its row: `BadCsv` for a record that isn't UTF-8, with the header as row 0;
 /// `MissingColumn`, row 0, if one of the four columns isn't there; then row by row `UnknownReference` for a trip that isn't in
 /// `trips`, `BadField` for a `start_time` or an `end_time` that is no time, for a `headway_secs` that is no whole number from 1 on
 /// and for an `exact_times` that is neither empty nor `0` nor `1`, and `DuplicateKey` if an earlier row has the trip and the

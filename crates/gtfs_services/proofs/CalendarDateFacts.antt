@@ -67,7 +67,7 @@ and_parts true true false h = absurd (cc h)
 and_parts true false c h = absurd (cc h)
 and_parts false b c h = absurd (cc h)
 
--- dates have one year, month and day exactly where they are one day
+-- dates have one year, month and day exactly if they are one day
 same_days : (a b : Date) → ((int_eq a.year b.year && int_eq (pos a.month) (pos b.month)) && int_eq (pos a.day) (pos b.day)) ≡ int_eq (epoch_day a) (epoch_day b)
 same_days a b =
     both_ways ((int_eq a.year b.year && int_eq (pos a.month) (pos b.month)) && int_eq (pos a.day) (pos b.day)) (int_eq (epoch_day a) (epoch_day b))
@@ -91,7 +91,7 @@ any_is a (b ∷ bs) = λ k. same_is a b k || any_is a bs k
 abbrev pub row_parts : Table → ℕ → Parts
 row_parts table row = parts_of (service_date table row)
 
--- a set of the keys of the rows so far lacks a key exactly where no row before this one names its service and its day
+-- a set of the keys of the rows so far lacks a key exactly if no row before this one names its service and its day
 pub key_is_new : (table : Table) (given : List ℕ) (row : ℕ) (keys : List Key) (key : Key) → IsTurn table given row → parts_in keys ≡ map (row_parts table) given
     → ◌≡◌ {A = Parts} (key.0.now, key.1, key.2, key.3) (row_parts table row) → not (list_any (same_key key) keys) ≡ is_new_date table row
 key_is_new table given row keys key turn holds same =

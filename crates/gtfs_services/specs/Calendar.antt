@@ -29,7 +29,7 @@ weekdays = codes "monday" ∷ codes "tuesday" ∷ codes "wednesday" ∷ codes "t
 abbrev pub weekday_texts : Table → ℕ → List (List ℕ)
 weekday_texts table row = map (λ weekday. text_at table weekday row) weekdays
 
--- whether the service runs on the weekday: 1 where it does, 0 where it doesn't
+-- whether the service runs on the weekday: 1 if it does, 0 if it doesn't
 abbrev pub flag_of : List ℕ → Option Bool
 flag_of text = if bytes_eq text (codes "0") then Some false else (if bytes_eq text (codes "1") then Some true else None)
 
@@ -39,7 +39,7 @@ is_flag text = is_some (flag_of text)
 abbrev pub is_marked : List ℕ → Bool
 is_marked text = unwrap_or (flag_of text) false
 
--- on which weekdays it runs, where each text says it
+-- on which weekdays it runs, if each text says it
 abbrev pub weekdays_in : List (List ℕ) → Option (List Bool)
 weekdays_in texts = if list_all is_flag texts then Some (map is_marked texts) else None
 

@@ -26,7 +26,7 @@ date table row = text_at table (codes "date") row
 abbrev pub exception_type : Table → ℕ → List ℕ
 exception_type table row = text_at table (codes "exception_type") row
 
--- what an exception_type says of its date: 1 where service has been added, 2 where it has been removed
+-- what an exception_type says of its date: 1 if service has been added, 2 if it has been removed
 abbrev pub change_of : List ℕ → Option DateChange
 change_of text = if bytes_eq text (codes "1") then Some Added else (if bytes_eq text (codes "2") then Some Removed else None)
 

@@ -1,4 +1,4 @@
--- The dates that fields name, as dates of the crate jiff. GTFS Schedule reference, "Field types", Date.
+-- The dates that fields name. GTFS Schedule reference, "Field types", Date.
 use Rattle.std.specs.Prelude.{◌≡◌, ◌≤◌, ℕ, Bool, true, false, List, Some, take, drop, max, min, ℤ, pos, is_some, cond, ◌==◌, ◌||◌}
 use Rattle.std.specs.Int.{IsInRange}
 use Rattle.std.proofs.Common.{lit≤}
@@ -33,7 +33,7 @@ has_days year month =
       ]
     ]
 
--- the date of a year, a month and a day; where the calendar has no such day, each is brought to the nearest number that a date takes
+-- the date of a year, a month and a day; if the calendar has no such day, each is brought to the nearest number that a date takes
 unfoldable pub date_near : ℕ → ℕ → ℕ → Date
 date_near year month day =
     let y = pos (nearest 0 9999 year) in
@@ -52,6 +52,6 @@ date_near year month day =
 unfoldable pub date_at : List ℕ → Date
 date_at text = date_near (decimal (take 4 text)) (decimal (take 2 (drop 4 text))) (decimal (drop 6 text))
 
--- where a text names a day of the calendar, its date has that year, month and day
+-- if a text names a day of the calendar, its date has that year, month and day
 abbrev pub DatesAreNamed : Type 0
 DatesAreNamed = (text : List ℕ) (day : ℤ × ℕ × ℕ) → date_of text ≡ Some day → ymd (date_at text) ≡ day

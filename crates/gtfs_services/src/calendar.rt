@@ -65,7 +65,7 @@ fn flag(text: &str) -> Option<bool>
     }
 }
 
-// On which weekdays a row's service runs, where each field says it.
+// On which weekdays a row's service runs, if each field says it.
 fn weekdays_of(sheet: &Sheet, columns: &[Option<usize>; 7], row: usize) -> Option<[bool; 7]>
     requires { row < length sheet.now }
     ensures { result ≡ weekdays_in (map (λ column. text_under sheet.now column row) columns.now) }
@@ -115,7 +115,7 @@ pub fn read_row(
     })
 }
 
-// The rows, where each passes its tests. Their services join `services`.
+// The rows, if each passes its tests. Their services join `services`.
 fn keep_rows<'a>(
     alloc: Global,
     sheet: &'a Sheet,
@@ -135,7 +135,7 @@ fn keep_rows<'a>(
     Ok(rows)
 }
 
-// The rows, where each passes its tests.
+// The rows, if each passes its tests.
 fn read_rows(
     alloc: Global,
     hash_keys: RandomState,
@@ -150,7 +150,7 @@ fn read_rows(
     keep_rows(alloc, sheet, columns, &mut services)
 }
 
-// The rows of the file, where each of its tests holds.
+// The rows of the file, if each of its tests holds.
 fn read_sheet(
     alloc: Global,
     hash_keys: RandomState,
@@ -170,10 +170,10 @@ fn read_sheet(
 }
 
 /// Reads calendar.txt (GTFS Schedule reference, calendar.txt): one value for each row that isn't blank, in file order;
-/// none where there is no such file. Rows are counted from 1. An end date may stand before its start date.
+/// none if there is no such file. Rows are counted from 1. An end date may stand before its start date.
 ///
-/// The error is the first of these, with its row: `BadCsv` for a record that isn't UTF-8, where the header is row 0;
-/// `MissingColumn`, row 0, where one of the ten columns isn't there; then row by row `BadField` for an empty
+/// The error is the first of these, with its row: `BadCsv` for a record that isn't UTF-8 (the header is row 0);
+/// `MissingColumn`, row 0, if one of the ten columns isn't there; then row by row `BadField` for an empty
 /// `service_id`, `DuplicateKey` for one that an earlier row has, `BadField` for a weekday that is neither `0` nor `1`,
 /// and `BadField` for a date that is no day of the calendar; then `TooMany`, row 0, for more than 999,999,999 rows, blank
 /// ones among them. `ReadFailed` and `Memory` can come in place of any answer. Services are looked up under `hash_keys`, which

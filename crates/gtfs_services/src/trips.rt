@@ -89,7 +89,7 @@ fn test_rows<'a>(
     Ok(())
 }
 
-// The trips. The texts of services join `services`, where a service's number is its index.
+// The trips. The texts of services join `services`, in which a service's number is its index.
 fn keep_trips<'a>(
     alloc: Global,
     sheet: &'a Sheet,
@@ -144,7 +144,7 @@ fn keep_rows(
 
 /// Reads trips.txt (GTFS Schedule reference, trips.txt): each row that isn't blank is a trip. Rows are counted from 1.
 ///
-/// The error is the first of these, with its row: `MissingColumn`, row 0, where there is no column `trip_id` or no
+/// The error is the first of these, with its row: `MissingColumn`, row 0, if there is no column `trip_id` or no
 /// `service_id`; then row by row `BadField` for an empty `trip_id`, `DuplicateKey` for one that an earlier row has, and
 /// `BadField` for an empty `service_id`; then `TooMany`, row 0, for more than 999,999,999 rows, blank ones among them.
 /// `Memory` can come in place of any answer. Texts are looked up under `hash_keys`, which nobody who writes a feed can know.

@@ -8,7 +8,7 @@ use Rattle.gtfs_rows.specs.Rows.{is_empty}
 use Rattle.gtfs_stops.specs.declared.stops.RowKind.TheVariants as row_kinds
 use Rattle.gtfs_stops.specs.Stops.{ids_of_kind, parent_station, rows_of_kind, stop_among, stops_tests}
 
--- a row's stop has no station where the row names no parent_station, else the number of the station that it names
+-- a row's stop has no station if the row names no parent_station, else the number of the station that it names
 pub record HasItsStation (table : Table) (row : ℕ) : Type 0 where
   pub alone : is_empty (parent_station table row) ≡ true → (stop_among (ids_of_kind row_kinds.Station table) table row).station ≡ None
   pub named : is_empty (parent_station table row) ≡ false → IsSomeAnd (stop_among (ids_of_kind row_kinds.Station table) table row).station

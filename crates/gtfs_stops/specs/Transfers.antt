@@ -52,7 +52,7 @@ is_of_trips table row =
     not (is_empty (text_at table (codes "from_route_id") row) && is_empty (text_at table (codes "to_route_id") row)
     && is_empty (text_at table (codes "from_trip_id") row) && is_empty (text_at table (codes "to_trip_id") row))
 
--- a row is about two places alone; the others are skipped
+-- a row is about only two places; the others are skipped
 abbrev pub is_between_places : Table → ℕ → Bool
 is_between_places table row = is_some (type_of (type_text table row)) && not (is_of_trips table row)
 

@@ -200,7 +200,7 @@ fn keep_stations(alloc: Global, ids: &Texts<'_>) -> Result<Vec<Station>, AllocEr
     Ok(stations)
 }
 
-// Adds the ids of the file, where each of its tests holds.
+// Adds the ids of the file, if each of its tests holds.
 fn add_ids<'a>(
     sheet: &'a Sheet,
     columns: StopColumns,
@@ -230,7 +230,7 @@ fn add_ids<'a>(
     Ok(())
 }
 
-// The stops and the stations of the file, where each of its tests holds. Its ids join `ids`.
+// The stops and the stations of the file, if each of its tests holds. Its ids join `ids`.
 fn read_rows<'a>(
     alloc: Global,
     sheet: &'a Sheet,
@@ -252,7 +252,7 @@ fn read_rows<'a>(
     Ok((stops, keep_stations(alloc, &ids.stations)?))
 }
 
-/// The rows of stops.txt, where each of its tests holds.
+/// The rows of stops.txt, if each of its tests holds.
 pub fn read_stops(
     alloc: Global,
     hash_keys: RandomState,

@@ -89,7 +89,7 @@ fn is_of_trips(sheet: &Sheet, columns: TransferColumns, row: usize) -> bool
         && text_under(sheet, columns.to_trip, row).is_empty())
 }
 
-// The type of a row that is about two places alone.
+// The type of a row that is about only two places.
 fn type_between_places(sheet: &Sheet, columns: TransferColumns, row: usize) -> Option<TransferType>
     requires row { row < length sheet.now }
     requires columns { AreTransferColumns sheet.now columns }
@@ -173,7 +173,7 @@ fn first_wrong(knows_from: bool, knows_to: bool, time_stands: bool) -> Option<Fa
     }
 }
 
-// What is wrong with the places or the time of a row that is about two places alone.
+// What is wrong with the places or the time of a row that is about only two places.
 fn place_fault(
     sheet: &Sheet,
     columns: TransferColumns,
@@ -240,7 +240,7 @@ fn transfer_between(
     }
 }
 
-// The transfer of a row: none where the row is skipped.
+// The transfer of a row: none if the row is skipped.
 fn kept_row(
     sheet: &Sheet,
     columns: TransferColumns,
@@ -263,7 +263,7 @@ fn kept_row(
     }
 }
 
-// The rows that are kept, where each passes its tests, and how many were skipped.
+// The rows that are kept, if each passes its tests, and how many were skipped.
 fn read_rows(
     alloc: Global,
     sheet: &Sheet,
@@ -292,7 +292,7 @@ fn read_rows(
     Ok(TransferRows { transfers, skipped })
 }
 
-/// The rows of transfers.txt that are kept, where each of its tests holds. Stops and stations are numbered as these ids are.
+/// The rows of transfers.txt that are kept, if each of its tests holds. Stops and stations are numbered as these ids are.
 pub fn read_transfers(
     alloc: Global,
     sheet: &Sheet,

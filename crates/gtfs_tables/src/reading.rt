@@ -31,7 +31,7 @@ use std::alloc::Global;
 use std::hash::RandomState;
 use std::io::Read;
 
-/// The files of a feed, each as a reader where it is there.
+/// The files of a feed, each as a reader if it is there.
 #[derive(Drop)]
 pub struct Files<R> {
     pub stops: Option<R>,
@@ -43,7 +43,7 @@ pub struct Files<R> {
     pub frequencies: Option<R>,
 }
 
-// The rows of transfers.txt that are kept; none where there is no such file.
+// The rows of transfers.txt that are kept; none if there is no such file.
 fn read_optional_transfers<R: Read + Drop>(
     alloc: Global,
     reader: Option<R>,
@@ -166,7 +166,7 @@ fn read_links<R: Read + Drop>(
     })
 }
 
-// The files that name stops and trips, each as a reader where it is there.
+// The files that name stops and trips, each as a reader if it is there.
 #[derive(Drop)]
 struct ConnectionFiles<R> {
     calendar: Option<R>,
@@ -219,7 +219,7 @@ fn read_connections<R: Read + Drop>(
     Ok(Connections { times, links })
 }
 
-// The files of a schedule, each as a reader where it is there.
+// The files of a schedule, each as a reader if it is there.
 #[derive(Drop)]
 struct ScheduleFiles<R> {
     trips: Option<R>,
@@ -257,7 +257,7 @@ fn read_schedule<R: Read + Drop>(
     })
 }
 
-// The schedule, under ids that nobody needs behind it.
+// The schedule, under ids that nobody needs after it.
 fn schedule_of<R: Read + Drop>(
     alloc: Global,
     hash_keys: RandomState,
@@ -348,9 +348,9 @@ fn tables_of(rows: FeedRows) -> Tables
     }
 }
 
-/// Reads the seven files of a feed (GTFS Schedule reference): the values of their rows where every test of the feed holds,
-/// else the fault of the first that doesn't, by the order of files, rows and tests in docs/FORMATS.md. `ReadFailed`, where a
-/// file's reader fails, and `Memory` can come in place of any answer.
+/// Reads the seven files of a feed (GTFS Schedule reference): the values of their rows if every test of the feed holds, else the fault of
+/// the first that doesn't. The order is that of files, rows and tests in docs/FORMATS.md. `ReadFailed`, if a file's reader
+/// fails, and `Memory` can come in place of any answer.
 ///
 /// Ids are looked up under `hash_keys`, which nobody who writes a feed can know.
 pub fn read_tables<R: Read + Drop>(

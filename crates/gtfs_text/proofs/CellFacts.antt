@@ -22,7 +22,7 @@ field_is [] i = refl
 field_is (f ∷ fs) zero = refl
 field_is (f ∷ fs) (suc i) = field_is fs i
 
--- csv's word has a field where the record reaches it
+-- csv's word has a field if the record reaches it
 pub field_reached : (fields : List (List ℕ)) (i : ℕ) → i < length fields → field_at fields i ≡ None → ⊥
 unfolding field_at
 field_reached [] i within none = absurd (omega arith)
@@ -33,7 +33,7 @@ field_reached (f ∷ fs) (suc i) within none = field_reached fs i (omega arith) 
 pub row_is : (records : List (List ℕ)) (row : ℕ) (packed : List ℕ) → packed ≡ get_or records row [] → unpacked packed ≡ get_or (map unpacked records) row []
 row_is records row packed is = ap unpacked is ∙ rw (unpacked_none [] refl) at (sym (at_map unpacked records row []))
 
--- a test of the first fields is a test by columns, where it holds of nothing
+-- a test of the first fields is a test by columns, if it holds of nothing
 shifted : (p : List ℕ → Bool) (f : List ℕ) (fs : List (List ℕ)) (from n : ℕ) → list_all (λ column. p (get_or (f ∷ fs) column [])) (range_with_len (from + 1) n) ≡ list_all (λ column. p (get_or fs column [])) (range_with_len from n)
 shifted p f fs from zero = refl
 shifted p f fs from (suc n) = let here : get_or (f ∷ fs) (from + 1) [] ≡ get_or fs from [] = rw add-one refl in rw (here, shifted p f fs (from + 1) n) refl

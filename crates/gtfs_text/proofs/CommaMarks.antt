@@ -65,7 +65,7 @@ marks_after line at next left bit after marks low below gone kept = record {
   kept = λ k bound from. kept k bound (λ same. absurd (omega (arith, from, same))) ∙ marks.kept k bound (omega (arith, from, low));
 }
 
--- where no mark is left, no comma is
+-- if no mark is left, no comma is
 pub none_unmarked : (line : List ℕ) (at next left : ℕ) → MarksCommas line at next left → HasNoComma line next at → left ≡ 0 → HasNoComma line next (at + 64)
 none_unmarked line at next left marks none empty k from to = elim (cases_lt k at) [
   | inl before ↦ none k from before

@@ -1,4 +1,4 @@
--- What stands behind the laws of sheets and values.
+-- What the laws of sheets and values rest on.
 use Rattle.std.proofs.Common.{◌≡◌, ◌≢◌, ℕ, suc, ◌+◌, ◌-◌, ◌≤◌, Bool, true, false, List, [], ◌∷◌, ◌++◌, length, take, drop, get_or, refl, cond, arith, sym, ◌∙◌, ap, nat_eq, nat_le, ◌&&◌, Some, None, replicate, length-append, append_assoc}
 use Rattle.std.proofs.lemmas.List.{take-append-drop, drop-drop}
 use Rattle.std.proofs.Math.Seq.{take-append_seam, drop-append_seam, drop-append-add}
@@ -50,7 +50,7 @@ no_length : (xs : List ℕ) → nat_eq (length xs) 0 ≡ true → xs ≡ []
 no_length [] e = refl
 no_length (x ∷ xs) e = absurd (grind (arith, e))
 
--- what is left of a field from its end ends with no space, and begins as the field does where anything is left
+-- what is left of a field from its end ends with no space, and begins as the field does if anything is left
 end_part : (field : List ℕ) → (n : ℕ) × (field ≡ without_end_spaces field ++ replicate n 32) × (get_or (without_end_spaces field) (length (without_end_spaces field) - 1) 0 ≢ 32)
 unfolding without_end_spaces
 end_part [] = (0, refl, λ e. cc e)

@@ -78,7 +78,7 @@ front size rest e =
 abbrev pub fits : List ℕ → Bool
 fits field = nat_lt (length field) (2 ^ 64)
 
--- a field comes back, and what stands behind it
+-- a field comes back, and what stands after it
 field_back : (field : List ℕ) (rest : List ℕ) → fits field ≡ true → (first_field (packed_field field ++ rest) ≡ field) × (next_fields (packed_field field ++ rest) ≡ rest)
 field_back field rest small =
     let some : length field < 2 ^ 64 = ltb-true (length field) (2 ^ 64) small in

@@ -78,7 +78,7 @@ reached_front s xs (r ∷ rs) s2 ys n h =
     let e : suc (length rs) + n ≡ suc (length rs + n) = omega arith in
     rw (e, h.1, h.2, reached_front h.0.1 h.0.2 rs s2 ys n h.3) refl
 
--- where the text ends behind them, those are all its records
+-- if the text ends after them, those are all its records
 pub records_all : (xs : List ℕ) (rows : List (List (List ℕ))) (s2 : State) (ys : List ℕ) → Reached default_config st.StartRecord xs rows s2 ys
     → next_record default_config s2 [] [] ys ≡ None → records default_config xs ≡ rows
 unfolding records_from
@@ -87,7 +87,7 @@ records_all xs rows s2 ys h none =
     let e : length xs + 1 ≡ length rows + suc (length xs - length rows) = omega (arith, few) in
     rw (e, reached_front st.StartRecord xs rows s2 ys (suc (length xs - length rows)) h, none) (append-nil rows)
 
--- where another record follows, it is the next
+-- if another record follows, it is the next
 pub records_next_one : (xs : List ℕ) (rows : List (List (List ℕ))) (s2 : State) (ys : List ℕ) (p : Read) → Reached default_config st.StartRecord xs rows s2 ys
     → next_record default_config s2 [] [] ys ≡ Some p → (more : List (List (List ℕ))) × (records default_config xs ≡ rows ++ p.0 ∷ more)
 unfolding records_from
@@ -114,7 +114,7 @@ text_from_is (f ∷ fs) h =
 pub no_text : (fields : List (List ℕ)) → ¬ (AllText fields) → is_text fields ≡ false
 no_text fields h = elim (is_text fields) as (λ t. is_text fields ≡ t → t ≡ false) [ true ↦ λ e. absurd (h (text_from_is fields e)) | false ↦ λ e. refl ] refl
 
--- the first that isn't text, behind records of text
+-- the first that isn't text, after records of text
 pub bad_behind : (rows : List (List (List ℕ))) (fields : List (List ℕ)) (more : List (List (List ℕ))) (i : ℕ) → list_all is_text rows ≡ true → is_text fields ≡ false
     → position_from (λ fields. not (is_text fields)) i (rows ++ fields ∷ more) ≡ Some (i + length rows)
 bad_behind [] fields more i a b = rw b (ap Some (sym (add-zero i)))
@@ -143,7 +143,7 @@ bad_next xs rows s y f p h text one same bad =
     let test : is_text p.0 ≡ false = no_text p.0 (λ t. bad (rw same t)) in
     rw more.1 (bad_behind rows p.0 more.0 0 text test ∙ ap Some (zero-add (length rows)))
 
--- why a read of a record failed, behind records of text
+-- why a read of a record failed, after records of text
 pub fault_explained : {R : Type 0} (rem : R → Option (List ℕ)) (a b : Reader R) (k : ErrorKind) (xs y : List ℕ) (rows : List (List (List ℕ))) → a.config ≡ default_config
     → source_of rem a ≡ Some y → Reached default_config st.StartRecord xs rows a.state y → list_all is_text rows ≡ true → ExplainsRead rem a b true k
     → Explains (records default_config xs) (fault_at (length rows) k)

@@ -26,7 +26,7 @@ none_before line at n room first none k within = elim (cases_lt k at) [
   | inr from ↦ run_in_chunk_fails is_comma line at 8 n 0 room first k from within
 ]
 
--- a line's fields, where a comma follows the first
+-- a line's fields, if a comma follows the first
 pub cut_at_comma : (line rest after : List ℕ) (comma n : ℕ) → n ≡ position_or_len is_comma line → rest ≡ drop n line → rest ≡ comma ∷ after
     → map without_spaces (between_commas line) ≡ without_spaces (take n line) ∷ map without_spaces (between_commas after)
 cut_at_comma line rest after comma n at is more =
@@ -37,7 +37,7 @@ cut_at_comma line rest after comma n at is more =
     let first : position_or_len is_comma line < length line = rw (← at) within in
     rw behind (rw at (ap (map without_spaces) (slice_split_first is_comma line 0 first)))
 
--- and where none does
+-- and if none does
 pub cut_at_end : (line rest : List ℕ) (n : ℕ) → n ≡ position_or_len is_comma line → rest ≡ drop n line → length rest ≡ 0
     → map without_spaces (between_commas line) ≡ without_spaces (take n line) ∷ []
 cut_at_end line rest n at is none =

@@ -8,7 +8,7 @@ use Rattle.gtfs_text.specs.Values.{decimal, is_digits, time_of}
 abbrev pub byte_order_mark : List ℕ
 byte_order_mark = 239 ∷ 187 ∷ 191 ∷ []
 
--- a file is so many marks and then these bytes, which don't begin with one
+-- a file is `marks` marks and then these bytes, which don't begin with one
 pub record FollowsMarks (file bytes : List ℕ) : Type 0 where
   pub marks : ℕ
   pub whole : file ≡ concat (replicate marks byte_order_mark) ++ bytes
@@ -17,7 +17,7 @@ pub record FollowsMarks (file bytes : List ℕ) : Type 0 where
 abbrev pub MarksGoFromFront : Type 0
 MarksGoFromFront = (file : List ℕ) → FollowsMarks file (without_marks file)
 
--- a field is so many spaces, these bytes, and so many spaces, and the bytes neither begin nor end with a space
+-- a field is `before` spaces, these bytes, and `after` spaces, and the bytes neither begin nor end with a space
 pub record StandsBetweenSpaces (field bytes : List ℕ) : Type 0 where
   pub before : ℕ
   pub after : ℕ
@@ -28,7 +28,7 @@ pub record StandsBetweenSpaces (field bytes : List ℕ) : Type 0 where
 abbrev pub SpacesGoFromEnds : Type 0
 SpacesGoFromEnds = (field : List ℕ) → StandsBetweenSpaces field (without_spaces field)
 
--- a text spells so many seconds: `H:MM:SS`, `HH:MM:SS` or `HHH:MM:SS`, up to 167:59:59
+-- a text spells `value` seconds: `H:MM:SS`, `HH:MM:SS` or `HHH:MM:SS`, up to 167:59:59
 pub record SpellsTime (text : List ℕ) (value : ℕ) : Type 0 where
   pub hours : List ℕ
   pub minutes : List ℕ

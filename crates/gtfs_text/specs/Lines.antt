@@ -46,8 +46,8 @@ pub record EndsWith (file text : List ℕ) : Type 0 where
   pub front : List ℕ
   pub whole : file ≡ front ++ text
 
--- the first records of a text, all UTF-8, are those of the lines at these places of a file; its other records are those of the rest, with
--- which the file ends, which comes after the lines, and which doesn't begin with a mark
+-- The first records of a text, all UTF-8, are those of the lines at these places of a file. Its other records are those of the rest. The
+-- file ends with the rest, which comes after the lines and doesn't begin with a mark.
 pub record AreLines (text file : List ℕ) (places : List Place) (rest : List ℕ) : Type 0 where
   pub whole : records default_config text ≡ rows_at file places ++ records default_config rest
   pub utf8 : list_all is_text (rows_at file places) ≡ true

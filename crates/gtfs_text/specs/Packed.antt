@@ -20,7 +20,7 @@ long_length packed =
     from_le_bytes w64 (get_or packed 1 0 ∷ get_or packed 2 0 ∷ get_or packed 3 0 ∷ get_or packed 4 0 ∷ get_or packed 5 0
     ∷ get_or packed 6 0 ∷ get_or packed 7 0 ∷ get_or packed 8 0 ∷ [])
 
--- the length of the first field of a packed record, and what stands behind that length
+-- the length of the first field of a packed record, and what stands after that length
 abbrev pub first_length : List ℕ → ℕ
 first_length packed = if is_long packed then long_length packed else get_or packed 0 0
 

@@ -23,7 +23,7 @@ abbrev pub ExplainsAfter : ℕ → List (List (List ℕ)) → SheetFault → Typ
 ExplainsAfter count records (fault.BadRecord row) = (at : ℕ) × (row ≡ count + at) × (bad_record records ≡ Some at)
 ExplainsAfter count records fault.Memory = Unit {0}
 
--- it reads records of any length by commas, quotes and line ends alone, and has read none
+-- it reads records of any length only by commas, quotes and line ends, and has read none
 pub record IsAtStart (reader : Reader UpToCommas) : Type 0 where
   pub trims : reader.trim ≡ trims.None
   pub flexible : reader.flexible ≡ true

@@ -14,7 +14,7 @@ without_marks (a ∷ []) = a ∷ []
 without_marks (a ∷ b ∷ []) = a ∷ b ∷ []
 without_marks (a ∷ b ∷ c ∷ rest) = if is_bom a b c then without_marks rest else a ∷ b ∷ c ∷ rest
 
--- the records of a file, each a list of fields: by commas, quotes and line ends alone, in records of any length, the header among
+-- the records of a file, each a list of fields: only by commas, quotes and line ends, in records of any length, the header among
 -- them ("File requirements", after RFC 4180)
 abbrev pub records_of : List ℕ → List (List (List ℕ))
 records_of bytes = records default_config (without_marks bytes)
@@ -61,7 +61,7 @@ row_count table = length table - 1
 abbrev pub column_of : Table → List ℕ → Option ℕ
 column_of table name = position_from (λ field. bytes_eq field name) 0 (header_of table)
 
--- what a row has in a column: nothing where its record doesn't reach the column
+-- what a row has in a column: nothing if its record doesn't reach the column
 abbrev pub cell : Table → ℕ → ℕ → List ℕ
 cell table row column = get_or (get_or table row []) column []
 
@@ -75,7 +75,7 @@ pub record IsTextTable (table : Table) (columns : ℕ) : Type 0 where
   pub few : length table < 2 ^ 64
   pub width : columns ≡ length (header_of table)
 
--- what a fault says of the records: which is the first that isn't UTF-8, and nothing where memory was refused
+-- what a fault says of the records: which is the first that isn't UTF-8, and nothing if memory was refused
 abbrev pub Explains : List (List (List ℕ)) → SheetFault → Type 0
 Explains records (fault.BadRecord row) = bad_record records ≡ Some row
 Explains records fault.Memory = Unit {0}

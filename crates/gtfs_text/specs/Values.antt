@@ -45,7 +45,7 @@ is_day year month day = nat_le 1 month && nat_le month 12 && nat_le 1 day && nat
 abbrev pub ymd : Date → ℤ × ℕ × ℕ
 ymd date = (date.year, date.month, date.day)
 
--- the year, month and day that these digits spell, where that is a day of the calendar
+-- the year, month and day that these digits spell, if that is a day of the calendar
 abbrev pub day_of : List ℕ → List ℕ → List ℕ → Option (ℤ × ℕ × ℕ)
 day_of year month day =
     if is_digits 4 4 year && is_digits 2 2 month && is_digits 2 2 day && is_day (decimal year) (decimal month) (decimal day)

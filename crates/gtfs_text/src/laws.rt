@@ -12,8 +12,8 @@ pub fn spaces_go_from_ends()
     ensures { SpacesGoFromEnds }
 {}
 
-/// A text has a time exactly where it is hours, minutes and seconds in digits within their limits,
-/// and the time is then 3600 times the hours, 60 times the minutes and the seconds.
+/// A text has a time exactly if it is hours, minutes and seconds in digits within their limits. The time is then 3600 times the hours, 60
+/// times the minutes and the seconds.
 pub fn times_are_clock_times()
     ensures { TimesAreClockTimes }
 {}

@@ -69,8 +69,8 @@ fn is_text_line(line: &[u8], is_text: bool) -> bool
     is_text || str::from_utf8(line).is_ok()
 }
 
-/// Adds the places of the lines that have a record, from the front of a text, with which a file ends, up to the first line that needs a
-/// reader of CSV. Gives the text that is left, with the line feed before it.
+/// Adds the places of the lines that have a record, from the front of a text up to the first line that needs a reader of CSV. The file ends
+/// with that text. Gives the text that is left, with the line feed before it.
 pub(crate) fn add_plain_lines<'a>(
     file: &'a [u8],
     text: &'a [u8],

@@ -1,6 +1,6 @@
 //! Packed records: one text each, with every field's length and then its bytes.
 //!
-//! Most fields are short, so a length is one byte where it is below 255. Packed records then need little more memory
+//! Most fields are short, so a length is one byte if it is below 255. Packed records then need little more memory
 //! than their text, and no allocation for a record.
 
 ghost use Rattle.std.specs.Prelude.{◌≡◌, ◌<◌, ◌≤◌, ◌++◌, ◌^◌, true, length, map, OnOk};

@@ -1,5 +1,5 @@
-//! What is told of an answer: its journeys with the names that the feed has. What is told is the answer that it is made of; names are
-//! looked up only for display. The texts are made by `itinerary_texts`.
+//! What is reported of an answer: its journeys with the names that the feed has. What is reported is the answer that it is made of; names
+//! are looked up only for display. The texts are made by `itinerary_texts`.
 #![tactic(auto)]
 
 mod repeats;

@@ -48,7 +48,7 @@ fn is_same_trip(one: &Instance, other: &Instance) -> bool {
 }
 
 /// How the trip of a ride repeats, by the first row that has it depart as the ride does; none if it runs at its own times. The instances of
-/// a trip on a day stand in the order of their departures, and of the day before the first covered day only the first ones may be left out.
+/// a trip on a day stand in the order of their departures. Of the day before the first covered day only the first ones may be left out.
 pub(crate) fn frequency_of(basis: &Basis, leg: Leg) -> Option<Frequency> {
     let (_, from) = basis
         .timetable()

@@ -1,4 +1,4 @@
-//! From an answer to what is told of it.
+//! From an answer to what is reported of it.
 
 use crate::repeats::frequency_of;
 use crate::stages::{arrival_of, departure_of, ends_of, kind_of, trip_of};
@@ -24,7 +24,7 @@ pub struct Asked<'a> {
     pub departs: DayTime,
     /// The last time to leave at, if connections up to it are asked for.
     pub until: Option<DayTime>,
-    /// Whether the stops that a ride calls at in between are told, as on a map.
+    /// Whether the stops that a ride calls at in between are reported, as on a map.
     pub through: bool,
 }
 
@@ -58,7 +58,7 @@ impl Teller<'_> {
         arrives.checked_sub(departs)
     }
 
-    // The stops that a ride calls at in between, if they are told.
+    // The stops that a ride calls at in between, if they are reported.
     fn through(&self, alloc: Global, stage: &Stage) -> Result<Vec<Place>, AllocError> {
         if !self.through {
             return Ok(Vec::new(alloc));
@@ -194,7 +194,7 @@ impl Teller<'_> {
         Ok(journeys)
     }
 
-    // What is told of the window beside its connections. If no last time to leave at is named, it is that of the last covered moment.
+    // What is reported of the window beside its connections. If no last time to leave at is named, it is that of the last covered moment.
     fn window(&self, until: Option<DayTime>, connections: &Connections) -> Window {
         let last = match until {
             Some(until) => until,

@@ -1,4 +1,4 @@
-//! The names that are wanted to tell what was found.
+//! The names that are wanted to report what was found.
 
 use crate::stages::{ends_of, trip_of};
 use crate::telling::{Asked, Found};
@@ -93,7 +93,7 @@ impl<'a> Wanted<'a> {
     }
 }
 
-/// The names that are wanted to tell what was found for what was asked. It fails only if memory runs out.
+/// The names that are wanted to report what was found for what was asked. It fails only if memory runs out.
 pub(crate) fn names_for<'a>(
     alloc: Global,
     basis: &'a Basis,

@@ -81,8 +81,8 @@ fn write_ends(out: &mut JsonWriter, leg: &Leg) {
     write_iso(out, "arrival", &leg.to.time);
 }
 
-// Writes what is told of a ride or a walk on a map. Its journey has a number from 1, and stops are left out if the feed has no position of
-// theirs.
+// Writes what is reported of a ride or a walk on a map. Its journey has a number from 1, and stops are left out if the feed has no position
+// of theirs.
 fn write_properties(out: &mut JsonWriter, journey: usize, leg: &Leg, left_out: usize) {
     out.begin_object();
     out.member("journey", &journey);

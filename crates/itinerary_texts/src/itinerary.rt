@@ -1,8 +1,8 @@
-//! What is told of an answer.
+//! What is reported of an answer.
 
 use crate::time::Time;
 
-/// A stop or a station, with what the feed tells people of it.
+/// A stop or a station, with what the feed says of it to people.
 #[derive(Drop)]
 pub struct Place {
     pub id: String,
@@ -21,7 +21,7 @@ pub struct Stay {
     pub time: Time,
 }
 
-/// A route, with what the feed tells people of it.
+/// A route, with what the feed says of it to people.
 #[derive(Drop)]
 pub struct Route {
     pub id: String,
@@ -29,7 +29,7 @@ pub struct Route {
     pub long_name: Option<String>,
 }
 
-/// A trip, with what the feed tells people of it.
+/// A trip, with what the feed says of it to people.
 #[derive(Drop)]
 pub struct Trip {
     pub id: String,
@@ -68,7 +68,7 @@ pub struct Leg {
     pub to: Stay,
     /// From the departure to the arrival.
     pub seconds: Option<u32>,
-    /// The stops that a ride calls at in between, for a map alone.
+    /// The stops that a ride calls at in between, only for a map.
     pub through: Vec<Place>,
 }
 
@@ -76,23 +76,23 @@ pub struct Leg {
 #[derive(Drop)]
 pub struct Journey {
     pub rides: u8,
-    /// When its first ride or walk begins; none if no legs are told.
+    /// When its first ride or walk begins; none if no legs are reported.
     pub departure: Option<Time>,
     pub arrival: Time,
     /// From the departure to the arrival.
     pub seconds: Option<u32>,
-    /// Its rides and walks, if they are told.
+    /// Its rides and walks, if they are reported.
     pub legs: Option<Vec<Leg>>,
 }
 
-/// What is told of a window of departures beside its connections.
+/// What is reported of a window of departures beside its connections.
 #[derive(Clone, Copy)]
 pub struct Window {
     /// The last time to leave at.
     pub until: Time,
     /// The seconds of the way on foot, if there is one.
     pub walk_seconds: Option<u32>,
-    /// The time from which on connections aren't told; none if all are.
+    /// The time from which on connections aren't reported; none if all are.
     pub next: Option<Time>,
 }
 
@@ -104,7 +104,7 @@ pub struct Itinerary<'a> {
     pub to: Place,
     /// The time to leave at.
     pub departure: Time,
-    /// The window, if connections are told.
+    /// The window, if connections are reported.
     pub window: Option<Window>,
     pub journeys: Vec<Journey>,
 }

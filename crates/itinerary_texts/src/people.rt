@@ -119,7 +119,7 @@ fn write_walk<W: fmt::Write>(
     Ok(true)
 }
 
-// Writes from when on connections aren't told.
+// Writes from when on connections aren't reported.
 fn write_next<W: fmt::Write>(f: &mut fmt::Formatter<W>, window: &Option<Window>) -> fmt::Result {
     if let Some(window) = window
         && let Some(next) = &window.next

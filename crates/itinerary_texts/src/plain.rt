@@ -111,7 +111,7 @@ fn write_leg(out: &mut JsonWriter, leg: &Leg) {
     out.end_object();
 }
 
-// Writes the rides and walks of a journey, if they are told.
+// Writes the rides and walks of a journey, if they are reported.
 fn write_legs(out: &mut JsonWriter, legs: &Option<Vec<Leg>>) {
     let Some(legs) = legs else {
         out.null();
@@ -124,7 +124,7 @@ fn write_legs(out: &mut JsonWriter, legs: &Option<Vec<Leg>>) {
     out.end_list();
 }
 
-// Writes a time, if it is told.
+// Writes a time, if it is reported.
 fn write_some_time(out: &mut JsonWriter, time: &Option<Time>) {
     match time {
         Some(time) => write_time(out, time),
@@ -132,7 +132,7 @@ fn write_some_time(out: &mut JsonWriter, time: &Option<Time>) {
     }
 }
 
-// Writes what is told of a window; nothing if there is none.
+// Writes what is reported of a window; nothing if there is none.
 fn write_window(out: &mut JsonWriter, window: &Option<Window>) {
     if let Some(window) = window {
         out.name("until");

@@ -16,7 +16,7 @@ has_then ways v w h b = (h.0, h.1, no_worse_then h.0 v w h.2 b)
 
 -- ---- one way is offered
 
--- nothing changes where none is wanted
+-- nothing changes if none is wanted
 pub gathers_idle : (Of : WayData → Type 0) (since bound : ℕ) (ways : List WayData) → ((w : WayData) → Of w → since ≤ w.moment → w.walked < bound → HasNoWorse ways w)
     → Gathers Of since bound ways ways
 gathers_idle Of since bound ways there = record { attained = λ w h. inl h; kept = λ w h. h; all = there }

@@ -108,7 +108,7 @@ module _ (table : Table) (b : ℕ) where
     pub among_none : (S : ℕ → Type 0) (old : List WayData) → ((e : ℕ) → S e → ⊥) → Gathers (RidesAmong table b S rows) 0 bound old old
     among_none S old none = gathers_idle (RidesAmong table b S rows) 0 bound old (λ w h late short. absurd (none h.0 h.1))
 
-    -- one row alone
+    -- only one row
     pub among_one : (q : ℕ) (row old new : List WayData) → row ≡ ways_at rows q → Gathers (RidesTo table b q (Contains row)) 0 bound old new
         → Gathers (RidesAmong table b (λ e. e ≡ q) rows) 0 bound old new
     among_one q row old new same is =
@@ -121,7 +121,7 @@ module _ (table : Table) (b : ℕ) where
 abbrev pub SeenHalt : List Halt → ℕ → ℕ → ℕ → Type 0
 SeenHalt halts first i e = (k : ℕ) × (first ≤ k) × (k < i) × IsSomeAnd (slice_get halts k) (λ halt. halt.stop ≡ e)
 
--- the stop of one of the halts behind a position that was seen
+-- the stop of one of the halts after a position that was seen
 abbrev pub SeenBehind : LineTable → List LinePosition → ℕ → ℕ → Type 0
 SeenBehind lines positions i e = (at : LinePosition) × Seen positions i at × StopsFrom (line_at lines at.line).halts (at.position + 1) e
 
@@ -179,7 +179,7 @@ module _ (table : Table) (lines : LineTable) (are : AreLines table lines) (b bou
   behind_none mid empty = subst (λ (ws : List WayData). Gathers (RidesAmong table b (SeenBehind lines (positions_at lines b) 0) rows) 0 bound [] ws) (sym empty)
       (among_none table b bound rows (SeenBehind lines (positions_at lines b) 0) [] (λ e h. seen_none (positions_at lines b) h.0 h.1))
 
-  -- every ride from the stop boards at one of the positions, and alights behind it
+  -- every ride from the stop boards at one of the positions, and alights after it
   pub behind_all : (i : ℕ) (new : List WayData) → length (positions_at lines b) ≤ i
       → Gathers (RidesAmong table b (SeenBehind lines (positions_at lines b) i) rows) 0 bound [] new
       → Gathers (RidesAmong table b Anywhere rows) 0 bound [] new

@@ -22,7 +22,7 @@ pub record IsWay (table : Table) (ridden : Bool) (t by n p : ℕ) (w : WayData) 
 abbrev pub Alights : Table → ℕ → ℕ → ℕ → ℕ → ℕ → Type 0
 Alights table s d n p by = (legs : List Leg) × (a : ℕ) × (length legs ≡ n) × Rides table s d legs p a × (a ≤ by)
 
--- The ways on from each stop with n rides to t. Each of them that can be taken after i rides from s, and has less than so much on foot, has
+-- The ways on from each stop with n rides to t. Each of them that can be taken after i rides from s, and has less than `bound` on foot, has
 -- one that is no worse.
 pub record AreWays (table : Table) (s d t by bound i n : ℕ) (rows : List (List WayData)) : Type 0 where
   pub each : (p : ℕ) (w : WayData) → Contains (ways_at rows p) w → IsWay table true t by n p w

@@ -30,7 +30,7 @@ HasNoWorse ways w = (v : WayData) × Contains ways v × IsNoWorse v w
 abbrev pub ways_at : List (List WayData) → ℕ → List WayData
 ways_at rows p = slice_index_or rows p []
 
--- A way of `new` was there, or is one of these ways from that moment on, with less than so much on foot. Each way that was there, and each
+-- A way of `new` was there, or is one of these ways from that moment on, with less than `bound` on foot. Each way that was there, and each
 -- of these, has one that is no worse.
 pub record Gathers (Of : WayData → Type 0) (since bound : ℕ) (old new : List WayData) : Type 0 where
   pub attained : (w : WayData) → Contains new w → Contains old w ⊎ (Of w × (since ≤ w.moment) × (w.walked < bound))

@@ -75,7 +75,7 @@ fn boards_at(
     Ok(ways)
 }
 
-/// For each stop the ways on from there that begin with a ride, behind which one of the ways on from its stop of alighting follows. Each
+/// For each stop the ways on from there that begin with a ride, after which one of the ways on from its stop of alighting follows. Each
 /// has less than `bound` seconds on foot. It fails only if memory runs out.
 pub(crate) fn boards_of(
     alloc: Global,

@@ -18,7 +18,7 @@ use rounds::Scratch;
 use std::alloc::{AllocError, Global};
 use timetable::{LATEST_MOMENT, StopId};
 
-// The patterns of this path alone.
+// Only the patterns of this path.
 fn patterns_of(
     alloc: Global,
     from: StopId,

@@ -55,7 +55,7 @@ fn add_hops(
     Ok(())
 }
 
-/// The ways on from a stop, before any ride or after one: one changes there or walks, and then takes a way of the rows that begins with a
+/// The ways on from a stop, before any ride or after one. One changes there or walks, and then takes a way of the rows that begins with a
 /// ride. Each can be taken at `since` or later, and has less than `bound` seconds on foot. It fails only if memory runs out.
 pub(crate) fn hops_from(
     alloc: Global,

@@ -18,7 +18,8 @@ use std::test::Fail;
 use timetable::{Rides, StopId, Timetable};
 use work_ledger::Outcome;
 
-// Trees that wait, the last of them the next, which are for one timetable and rides; the sources that were taken, and what became of them.
+// Trees that wait, the last of them the next, which are for one timetable and rides. And the sources that were taken, and what became of
+// them.
 #[derive(Drop)]
 struct Waiting {
     form: Form,
@@ -83,7 +84,7 @@ impl Intake for Waiting {
     }
 }
 
-// Who was told, and the numbers of the receipts.
+// Who hears of the trees, and the numbers of the receipts.
 #[derive(Drop)]
 struct Heard {
     form: Form,
@@ -104,7 +105,7 @@ impl Notice for Heard {
     }
 }
 
-// A store in memory, a call of whose disk fails after so many, and who hears of its trees.
+// A store in memory, of whose disk the call `fails_at` fails, and who hears of its trees.
 fn store_and_heard(
     alloc: Global,
     table: &Arc<Timetable>,

@@ -40,7 +40,7 @@ pub fn tree(
     )
 }
 
-// Hands in the first tree of the source; it comes back to the others where it is refused.
+// Hands in the first tree of the source; it comes back to the others if it is refused.
 fn hand_in(
     ledger: &mut Ledger,
     trees: &mut Vec<Finished>,
@@ -60,7 +60,7 @@ fn hand_in(
     Ok(())
 }
 
-// Makes the call, and once more where memory was refused.
+// Makes the call, and once more if memory was refused.
 fn call(ledger: &mut Ledger, trees: &mut Vec<Finished>, call: Call) -> Result<(), AllocError> {
     match call {
         Call::Claim(seat) => {

@@ -6,7 +6,7 @@ use Rattle.pattern_tree.specs.Content.{Content}
 use Rattle.tree_codec.specs.Text.{TreeText, TextsApart, OneText}
 use mathlib.Core.List.{IsPrefix}
 
--- two trees are the same where their texts are
+-- two trees are the same if their texts are
 pub same_by : TextsApart → OneText → (x y l r : List ℕ) (t u : Content) (b : Bool) → TreeText 4 1000000 x t → TreeText 4 1000000 y u → l ≡ x → r ≡ y
     → IsTrue b ↔ l ≡ r → IsTrue b ↔ t ≡ u
 same_by apart one x y l r t u b is_x is_y l_is r_is told = (

@@ -33,7 +33,7 @@ pub record Migrates (was form : Form) (old target new : State) (trees : List Con
   pub trusted : IsTrusted was old → IsTrusted form recovered
   pub trusts : IsTrusted was old → StaysTrusted form recovered new
 
--- with a section of one of the trees, behind some gate, the file would pass its limit
+-- with a section of one of the trees, after some gate, the file would pass its limit
 pub record OneIsTooLarge (form : Form) (trees : List Content) : Type 0 where
   pub tree : Content
   pub one : Contains trees tree
@@ -47,7 +47,7 @@ pub record IsOtherList (was form : Form) (old target new : State) (trees : List 
   pub other : ¬ IsPrefix found trees
   pub before : LeavesOnly target new (StandsAsBefore form target)
 
--- what stands on the new disk after a fault, by the old list where it was read
+-- what stands on the new disk after a fault, by the old list if it was read
 abbrev pub Stopped : Form → Form → State → State → State → State → MigrateFault → Type 0
 Stopped was form old old_now target new (Old fault) = CauseOf was old.read fault × (new ≡ target)
 Stopped was form old old_now target new (New fault) =

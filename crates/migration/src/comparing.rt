@@ -33,7 +33,7 @@ fn is_same(
     Ok(same_bytes(left, right))
 }
 
-/// Whether the trees begin with the front, tree by tree. It fails only where memory runs out.
+/// Whether the trees begin with the front, tree by tree. It fails only if memory runs out.
 pub(crate) fn begin_with(
     alloc: Global,
     trees: &[PatternTree],

@@ -10,7 +10,7 @@ use Rattle.option_words.specs.declared.format.Style.TheVariants as styles
 abbrev pub NamesLines : List Row → Type 0
 NamesLines rows = (first_of (codes "format") rows ≡ None) ⊎ HasText rows (codes "format") (codes "lines")
 
--- lines, with names where the flag is there, or a format for machines by its name, of which only `reach` has CSV
+-- lines, with names if the flag is there, or a format for machines by its name, of which only `reach` has CSV
 abbrev pub IsStyle : Text → List Row → Style → Type 0
 IsStyle name rows styles.Lines = NamesLines rows × ¬ HasFlag rows (codes "names")
 IsStyle name rows (styles.Told formats.Names) = NamesLines rows × HasFlag rows (codes "names")

@@ -12,7 +12,7 @@ use options::{number_of, text_of};
 // The most minutes: those of 14 days.
 const MOST: u32 = 20_160;
 
-/// Within how many minutes the words ask for stops, if they say: none where the number is out of its range.
+/// Within how many minutes the words ask for stops, if they say: none if the number is out of its range.
 pub fn minutes_of(found: &ArgMatches<'_>) -> Option<Option<Minutes>>
     ensures minutes { IfSome result (AsksMinutes (rows_of (found_of found.now))) }
     ensures none { IfNone result ((minutes : Option MinutesData) → ¬ AsksMinutes (rows_of (found_of found.now)) minutes) }

@@ -13,7 +13,7 @@ use options::{byte_of, text_of};
 // How many workers audit, if the words don't say: as many as build then.
 const AUDITORS: u8 = 2;
 
-/// How many workers the words ask for: none where they don't say, or the number is out of its range.
+/// How many workers the words ask for: none if they don't say, or the number is out of its range.
 pub fn workers_of(found: &ArgMatches<'_>) -> Option<Workers>
     ensures workers { IfSome result (HasWorkers (rows_of (found_of found.now))) }
     ensures none { IfNone result (LacksWorkers (rows_of (found_of found.now))) }
@@ -25,7 +25,7 @@ pub fn workers_of(found: &ArgMatches<'_>) -> Option<Workers>
     Some(Workers { number })
 }
 
-/// How many workers audit all trees: none where the number is out of its range.
+/// How many workers audit all trees: none if the number is out of its range.
 pub(crate) fn auditors_of(found: &ArgMatches<'_>) -> Option<Workers>
     ensures workers { IfSome result (AsksAuditors (rows_of (found_of found.now))) }
     ensures none { IfNone result ((workers : WorkersData) → ¬ AsksAuditors (rows_of (found_of found.now)) workers) }

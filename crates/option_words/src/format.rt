@@ -1,4 +1,4 @@
-//! How an answer is told.
+//! How an answer is printed.
 
 ghost use Rattle.std.specs.Prelude.{IfSome, IfNone};
 ghost use Rattle.clap.specs.Words.{rows_of, found_of};
@@ -8,7 +8,7 @@ ghost use Rattle.option_words.specs.declared.format.Style.{Style as StyleData};
 use clap::ArgMatches;
 use options::{flag_of, text_of};
 
-/// A format that an answer is told in beside its lines.
+/// A format that an answer is printed in beside its lines.
 #[derive(Clone, Copy, PartialEq, Eq)]
 pub enum Format {
     /// With names, for people.
@@ -21,7 +21,7 @@ pub enum Format {
     Csv,
 }
 
-/// How an answer is told.
+/// How an answer is printed.
 #[derive(Clone, Copy)]
 pub enum Style {
     /// As lines of ids.
@@ -30,7 +30,7 @@ pub enum Style {
     Told(Format),
 }
 
-/// How the words of the command `name` say that the answer is told: none where they name a format that the command hasn't. `--names` says
+/// How the words of the command `name` say that the answer is printed: none if they name a format that the command hasn't. `--names` says
 /// nothing beside a format for machines.
 pub fn style_of(name: &str, found: &ArgMatches<'_>) -> Option<Style>
     ensures style { IfSome result (IsStyle name.now (rows_of (found_of found.now))) }

@@ -63,7 +63,7 @@ pub fn flag<'a>(alloc: Global, name: &'a str, help: &'a str) -> Arg<'a>
         .help(help)
 }
 
-/// An option whose value is a whole number from `least` to `most`, and this one where it is left out.
+/// An option whose value is a whole number from `least` to `most`, and `value` if it is left out.
 pub fn number<'a>(
     alloc: Global,
     name: &'a str,

@@ -1,4 +1,4 @@
-//! What a program tells of words that it doesn't take.
+//! What a program says of words that it doesn't take.
 
 ghost use Rattle.std.specs.Prelude.{◌≡◌, ◌⊎◌};
 ghost use Rattle.clap.specs.Words.{Kinds, HasKind, kind_of};
@@ -19,8 +19,8 @@ fn status_of(error: &Error) -> u8
     }
 }
 
-/// Tells the user what `clap` says of the words, and gives the status to end with: 0 for help that was asked for, 2 for a
-/// fault of words, 7 for want of memory, of which the program's name and `Memory` are told.
+/// Prints for the user what `clap` says of the words, and gives the status to end with: 0 for help that was asked for, 2 for a fault of
+/// words, 7 for want of memory, for which the program's name and `Memory` are printed.
 pub fn refuse<E: Write>(program: &str, error: &Error, err: &mut E) -> u8
     ensures status { result ≡ kind_status (kind_of error.now) }
     ensures among { (kinds : Kinds) → HasKind kinds error.now → (result ≡ 7) ⊎ IsFaultStatus kinds result }

@@ -1,4 +1,4 @@
-//! The words that a program was started with, and what it tells before it has a job.
+//! The words that a program was started with, and what it says before it has a job.
 
 ghost use Rattle.std.specs.Prelude.{◌≡◌, IfOk, map, string_bytes};
 ghost use Rattle.std.specs.Io.KnownBytes.{Keeps};
@@ -10,7 +10,7 @@ use std::io;
 use std::io::{ErrorKind, Write};
 
 /// The words that the program was started with, the first of which is its name. An error is want of memory, or a word that is
-/// no UTF-8: `unread` tells which. No contract says which words a system hands over.
+/// no UTF-8: `unread` says which. No contract says which words a system hands over.
 pub fn given_words(rt: &HostRuntime) -> io::Result<Vec<String>> {
     let mut words = Vec::new(rt.alloc());
     for word in std::env::args(rt)? {
@@ -19,7 +19,7 @@ pub fn given_words(rt: &HostRuntime) -> io::Result<Vec<String>> {
     Ok(words)
 }
 
-/// Tells why the words couldn't be had, and gives the status of that: 7 for want of memory, 2 for a word that is no UTF-8.
+/// Says why the words couldn't be had, and gives the status of that: 7 for want of memory, 2 for a word that is no UTF-8.
 pub fn unread<E: Write>(program: &str, error: &io::Error, err: &mut E) -> u8
     ensures { result ≡ unread_status (error_kind error.now) }
 {
@@ -30,7 +30,7 @@ pub fn unread<E: Write>(program: &str, error: &io::Error, err: &mut E) -> u8
     2
 }
 
-/// The words as texts, in their order. It fails only where memory runs out.
+/// The words as texts, in their order. It fails only if memory runs out.
 pub fn texts<'a>(alloc: Global, words: &'a [String]) -> Result<Vec<&'a str>, AllocError>
     ensures { IfOk result (λ texts. map (λ text. text.now) texts.items ≡ map string_bytes words.entry.now) }
 {
@@ -41,7 +41,7 @@ pub fn texts<'a>(alloc: Global, words: &'a [String]) -> Result<Vec<&'a str>, All
     Ok(texts)
 }
 
-/// Tells that memory ran out, and gives the status of that.
+/// Says that memory ran out, and gives the status of that.
 pub fn out_of_memory<E: Write>(program: &str, err: &mut E) -> u8
     ensures { result ≡ 7 }
 {
@@ -49,7 +49,7 @@ pub fn out_of_memory<E: Write>(program: &str, err: &mut E) -> u8
     7
 }
 
-/// Tells that standard output refused a write, and gives the status of that.
+/// Says that standard output refused a write, and gives the status of that.
 pub fn unwritten<E: Write>(program: &str, err: &mut E) -> u8
     ensures { result ≡ 8 }
 {
@@ -57,8 +57,8 @@ pub fn unwritten<E: Write>(program: &str, err: &mut E) -> u8
     8
 }
 
-/// Shows what the words came to where they give nothing to do: help on `out`, a fault on `err`. Gives the status, which is 8 where
-/// `out` refuses the help.
+/// Shows what the words came to if they give nothing to do: help on `out`, a fault on `err`. Gives the status, which is 8 if `out` refuses
+/// the help.
 pub fn show<W: Write, E: Write>(
     program: &str,
     text: &[u8],

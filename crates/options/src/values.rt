@@ -8,7 +8,7 @@ ghost use Rattle.options.specs.Values.{HasFlag, HasNumber};
 use crate::settings::Settings;
 use clap::ArgMatches;
 
-/// The text that the words have for an option; none where they have none.
+/// The text that the words have for an option; none if they have none.
 pub fn text_of<'a>(found: &ArgMatches<'a>, option: &str) -> Option<&'a str>
     ensures { option_map (λ text. text.now) result ≡ first_of option.now (rows_of (found_of found.now)) }
 {
@@ -22,7 +22,7 @@ pub fn flag_of(found: &ArgMatches<'_>, option: &str) -> bool
     text_of(found, option) == Some("true")
 }
 
-/// The number below 2^32 that the words have for an option; none where they have no text for it, or one that spells no such
+/// The number below 2^32 that the words have for an option; none if they have no text for it, or one that spells no such
 /// number.
 pub fn number_of(found: &ArgMatches<'_>, option: &str) -> Option<u32>
     ensures { HasNumber (2 ^ 32) (rows_of (found_of found.now)) option.now result }
@@ -30,7 +30,7 @@ pub fn number_of(found: &ArgMatches<'_>, option: &str) -> Option<u32>
     found.get_one::<u32>(option)
 }
 
-/// The number below 256 that the words have for an option; none where they have no text for it, or one that spells no such
+/// The number below 256 that the words have for an option; none if they have no text for it, or one that spells no such
 /// number.
 pub fn byte_of(found: &ArgMatches<'_>, option: &str) -> Option<u8>
     ensures { HasNumber 256 (rows_of (found_of found.now)) option.now result }
@@ -38,7 +38,7 @@ pub fn byte_of(found: &ArgMatches<'_>, option: &str) -> Option<u8>
     found.get_one::<u8>(option)
 }
 
-/// The settings among the words of a command that has the options of `common`. None only where a word isn't there, or is out
+/// The settings among the words of a command that has the options of `common`. None only if a word isn't there, or is out
 /// of its range.
 pub fn settings_of<'a>(found: &ArgMatches<'a>) -> Option<Settings<'a>>
     ensures settings { IfSome result (HasSettings (rows_of (found_of found.now))) }

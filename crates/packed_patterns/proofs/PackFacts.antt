@@ -81,7 +81,7 @@ path_stays (suc k) bs more (suc i) rooted le =
       | Some b ↦ λ e. ap (λ (l : List Step). l ++ ride_of b ∷ []) (path_stays k bs more b.before rooted (let low = rooted i b e in omega (arith, low, le)))
     ]) refl
 
--- where there are no more rides than that, one more isn't missed
+-- if there are no more rides than that, one more isn't missed
 path_whole : (k : ℕ) (bs : List Beginning) (n : ℕ) → length (path_to (suc k) bs n) ≤ k → path_to k bs n ≡ path_to (suc k) bs n
 unfolding path_to
 path_whole zero bs n few =

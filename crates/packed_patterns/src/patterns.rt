@@ -14,7 +14,7 @@ use std::marker::Model;
 use timetable::StopId;
 
 // The index of the first pattern that doesn't end at the stop, or how many patterns there are. Few end at one stop, and they lie
-// side by side: a look at each takes less time than a binary search among all that end at later stops.
+// side by side. A look at each takes less time than a binary search among all that end at later stops.
 fn first_other(patterns: &[Pattern], end: StopId) -> usize
     ensures { IsFirstOther patterns.now end result }
 {

@@ -36,7 +36,7 @@ IsUnlike form disks all trees (parts.OtherTree stop part) = Differ form disks al
 IsUnlike form disks all trees (parts.Shelf fault) = IsSteady fault
 
 -- A fault that says that a call of a disk failed comes only if one more did, of the disk of that part. The part that isn't added has the
--- next index, and so many of its calls failed before and after.
+-- next index, and `own` of its calls failed before, `own_after` after.
 abbrev pub FailsOnly : List ℕ → List ℕ → ℕ → ℕ → PartFault → Type 0
 FailsOnly before after own own_after (parts.Store fault) = fault ≡ Device → Grew own own_after
 FailsOnly before after own own_after (parts.OtherTree stop part) = Unit {0}

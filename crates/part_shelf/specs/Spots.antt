@@ -13,7 +13,7 @@ use Rattle.part_shelf.specs.declared.entry.Entry.{Entry}
 use Rattle.part_shelf.specs.declared.entry.Spot.{Spot}
 use Rattle.part_shelf.specs.declared.listing.Index.{Index}
 
--- from the place on the file has the text of the tree, so many bytes
+-- from the place on the file has the text of the tree, `size` bytes
 pub record IsTextAt (form : Form) (read : List ℕ) (place size : ℕ) (tree : Content) : Type 0 where
   pub section : IsSection form (take size (drop place read)) tree
   pub within : place + size < 2 ^ 64

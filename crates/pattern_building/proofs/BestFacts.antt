@@ -27,7 +27,7 @@ module _ (table : Table) (s k d : ℕ) (rounds : List (List (Option Mark))) (are
   late None r t a z l h le sooner = l z h
   late (Some x) r t a z l h le sooner = let k = l.1 z h in let e : ⊥ = omega (arith, k, le, sooner) in e
 
-  -- where a round is sooner, its numbers are best
+  -- if a round is sooner, its numbers are best
   best_of : (r t : ℕ) (m : Mark) → 1 ≤ r → r ≤ k → t < stops_of table → mark_in rounds r t ≡ Some m
       → IsSooner (arrival_in rounds r t) (arrival_in rounds (r - 1) t) → Unbeaten (Reaches table 1 k s t d) (record { arrival = m.arrival; rides = r })
   best_of r t m some few in' e sooner =

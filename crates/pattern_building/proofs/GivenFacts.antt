@@ -13,7 +13,7 @@ use Rattle.pattern_building.specs.RoundPairs.{Gives, InRound, UpToRound, IsGiven
 abbrev pub IsAdded : List Pair → List Pair → Pair → Type 0
 IsAdded old new p = (q : Pair) → Contains new q ↔ (Contains old q ⊎ (q ≡ p))
 
--- the stop n after so many rides
+-- the stop n after `rides` rides
 abbrev pub AtStop : ℕ → ℕ → ℕ → ℕ → Type 0
 AtStop rides n r t = (r ≡ rides) × (t ≡ n)
 
@@ -60,21 +60,21 @@ module _ (rounds : List (List (Option Mark))) where
       let k : IsSomeAnd (mark_in rounds r q.1) (λ m. p.0 ≡ m.path) = subst (λ (t : ℕ). IsSomeAnd (mark_in rounds r t) (λ m. p.0 ≡ m.path)) same g.1 in
       ap (λ (x : List Step). (x, p.1)) (same_path (mark_in rounds r q.1) p.0 q.0 k h.1) ∙ ap (λ (t : ℕ). (q.0, t)) same
 
-  -- the stop n after some rides, where a pair is given
+  -- the stop n after some rides, if a pair is given
   pub has_one : (rides n : ℕ) (p : Pair) (new : List Pair) → Gives rounds rides p → p.1 ≡ n → Contains new p
       → HasGiven rounds (AtStop rides n) new
   has_one rides n p new gives at there = λ q given.
       let here : Gives rounds rides q = subst (λ (r : ℕ). Gives rounds r q) given.1.0 given.2 in
       subst (λ (x : Pair). Contains new x) (same_given rides p q gives here (at ∙ sym given.1.1)) there
 
-  -- and where none is
+  -- and if none is
   pub has_none : (rides n : ℕ) (new : List Pair) → (IsSooner (arrival_in rounds rides n) (arrival_in rounds (rides - 1) n) → ⊥)
       → HasGiven rounds (AtStop rides n) new
   has_none rides n new not_sooner = λ q given.
       absurd (not_sooner (subst (λ (r : ℕ). IsSooner (arrival_in rounds r n) (arrival_in rounds (r - 1) n)) given.1.0
       (subst (λ (t : ℕ). IsSooner (arrival_in rounds given.0 t) (arrival_in rounds (given.0 - 1) t)) given.1.1 given.2.0)))
 
--- the first n of a list of stops, after so many rides
+-- the first n of a list of stops, after `rides` rides
 abbrev pub SeenAt : ℕ → ℕ → List ℕ → ℕ → ℕ → ℕ → Type 0
 SeenAt rides stops listed n r t = (r ≡ rides) × (t < stops) × SeenIn listed n t
 

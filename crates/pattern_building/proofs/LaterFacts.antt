@@ -1,4 +1,4 @@
--- What is passed over where an arrival is no sooner than it was before.
+-- What is passed over if an arrival is no sooner than it was before.
 use Rattle.std.proofs.Common.{Option, ◌≡◌, ℕ, ◌+◌, ◌≤◌, ◌⊎◌, List, length, Some, None, arith, refl, sym, ◌∙◌, ap, subst, inl, inr, le_refl}
 use Rattle.std.proofs.lemmas.Bool.{cases_lt}
 use Rattle.std.proofs.lemmas.Option.{none-some}
@@ -65,7 +65,7 @@ module _ (table : Table) (s k : ℕ) where
             at_later table s k content d later t n le found.3 (within.0, within.1, same, is.0.3, most) is
       ]
 
-  -- the least arrival is no later than one of a later departure, so where it is no sooner it is the same
+  -- the least arrival is no later than one of a later departure, so if it is no sooner it is the same
   pub arrival_kept : (content : List Pair) (d r t a : ℕ) (kept : List (List (Option Mark))) → AreLater table k s d content kept → UpToRound k (stops_of table) r t
       → IsLeast (ArrivesWithin table s d r t) (Some a) → (IsSooner (Some a) (arrival_in kept r t) → ⊥) → arrival_in kept r t ≡ Some a
   arrival_kept content d r t a kept later seen least no_sooner = same_arrival (arrival_in kept r t) a no_sooner (λ b e.

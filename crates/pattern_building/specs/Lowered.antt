@@ -1,5 +1,5 @@
 -- What is passed over by the runs at later departures, whose arrivals a scratch keeps. Waiting is free: a journey of one ride or more at
--- a later departure is one at each earlier departure, with the same numbers. So where the least arrival in so many rides is that of a
+-- a later departure is one at each earlier departure, with the same numbers. So if the least arrival in a number of rides is that of a
 -- later departure for which a content is complete, the content has a path for it. Only private clauses cite these words.
 use Rattle.std.specs.Prelude.{Option, ◌≡◌, ℕ, ◌≤◌, List, Some}
 use Rattle.timetable.specs.Table.{Table, stops_of}

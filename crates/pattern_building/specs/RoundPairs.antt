@@ -14,11 +14,11 @@ abbrev pub Gives : List (List (Option Mark)) → ℕ → Pair → Type 0
 Gives rounds r p =
     IsSooner (arrival_in rounds r p.1) (arrival_in rounds (r - 1) p.1) × IsSomeAnd (mark_in rounds r p.1) (λ m. p.0 ≡ m.path)
 
--- so many rides, at a stop below n
+-- `rides` rides, at a stop below n
 abbrev pub InRound : ℕ → ℕ → ℕ → ℕ → Type 0
 InRound rides n r t = (r ≡ rides) × (t < n)
 
--- one to so many rides, at a stop below n
+-- one to `rides` rides, at a stop below n
 abbrev pub UpToRound : ℕ → ℕ → ℕ → ℕ → Type 0
 UpToRound rides n r t = (1 ≤ r) × (r ≤ rides) × (t < n)
 

@@ -17,7 +17,7 @@ use rounds::{RoundView, Scratch};
 use std::alloc::{Allocator, Global};
 use timetable::{StopId, Timetable};
 
-// Puts in the pairs of journeys of exactly so many rides, to one of so many stops, that are sooner than with fewer, where the run
+// Puts in the pairs of journeys of exactly `rides` rides, to one of the first `stops` stops, that are sooner than with fewer, where the run
 // lowered the arrival.
 fn add_round<A: Allocator + Clone>(
     view: &RoundView<'_>,
@@ -48,8 +48,7 @@ fn add_round<A: Allocator + Clone>(
     Ok(())
 }
 
-// Puts in the pairs of the best journeys at one event, but those with an arrival that a later event has too: for these the
-// tree has pairs.
+// Puts in the pairs of the best journeys at one event, but those with an arrival that a later event has too. For these the tree has pairs.
 fn add_event<A: Allocator + Clone>(
     table: &Timetable,
     event: u32,
@@ -84,7 +83,7 @@ fn add_event<A: Allocator + Clone>(
 /// scratch has, and no others. It lies in the memory of `alloc`. The moments to leave at, and the pairs that were put in last, lie in that
 /// of `global` meanwhile.
 ///
-/// TooLarge comes only where there are more such patterns and ends than a tree holds. Every other fault is that memory ran
+/// TooLarge comes only if there are more such patterns and ends than a tree holds. Every other fault is that memory ran
 /// out. The scratch is one of this timetable, and serves further runs, also after a fault.
 pub fn build<A: Allocator + Clone>(
     alloc: A,

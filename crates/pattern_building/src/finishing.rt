@@ -34,9 +34,9 @@ fn build_and_copy(
 }
 
 /// The finished tree of a source, for this timetable and at most `k` rides, for which the scratch is. It is built in the arena
-/// and copied out; then the arena is made free, or takes new memory where something that was forgotten still holds it.
+/// and copied out. Then the arena is made free, or takes new memory if something that was forgotten still holds it.
 ///
-/// TooLarge comes only where there are more patterns and ends than a tree holds. Every other fault is that memory ran
+/// TooLarge comes only if there are more patterns and ends than a tree holds. Every other fault is that memory ran
 /// out, also for the arena, which can be used again after any fault.
 pub fn finish(
     alloc: Global,

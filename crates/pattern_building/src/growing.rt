@@ -48,7 +48,7 @@ impl<A: Allocator + Clone> GrowingTree<A> {
         })
     }
 
-    /// Puts the pair of `path`, of one to eight rides, and `end` in. TooLarge comes only where the pair is new and a count would pass its
+    /// Puts the pair of `path`, of one to eight rides, and `end` in. TooLarge comes only if the pair is new and a count would pass its
     /// limit; every other fault is that memory ran out.
     pub(crate) fn insert(&mut self, path: &[(StopId, StopId)], end: StopId) -> Result<(), TreeFault>
         requires some { 0 < length path.now }

@@ -60,7 +60,7 @@ impl Latest {
         })
     }
 
-    // The place of paths of `rides` rides, one or more, to the stop `end`. It is divided only where places are shared.
+    // The place of paths of `rides` rides, one or more, to the stop `end`. It is divided only if places are shared.
     fn place(&self, rides: usize, end: StopId) -> usize {
         let place = rides
             .wrapping_sub(1)

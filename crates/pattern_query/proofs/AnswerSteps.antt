@@ -41,7 +41,7 @@ module _ (table : Table) (held : Held) (froms tos : List ℕ) (d : ℕ) (start s
       (λ r p e. let is = is_point r p e in ((is.1.0, p.to, is.1.1, (p.legs, (is.1.2.is.journey, is.1.2.has), is.1.2.is.counted)), is.0))
       (λ n of. subst (λ r. ThereBy slots (suc r) n.arrival) of.3.2 (added.least of.0 of.1 of.3.0 n.arrival of.2 of.3.1)) chosen
 
--- where the trees are complete
+-- if the trees are complete
 module _ (table : Table) (held : Held) (froms tos : List ℕ) (d : ℕ) (stored : All (IsStored held) froms) (k : ℕ) (complete : AreComplete table held k froms) where
   within : (n : Numbers) → AskedReaches table held froms tos d n → ReachesBetween table k froms tos d n
   within n of =

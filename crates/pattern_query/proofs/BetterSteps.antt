@@ -106,7 +106,7 @@ module _ (table : Table) (s t : ℕ) (path : List Step) where
                     path = is.path;
                   }
 
--- what a search of the path alone finds at the last moment is better than the point
+-- what a search of only the path finds at the last moment is better than the point
 pub alone_better : (table : Table) (s t : ℕ) (path : List Step) (d : ℕ) (p : PointData) (e : ℕ) → IsLastMoment (CanTake table false s path t p.arrival) e
     → 0 < length path → d ≤ p.departure → p.departure ≤ e → (e ≡ p.departure → walked table s path t ≤ on_foot table p)
     → (found : Option PointData) → IsFound table s t e path found → IfSome found (IsBetterAlong table s t d path p)

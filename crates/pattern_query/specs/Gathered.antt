@@ -15,8 +15,8 @@ IsTo one tos tree t = (tree ≡ one) × Contains tos t
 abbrev pub IsPointTo : Table → Content → List ℕ → ℕ → PointData → Type 0
 IsPointTo table tree tos d p = Contains tos p.to × IsPoint table tree p.to d p
 
--- a point of `new` was there or is a journey of a tree and to a stop that were asked; what arrives with few rides by some moment is
--- not lost; and each such journey has a point that arrives as early with as few rides
+-- A point of `new` was there or is a journey of a tree and to a stop that were asked. What arrives with few rides by some moment is not
+-- lost. Each such journey has a point that arrives as early with as few rides.
 pub record AddsAsked (table : Table) (Asked : Content → ℕ → Type 0) (d : ℕ) (old new : List (Option PointData)) : Type 0 where
   pub attained : (r : ℕ) (p : PointData) → at new r ≡ Some p
       → (at old r ≡ Some p) ⊎ ((p.rides ≡ r) × (tree : Content) × Asked tree p.to × IsPoint table tree p.to d p)

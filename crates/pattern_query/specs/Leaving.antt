@@ -1,4 +1,4 @@
--- Which of the journeys with the same numbers is told: of those the one that leaves last, and of those that leave as late one that walks
+-- Which of the journeys with the same numbers is given: of those the one that leaves last, and of those that leave as late one that walks
 -- least.
 -- RAPTOR (Delling, Pajor, Werneck, ALENEX 2012), section 4: of journeys that arrive as early, one that departs later dominates.
 use Rattle.std.specs.Prelude.{Option, ◌≡◌, ℕ, ◌+◌, ◌<◌, ◌≤◌, ◌⊎◌, Bool, true, false, List, [], ◌∷◌, length, Some, None}
@@ -61,7 +61,7 @@ CanTake table ridden p path t by a =
 abbrev pub IsLastMoment : (ℕ → Type 0) → ℕ → Type 0
 IsLastMoment Of a = Of a × ((b : ℕ) → Of b → b ≤ a)
 
--- Before the moment it is so many seconds earlier, if they are known.
+-- The moment a is `seconds` before `moment`, if they are known.
 abbrev pub IsBack : Option ℕ → ℕ → ℕ → Type 0
 IsBack seconds moment a = (w : ℕ) × (seconds ≡ Some w) × (a + w ≡ moment)
 

@@ -14,7 +14,7 @@ use Rattle.pattern_query.specs.declared.refusal.Refusal.{Refusal}
 use Rattle.pattern_query.specs.declared.refusal.Refusal.TheVariants as refusals
 use Rattle.feed_ids.specs.Names.{stops_at}
 
--- the tree of a source, where it is there
+-- the tree of a source, if it is there
 abbrev pub Held : Type 0
 Held = ℕ → Option Content
 
@@ -47,8 +47,8 @@ abbrev pub AreComplete : Table → Held → ℕ → List ℕ → Type 0
 AreComplete table held k froms = (s : ℕ) (tree : Content) → Contains froms s → held s ≡ Some tree → IsWhole table k tree
 
 -- Both ids name places, the moment is covered and the trees of the first place's stops are there. The points are journeys of these
--- trees to the other place's stops, and of all of these the best; where the trees are complete, the best of all journeys. Of those with
--- the same numbers each leaves last, and of those that leave as late it walks least; where the trees are complete, one can't leave later.
+-- trees to the other place's stops, and of all of these the best; if the trees are complete, the best of all journeys. Of those with
+-- the same numbers each leaves last, and of those that leave as late it walks least. If the trees are complete, one can't leave later.
 pub record IsAnswer (table : Table) (names : NameLists) (held : Held) (from to : List ℕ) (d : ℕ) (points : List PointData) : Type 0 where
   pub froms : List ℕ
   pub tos : List ℕ
@@ -75,7 +75,7 @@ abbrev pub IsKnown : NameLists → List ℕ → Type 0
 IsKnown names id = (stops : List ℕ) × (stops_at names id ≡ Some stops)
 
 -- Why there is no answer: the first id names nothing, or else the second; or else the moment isn't covered; or else a tree of the
--- first place's stops isn't there, and then the id is that of the first such stop.
+-- first place's stops isn't there. Then the id is that of the first such stop.
 abbrev pub IsRefusal : Table → NameLists → Held → List ℕ → List ℕ → ℕ → Refusal → Type 0
 IsRefusal table names held from to d (refusals.UnknownStop id) =
     (stops_at names id.now ≡ None) × ((id.now ≡ from) ⊎ (IsKnown names from × (id.now ≡ to)))

@@ -29,14 +29,14 @@ fn search_to(
     }
 }
 
-/// The best journeys between two places, each a stop or a station by its id, at a moment: of all journeys of the trees of the first
-/// place's stops to the second place's stops, one for each of the numbers that no other's beat, by rising rides. Where the trees are
+/// The best journeys between two places, each a stop or a station by its id, at a moment. Of all journeys of the trees of the first place's
+/// stops to the second place's stops, there is one for each of the numbers that no other's beat, by rising rides. If the trees are
 /// complete, these are the best numbers of all journeys between these stops. A station without stops gives no journeys.
 ///
-/// Of several journeys of the trees with the same numbers the answer has one that leaves last, and of those one that walks least. Where
-/// the trees are complete, none of all journeys between these stops leaves later with the same numbers.
+/// Of several journeys of the trees with the same numbers the answer has one that leaves last, and of those one that walks least. If the
+/// trees are complete, none of all journeys between these stops leaves later with the same numbers.
 ///
-/// It is refused where an id names nothing, the first before the second; else where the moment isn't covered; else where a tree isn't
+/// It is refused if an id names nothing, the first before the second; else if the moment isn't covered; else if a tree isn't
 /// there, with the id of the first stop that lacks one. The names are those of the timetable's feed. It takes no
 /// memory.
 pub fn ask_on<'a, T: Trees>(

@@ -31,7 +31,7 @@ impl Search<'_> {
         }
     }
 
-    // The moment so many seconds before; none if they aren't known, or if it's before that of the search.
+    // The moment `seconds` before `moment`; none if they aren't known, or if it's before that of the search.
     fn back(&self, moment: u32, seconds: Option<u32>) -> Option<u32>
         ensures some { IfSome result (IsBack seconds moment) }
         ensures since { IfSome result (λ e. self.now.depart ≤ e) }

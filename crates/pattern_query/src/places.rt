@@ -8,7 +8,7 @@ use feed_ids::{Names, Place};
 use std::slice;
 use timetable::StopId;
 
-/// The place of an id: its stop, else its station; none where the id names nothing.
+/// The place of an id: its stop, else its station; none if the id names nothing.
 pub fn place_named<'a>(names: &'a Names, id: &str) -> Option<Place<'a>>
     ensures { option_map stops_in result ≡ stops_at names.now id.now }
 {

@@ -36,9 +36,9 @@ pub(crate) fn hop(network: &Network, ridden: bool, from: StopId, to: StopId) -> 
 }
 
 impl Search<'_> {
-    // The earliest ride along a step behind the legs, on a path of so many rides. None where there is none, or where a journey that
-    // was found arrives no later than one could board, or than the ride does, with no more rides than the path: then no journey
-    // along the path is better.
+    // The earliest ride along a step after the legs, on a path of `rides` rides. None if there is none, or if a journey that was found
+    // arrives no later than one could board, or than the ride does, with no more rides than the path. Then no journey along the path is
+    // better.
     fn ride(
         &self,
         step: (StopId, StopId),

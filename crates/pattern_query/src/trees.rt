@@ -9,10 +9,10 @@ use timetable::StopId;
 
 /// The patterns of some sources.
 pub trait Trees {
-    /// The patterns of each source, where they are there.
+    /// The patterns of each source, if they are there.
     ghost held: { Self → ℕ → Option Content };
 
-    /// The patterns of a source, where they are there. It takes no memory.
+    /// The patterns of a source, if they are there. It takes no memory.
     fn patterns(&self, source: StopId) -> Option<&Patterns>
         ensures value { option_copied result ≡ held self.now source }
         ensures source { IfSome result (λ patterns. patterns.now.source ≡ source) };

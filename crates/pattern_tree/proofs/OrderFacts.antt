@@ -16,7 +16,7 @@ longest_in [] p h = absurd h
 longest_in (q ∷ ps) p (inl e) = (let l = ap (λ (p : Pair). length p.0) e in omega (arith, l))
 longest_in (q ∷ ps) p (inr h) = (let l = longest_in ps p h in omega (arith, l))
 
--- where none is longer than k, the longest isn't
+-- if none is longer than k, the longest isn't
 longest_all : (ps : List Pair) (k : ℕ) → ((p : Pair) → IsIn p ps → length p.0 ≤ k) → longest ps ≤ k
 longest_all [] k all = omega arith
 longest_all (q ∷ ps) k all =

@@ -31,7 +31,7 @@ map_in f y [] h = absurd h
 map_in f y (z ∷ xs) (inl is) = (z, is, inl refl)
 map_in f y (z ∷ xs) (inr h) = let w = map_in f y xs h in (w.0, w.1, inr w.2)
 
--- what stands behind a node's step
+-- what stands after a node's step
 abbrev pub under : Step → Pair → Pair
 under s p = (s ∷ p.0, p.1)
 

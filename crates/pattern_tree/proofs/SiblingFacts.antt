@@ -6,7 +6,7 @@ use Rattle.pattern_tree.specs.Paths.{Has, IsIn}
 use Rattle.pattern_tree.specs.Siblings.{StepsRise, IsStepAt, IsGapAt}
 use Rattle.pattern_tree.proofs.StepFacts.{before_trans, before_irreflexive}
 
--- a path leads from one node on, whose step is behind, to a node that has the end e
+-- a path leads from one node on, whose step was passed, to a node that has the end e
 abbrev pub HasFrom : List Step → ℕ → List ℕ → Forest → Type 0
 HasFrom [] e ends next = IsIn e ends
 HasFrom (t ∷ q) e ends next = Has (t ∷ q) e next

@@ -16,7 +16,7 @@ with_end e (x ∷ xs) = cond (nat_lt e x) (e ∷ x ∷ xs) (cond (nat_lt x e) (x
 abbrev pub is_before : Step → Step → Bool
 is_before s t = nat_lt s.0 t.0 || (s.0 == t.0 && nat_lt s.1 t.1)
 
--- a sibling in front of others
+-- a sibling before others
 abbrev pub cons : Branch → Forest → Forest
 cons b f = node b.board b.alight b.ends b.next f
 

@@ -25,8 +25,8 @@ impl Arena {
         &self.bump
     }
 
-    /// Makes the arena's memory free again. Where something that was forgotten still holds it, takes new memory in its
-    /// place; where that is refused, the arena stays as it was.
+    /// Makes the arena's memory free again. If something that was forgotten still holds it, takes new memory in its place; if that is
+    /// refused, the arena stays as it was.
     pub fn renew(&mut self, alloc: Global) -> Result<(), AllocError> {
         if self.bump.reset().is_err() {
             self.bump = Bump::try_with_capacity(alloc, FIRST_CHUNK)?;

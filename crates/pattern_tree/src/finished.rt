@@ -66,8 +66,8 @@ impl Finished {
         self.rides
     }
 
-    /// Whether the tree is for this timetable and so many rides. The timetables are compared by value, so both are read whole
-    /// where they are the same.
+    /// Whether the tree is for this timetable and `k` rides. The timetables are compared by value, so both are read whole if they are the
+    /// same.
     pub fn is_for(&self, table: &Timetable, k: Rides) -> bool
         ensures { IsTrue result ↔ ((self.now.table ≡ table.now) × (self.now.rides ≡ k)) }
     {

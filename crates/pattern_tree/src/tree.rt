@@ -25,8 +25,8 @@ pub const MOST_NODES: u32 = 1_000_000;
 /// How many ends a tree has at most.
 pub const MOST_ENDS: u32 = 16_000_000;
 
-/// The patterns of journeys from a source, with the stops at which each ends: a set of pairs (path, end), where a path
-/// is the stops of boarding and alighting of 1 to 8 rides.
+/// The patterns of journeys from a source, with the stops at which each ends: a set of pairs (path, end). A path is the stops of boarding
+/// and alighting of 1 to 8 rides.
 #[derive(Drop)]
 pub struct PatternTree<A: Allocator = Global> {
     source: StopId,
@@ -106,7 +106,7 @@ impl<A: Allocator> PatternTree<A> {
         self.ends
     }
 
-    /// How many rides the longest path has; 0 where there is none.
+    /// How many rides the longest path has; 0 if there is none.
     pub fn depth(&self) -> usize
         ensures rides { result ≡ longest self.now.pairs }
         ensures few { result ≤ 8 }
@@ -146,7 +146,7 @@ impl<A: Allocator> PatternTree<A> {
 
 impl<A: Allocator + Clone> PatternTree<A> {
     /// Puts the pair of `path`, of 1 to 8 rides, and `end` in, and says whether it is new. A pair that is there takes no
-    /// memory. TooLarge comes where the pair is new and a count would pass its limit, whatever memory there is.
+    /// memory. TooLarge comes if the pair is new and a count would pass its limit, whatever memory there is.
     pub fn insert(&mut self, path: &[(StopId, StopId)], end: StopId) -> Result<bool, TreeFault>
         requires some { 0 < length path.now }
         requires short { length path.now ≤ 8 }

@@ -31,7 +31,7 @@ fn walk_ends<V: Visitor>(path: &[(StopId, StopId)], ends: &[StopId], visitor: &m
     }
 }
 
-/// Shows the pairs of `level` and all below it, their paths behind `path`, which is as before in the end.
+/// Shows the pairs of `level` and all below it, their paths after `path`, which is as before in the end.
 pub(crate) fn walk_level<A: Allocator, V: Visitor>(
     level: &[Node<A>],
     path: &mut ArrayVec<(StopId, StopId), 8>,

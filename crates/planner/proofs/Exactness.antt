@@ -1,4 +1,4 @@
--- Where all opened trees are right, so is each that is shown, and an answer from them is exact.
+-- If all opened trees are right, so is each that is shown, and an answer from them is exact.
 use Rattle.std.proofs.Common.{ℕ, List, All, Result, Ok, Err, IfOk, MatchResult}
 use Rattle.timetable.specs.Table.{stops_of}
 use Rattle.pattern_tree.specs.Content.{Content}

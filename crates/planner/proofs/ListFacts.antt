@@ -43,7 +43,7 @@ pub shows_stored : (stored : List ℕ) (trees others : List Content) → stored 
 shows_stored stored trees others are same =
     subst (All (Contains stored)) (are ∙ sym (same_sources trees others same)) (All-contains_itself stored)
 
--- where nothing is shown
+-- if nothing is shown
 pub none_shown : (stored : List ℕ) (list : List Content) → list ≡ [] → ShowsStored stored list
 none_shown stored list bare = subst (ShowsStored stored) (sym bare) (All-nil (Contains stored))
 

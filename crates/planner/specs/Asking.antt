@@ -13,7 +13,7 @@ use Rattle.planner.specs.PlannerView.{PlannerView}
 use Rattle.planner.specs.declared.fault.AskFault.{AskFault}
 use Rattle.planner.specs.declared.fault.AskFault.TheVariants as faults
 
--- the tree of each stop, once the trees of a list were shown one by one on a board of so many stops
+-- the tree of each stop, once the trees of a list were shown one by one on a board of `stops` stops
 abbrev pub held_after : ℕ → List Content → Held
 held_after stops list s = tree_at (board_after stops list) s
 

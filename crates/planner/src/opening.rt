@@ -62,8 +62,8 @@ pub struct Opened<D: Disk> {
 
 impl Planner {
     /// Opens the store of the network's timetable, and of journeys of at most `rides` rides, that a file holds, and a board with `readers`
-    /// readers: both have exactly the trees of the list that the bytes stand for. The names are those of the timetable's feed. The
-    /// disk comes back with each fault, as the recovery left it; `rt` is for closing the board if a reader finds no place.
+    /// readers. Both have exactly the trees of the list that the bytes stand for. The names are those of the timetable's feed. The disk
+    /// comes back with each fault, as the recovery left it; `rt` is for closing the board if a reader finds no place.
     ///
     /// A fresh file is begun; to any other nothing is written. Of a trusted disk each tree is exact. No tree is kept but as the board
     /// shows it: it becomes so before the next is read.

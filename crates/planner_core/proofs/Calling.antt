@@ -95,7 +95,7 @@ pub as_before : {form form' : Form} {stored stored' storing storing' acknowledge
     → IsArchive form stored storing acknowledged next source place extent disk → IsArchive form' stored' storing' acknowledged' next' source' place' extent' disk'
 as_before a b c d e f g h i is = rw (a, b, c, d, e, f, g, h, i) is
 
--- where nothing was stored
+-- if nothing was stored
 pub still_archive : {form form' : Form} {stored stored' storing storing' acknowledged : List ℕ} {next next' : Step} {source source' place place' extent extent' : ℕ} {disk disk' : State}
     → (is : IsArchive form stored storing acknowledged next source place extent disk) → form' ≡ form → stored' ≡ stored
     → IsStage next' form is.trees storing' source' place' extent' disk' → IsArchive form' stored' storing' acknowledged next' source' place' extent' disk'
@@ -175,7 +175,7 @@ pub put_rests : (r : Result ReceiptView PutFault) (form : Form) (end place : ℕ
 put_rests (Ok receipt) form end place old new is = is
 put_rests (Err e) form end place old new is = tt
 
--- two views are equal where their parts are
+-- two views are equal if their parts are
 pub same_view : {form form' : Form} {stored stored' : List ℕ} {place place' extent extent' : ℕ} {next next' : Step} {disk disk' : State} {storing storing' acknowledged acknowledged' : List ℕ}
     → form ≡ form' → stored ≡ stored' → place ≡ place' → extent ≡ extent' → next ≡ next' → disk ≡ disk' → storing ≡ storing' → acknowledged ≡ acknowledged'
     → ◌≡◌ {A = ArchiveView} (record { form = form; stored = stored; place = place; extent = extent; next = next; disk = disk; storing = storing; acknowledged = acknowledged })

@@ -73,7 +73,7 @@ Stays Does = (u m : RunningView) (reply : Reply) (kept : List Content) → Shows
 abbrev FileOf : List Content → Option FinishedTree → ArchiveView → Type 0
 FileOf kept tree a = HasFile a.next a.form kept tree a.place a.extent a.disk
 
--- where no put is under way the hand is no matter
+-- if no put is under way, the hand is no matter
 file_at_rest : (kept : List Content) (tree other : Option FinishedTree) (a : ArchiveView) → a.next ≡ N.WriteBody → FileOf kept tree a → FileOf kept other a
 file_at_rest kept tree other a rest file =
     let at : IsRest a.form kept a.place a.disk = subst (λ (n : DiskCall). HasFile n a.form kept tree a.place a.extent a.disk) rest file in

@@ -30,8 +30,8 @@ after_call next disk a = record a { next = next; disk = disk }
 abbrev pub with_put : ℕ → ArchiveView → ArchiveView
 with_put source a = record a { storing = a.storing ++ source ∷ [] }
 
--- What the file has after a call that was done, whatever trees it had before: at rest, and the section of the tree behind them; the same
--- section behind the same trees; the section opened; that tree behind them, at rest.
+-- What the file has after a call that was done, whatever trees it had before. In turn that is: at rest, and the section of the tree after
+-- them; the same section after the same trees; the section opened; that tree after them, at rest.
 abbrev pub AddsSection : Content → ArchiveView → ArchiveView → Type 0
 AddsSection tree old new =
     (trees : List Content) → Holds old.form trees old.place old.stored old.disk → IsBody old.form trees tree new.place new.extent new.disk
@@ -54,7 +54,7 @@ Rests old new =
 abbrev pub Lasts : ArchiveView → ArchiveView → Type 0
 Lasts old new = LosesNothing old.form old.disk new.disk
 
--- the section of a tree is written behind the closed gate
+-- the section of a tree is written after the closed gate
 abbrev pub WritesSection : Bool → FinishedTree → ArchiveView → ArchiveView → Type 0
 WritesSection true t old new =
     (disk : State) × BodyFailed old.form t.tree old.place old.disk disk × (new ≡ after_failure disk (with_put t.tree.source old))
@@ -75,7 +75,7 @@ OpensGate true old new = (disk : State) × WriteFailed old.place 1 old.disk disk
 OpensGate false old new =
     (new ≡ after_call SyncGate (after_write old.place (open_gate ∷ []) old.disk) old) × Lasts old new × OpensSection old new
 
--- that is brought to the disk, and then the source has its receipt: its tree is stored, and the closed gate stands behind it
+-- that is brought to the disk, and then the source has its receipt: its tree is stored, and the closed gate stands after it
 abbrev pub SyncsGate : Bool → ℕ → ArchiveView → ArchiveView → Type 0
 SyncsGate true source old new = (new ≡ after_failure old.disk old) × Lasts old new
 SyncsGate false source old new =

@@ -41,7 +41,7 @@ abbrev pub tree_in : Option HandView → Option FinishedTree
 tree_in None = None
 tree_in (Some h) = h.tree
 
--- What the file has when that call of the disk comes next: these trees; and after them, once it was written, the section of the tree in
+-- What the file has when that call of the disk comes next: these trees. After them it has, once it was written, the section of the tree in
 -- hand, at last opened.
 abbrev pub HasFile : DiskCall → Form → List Content → Option FinishedTree → ℕ → ℕ → State → Type 0
 HasFile WriteBody form trees tree place extent disk = IsRest form trees place disk

@@ -57,8 +57,7 @@ fn prepare(
     Ok((ledger, board, storing))
 }
 
-/// What runs begins with a store that was recovered, and with all that was acknowledged before. The disk comes back where memory
-/// runs out.
+/// What runs begins with a store that was recovered, and with all that was acknowledged before. The disk comes back if memory runs out.
 pub(crate) fn begin(
     alloc: Global,
     tools: &Tools,

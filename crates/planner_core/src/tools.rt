@@ -37,7 +37,7 @@ impl Model for Tools {
 }
 
 impl Tools {
-    /// The tools for a timetable, journeys of at most so many rides, and so many waiting trees. It fails only where memory runs out.
+    /// The tools for a timetable, journeys of at most `rides` rides, and `room` waiting trees. It fails only if memory runs out.
     pub(crate) fn new(
         alloc: Global,
         table: &Arc<Timetable>,

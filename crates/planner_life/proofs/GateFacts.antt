@@ -11,7 +11,7 @@ use Rattle.section_store.specs.Store.{Holds}
 use Rattle.section_store.specs.Lasting.{IsExact}
 use Rattle.planner_life.specs.Gates.{AreBehind, GateAt, IsBehind}
 
--- more sections behind some
+-- more sections after some
 pub behind_more : (form : Form) (list more : List ℕ) (start place next : ℕ) → AreBehind form list start place → AreBehind form more place next
     → AreBehind form (list ++ more) start next
 behind_more form [] more start place next same behind = subst (λ (n : ℕ). AreBehind form more n next) same behind
@@ -57,7 +57,7 @@ last_text one form (x ∷ texts) (y ∷ others) (t ∷ trees) tree are too =
     } in
     subst (λ (t : List ℕ). LastText form (x ∷ texts) (t ∷ others) tree) same is
 
--- behind a put the closed gate stands behind the tree's section
+-- after a put the closed gate stands after the tree's section
 pub gate_behind : OneText → (form : Form) (trees : List Content) (tree : Content) (list others : List ℕ) (place end : ℕ) (old new : State)
     → IsExact form tree → Holds form trees place list old → Holds form (trees ++ tree ∷ []) end others new → IsBehind form tree.source place end
 gate_behind one form trees tree list others place end old new right was is =

@@ -17,7 +17,7 @@ pub record IsDesk (tools form : Form) (list : List ℕ) (board : List (Option Co
   pub shows : IsBoardOf (stops_of form.table) list board
   pub known : All (λ s. s < stops_of form.table) list
 
--- of each stop of the timetable, the board has its tree exactly where the list has the stop
+-- of each stop of the timetable, the board has its tree exactly if the list has the stop
 pub record ShowsList (stops : ℕ) (list : List ℕ) (board : List (Option Content)) : Type 0 where
   pub held : (s : ℕ) → s < stops → IsStored (tree_at board) s ↔ Contains list s
   pub missing : (s : ℕ) → s < stops → (tree_at board s ≡ None) ↔ IsNew s list

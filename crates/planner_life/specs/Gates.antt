@@ -23,12 +23,12 @@ pub record IsBehind (form : Form) (s place next : ℕ) : Type 0 where
   pub is_text : TreeText (stop_width form) (stops_of form.table) text tree
   pub there : next ≡ place + 5 + length text
 
--- the sections of these sources' trees, one behind the other from the place on, end at the next one
+-- the sections of these sources' trees, one after the other from the place on, end at the next one
 abbrev pub AreBehind : Form → List ℕ → ℕ → ℕ → Type 0
 AreBehind form [] place next = next ≡ place
 AreBehind form (s ∷ list) place next = (between : ℕ) × IsBehind form s place between × AreBehind form list between next
 
--- The list begins with the first sources, whose sections end at the start. Of an honest disk the closed gate stands behind the sections of
+-- The list begins with the first sources, whose sections end at the start. Of an honest disk the closed gate stands after the sections of
 -- all others.
 pub record GateAt (honest : Type 0) (form : Form) (first : List ℕ) (start : ℕ) (list : List ℕ) (place : ℕ) : Type 0 where
   pub since : List ℕ

@@ -47,7 +47,7 @@ fn prepare(
 }
 
 impl<D: Disk> Desk<D> {
-    /// Opens the store of that timetable, and of journeys of at most `rides` rides, that a file holds: it is recovered, and each tree
+    /// Opens the store of that timetable, and of journeys of at most `rides` rides, that a file holds. It is recovered, and each tree
     /// is made into the patterns that questions are asked of, and let go. The desk has the trees of the list that the bytes stand
     /// for. The disk comes back with each fault; want of memory, also after the recovery, is the fault `Memory`.
     ///

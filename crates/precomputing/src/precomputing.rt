@@ -89,7 +89,7 @@ fn left(
     Outcome::Partial(missing)
 }
 
-// Builds the trees that the desk's store lacks, where all is prepared.
+// Builds the trees that the desk's store lacks, if all is prepared.
 fn build<D: Disk + Drop, R: Threads + Wait + Sync, G: Gate + Sync, P: Progress>(
     alloc: Global,
     rt: &R,
@@ -133,7 +133,7 @@ fn build<D: Disk + Drop, R: Threads + Wait + Sync, G: Gate + Sync, P: Progress>(
 /// If each stop of the part has its tree, nothing is started, and no memory is taken. A source whose tree is too large, or for which memory
 /// is refused, stays missing. A thread that can't be made is left out. After `DeviceFailed` the store has to be opened again.
 ///
-/// Of an honest disk: at each moment since, each outcome of a crash stands for a front of the new list that holds the old one; where the
+/// Of an honest disk: at each moment since, each outcome of a crash stands for a front of the new list that holds the old one. If the
 /// device failed, one source more may be there. What each outcome held each one holds, and a trusted disk stays trusted.
 pub fn precompute_telling<D: Disk + Drop, R: Threads + Wait + Sync, G: Gate + Sync, P: Progress>(
     alloc: Global,

@@ -55,8 +55,8 @@ pub record IsFaulted (t : Telling) (voice : Voice) (fault : Fault) (old new : St
   pub nothing : new.out ≡ old.out
   pub said : IsFaultSaid t voice fault old.err new.err
 
--- What is told stands on standard output, or its fault on standard error. Standard output may refuse a write, and memory may run out before
--- there is anything to write.
+-- What is reported stands on standard output, or its fault on standard error. Standard output may refuse a write, and memory may run out
+-- before there is anything to write.
 abbrev pub IsFinished : Telling → Voice → Result Told Fault → StreamsData → StreamsData → ℕ → Type 0
 IsFinished t voice (Ok told) old new status = IsWritten told old new status
 IsFinished t voice (Err fault) old new status = IsFaulted t voice fault old new status

@@ -16,7 +16,7 @@ use Rattle.faults.specs.declared.fault.Fault.TheVariants as faults
 use Rattle.reply_lines.specs.Tellings.{Telling as ReplyTelling, line_telling}
 use Rattle.command_line.specs.declared.given.Given.{Given}
 
--- Which texts may tell an answer, connections, a report, what a feed has, all its faults, a reply or a fault in a format; which may list
+-- Which texts may state an answer, connections, a report, what a feed has, all its faults, a reply or a fault in a format; which may list
 -- the stops that are searched for, and which lines may be added to those of a fault.
 pub record Telling : Type 1 where
   pub tells : Format → BasisData → Answer → List ℕ → Type 0
@@ -48,7 +48,7 @@ abbrev pub tells_reply : Telling → Style → BasisData → ReplyTelling
 tells_reply t styles.Lines basis question reply text = line_telling question reply text
 tells_reply t (styles.Told format) basis question reply text = t.replies format basis question reply text
 
--- a format tells the rides and walks, whether or not the words ask for them
+-- a format reports the rides and walks, whether or not the words ask for them
 abbrev pub tells_legs : Style → Bool → Bool
 tells_legs styles.Lines legs = legs
 tells_legs (styles.Told format) legs = true

@@ -1,4 +1,4 @@
--- The lines of what a command tells, and the status that it ends with.
+-- The lines of what a command prints, and the status that it ends with.
 use Rattle.std.specs.Prelude.{ℕ, List, [], ◌∷◌, ◌++◌, string_bytes}
 use Rattle.answer_lines.specs.Printed.{answer_text}
 use Rattle.answer_lines.specs.Reports.{report_status, report_text}

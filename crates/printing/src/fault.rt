@@ -22,7 +22,7 @@ pub struct Voice<'a> {
     pub given: Given<'a>,
 }
 
-// The text of a fault in a format; none if it is told as in lines.
+// The text of a fault in a format; none if it is printed as in lines.
 fn format_text<T: Teller>(
     alloc: Global,
     teller: &T,

@@ -96,7 +96,7 @@ pub trait Teller: Copy {
         faults: &[FeedFault],
     ) -> Result<Self::Places, AllocError>;
 
-    /// Lines that are added to those of a fault, as `hint` gives them, by the places of faults of which this is the one at `at`, from 0.
+    /// Lines that are added to those of a fault, as `hint` gives them, by the places of faults: its own is the one at `at`, from 0.
     /// None if there is nothing to add. It fails only if memory runs out.
     fn place_hint(
         &self,
@@ -148,7 +148,7 @@ pub trait Teller: Copy {
         ensures { IfSome result (λ text. telling.hints given.now fault.now (string_bytes text)) };
 }
 
-/// Whether the rides and walks of journeys are told: a format tells them, whether or not the words ask for them.
+/// Whether the rides and walks of journeys are reported: a format reports them, whether or not the words ask for them.
 pub fn tells_legs(style: Style, legs: bool) -> bool
     ensures { result ≡ tells_legs style legs }
 {

@@ -10,7 +10,7 @@ use connection_lines::Connections;
 use feed_report::FeedReport;
 use std::fmt;
 
-/// What a command tells on standard output, shown as its lines, each with its end.
+/// What a command prints on standard output, shown as its lines, each with its end.
 #[derive(Drop)]
 pub enum Told<'a> {
     /// What a feed has.

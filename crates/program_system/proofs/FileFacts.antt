@@ -1,4 +1,4 @@
--- What a file that isn't used tells of the calls of a disk.
+-- What a file that isn't used says of the calls of a disk.
 use Rattle.std.proofs.Common.{ℕ, List, Option, sym, subst, inl, inr}
 use Rattle.disk_model.specs.declared.fault.FileFault.{FileFault}
 use Rattle.disk_model.specs.declared.fault.FileFault.TheVariants as opens
@@ -15,13 +15,13 @@ use Rattle.store_terms.proofs.OpeningFacts.{memory_fails}
 use Rattle.program_system.specs.Files.{IsKeptOut, IsOfFile, of_file}
 use Rattle.program_system.specs.World.{SystemView}
 
--- a file that is no store tells of no failed call
+-- a file that is no store reports no failed call
 pub foreign_fails : (before after : ℕ) → OnlyFailing before after (faults.Store NotAStore)
 foreign_fails before after (inl e) = cc
 foreign_fails before after (inr (inl e)) = cc
 foreign_fails before after (inr (inr e)) = cc
 
--- the old file of a migration tells of no failed call of the new one's disk
+-- the old file of a migration reports no failed call of the new one's disk
 module _ (before after : ℕ) where
   old_fails : (f : StoreFault) → OnlyFailing before after (faults.Migration Old f)
   old_fails f (inl e) = cc

@@ -64,7 +64,7 @@ none_read (Some input) (Some rest) (Some left) raw lost none ended empty = recor
   left_is = ap Some ended;
 }
 
--- the input is at its end, where a line may have begun
+-- the input is at its end, at which a line may have begun
 last_or_none : (old mid new : Option (List ℕ)) (raw : List ℕ) → LacksFeed raw → Consumes old mid raw → Consumes mid new [] → OnSome mid (IsAtEnd new)
     → ReadsLine old new (take 65_538 raw) (not (length (take 65_538 raw) == 0))
 last_or_none old mid new raw plain lost none ended =

@@ -10,7 +10,7 @@ use Rattle.question_lines.specs.declared.question.Question.{Question}
 use Rattle.question_lines.specs.declared.question.Until.{Until}
 use Rattle.question_lines.specs.declared.question.Within.{Within}
 
--- what stands before the first tab of a line, between each and the next, and behind the last
+-- what stands before the first tab of a line, between each and the next, and after the last
 abbrev pub cut_at_tabs : List ℕ → List (List ℕ)
 cut_at_tabs line = slice_split (λ b. b == 9) line
 

@@ -9,14 +9,14 @@ use Rattle.question_lines.specs.declared.reading.Part.TheVariants as parts
 abbrev pub LacksFeed : List ℕ → Type 0
 LacksFeed bytes = All (λ b. (b == 10) ≡ false) bytes
 
--- what is read behind the bytes of a line
+-- what is read after the bytes of a line
 abbrev pub end_of : Part → List ℕ
 end_of parts.More = []
 end_of parts.Line = 10 ∷ []
 end_of parts.Rest = []
 
--- The input loses some bytes without a line feed, and the line's end where it was read. Of the line so far the first 65,538 bytes are kept.
--- Where nothing more was there, the input is at its end.
+-- The input loses some bytes without a line feed, and the line's end if it was read. Of the line so far the first 65,538 bytes are kept.
+-- If nothing more was there, the input is at its end.
 pub record GoesOn (old new : Option (List ℕ)) (before after : List ℕ) (part : Part) : Type 0 where
   pub bytes : List ℕ
   pub plain : LacksFeed bytes

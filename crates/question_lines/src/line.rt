@@ -29,16 +29,16 @@ impl Model for Line {
 }
 
 impl Line {
-    /// An empty line. It takes all the memory that it ever needs, and fails only where that is refused.
+    /// An empty line. It takes all the memory that it ever needs, and fails only if that is refused.
     pub fn new(alloc: Global) -> Result<Line, AllocError> {
         let bytes = Vec::with_capacity(alloc, KEPT)?;
         Ok(Line { bytes })
     }
 
-    /// Reads the next line of the input in place of the last one; false where there is none more. A line ends at a line feed, with which a
+    /// Reads the next line of the input in place of the last one; false if there is none more. A line ends at a line feed, with which a
     /// carriage return before it goes, and the last one may lack its line feed, as of `str::lines`. It takes no memory.
     ///
-    /// An `Err` says that the input can't be read: how much of it was is left open, and so is what is kept.
+    /// An `Err` says that the input can't be read. It is left open how much of it was read, and what is kept.
     pub fn read<R: BufRead>(&mut self, input: &mut R) -> io::Result<bool>
         ensures { IfOk result (ReadsLine (R.remaining input.old) (R.remaining input.new) self.new) }
     {
@@ -65,7 +65,7 @@ impl Line {
         }
     }
 
-    /// The question that the line is; none where it is none.
+    /// The question that the line is; none if it is none.
     pub fn question(&self) -> Option<Question<'_>>
         ensures { (line : List ℕ) → IsKept line self.now → MatchOption result (NotQuestion line) (IsQuestion line) }
     {

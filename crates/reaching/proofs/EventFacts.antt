@@ -1,4 +1,4 @@
--- The least arrivals over the seconds of a window: they change at events alone.
+-- The least arrivals over the seconds of a window: they change only at events.
 use Rattle.std.proofs.Common.{Option, Some, None, ◌≡◌, ℕ, ◌+◌, ◌<◌, ◌≤◌, ◌⊎◌, min, option_map, unwrap_or, List, [], length, get_or, arith, refl, sym, ◌∙◌, ap, subst, inl, inr, le_refl, eq-or-lt_of_le}
 use Rattle.std.proofs.lemmas.Bool.{cases_lt}
 use Rattle.std.proofs.lemmas.List.Kept.{AllPairs-from_increasing}

@@ -93,7 +93,7 @@ listed : (p : ℕ → Bool) (low n : ℕ) → (list : List ℕ) × Listed p low 
 listed p low zero = ([], ((λ i j d ij jl. absurd (omega (arith, jl))), (λ k d lt. absurd (omega (arith, lt))), sym (tally-zero p low)))
 listed p low (suc n) = listed_more p low n (listed p (suc low) n)
 
--- the test tells at each second of the window whether it is so
+-- the test says at each second of the window whether it is so
 pub record Tells (first last : ℕ) (Is : ℕ → Type 0) (p : ℕ → Bool) : Type 0 where
   pub yes : (d : ℕ) → first ≤ d → d ≤ last → p d ≡ true → Is d
   pub true : (d : ℕ) → first ≤ d → d ≤ last → Is d → p d ≡ true

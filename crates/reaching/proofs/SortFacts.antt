@@ -38,7 +38,7 @@ none = record { stop = 0; arrival = 0; rides = 0 }
 stop-at : (list : List Reached) (i d : ℕ) → i < length list → get_or (map stop_in list) i d ≡ (get_or list i none).stop
 stop-at list i d lt = get_or-map stop_in list i none d lt
 
--- different stops stay so where they change places
+-- different stops stay so if they change places
 stops-apart : (list sorted : List Reached) → AllPairs (λ a b. a.stop < b.stop) list → IsPermutation list sorted → (i j : ℕ) (d : Reached) → i < j → j < length sorted
     → (get_or sorted i d).stop ≡ (get_or sorted j d).stop → ⊥
 stops-apart list sorted rising moved i j d ij jl same =

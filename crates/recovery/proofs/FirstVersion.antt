@@ -15,7 +15,7 @@ use Rattle.recovery.specs.declared.kept.Wanted.TheVariants as wanted
 use Rattle.recovery.proofs.Excerpts.{kept_all}
 use Rattle.recovery.proofs.Openings.{shut_stands}
 
--- where at most a sync was done
+-- if at most a sync was done
 pub only_read : (s t : State) → IsOutcome s.now s.read → (t ≡ s) ⊎ (t ≡ after_sync s) → LeavesOnly s t (IsOutcome s.now)
 only_read s t stays (inl same) = still s t (IsOutcome s.now) same
 only_read s t stays (inr did) = one_more s t s.read (settled_image s.read) (IsOutcome s.now) did (settled_leaves s.read (IsOutcome s.now) stays)

@@ -22,11 +22,11 @@ abbrev pub OnlyOutside : {T : Type 0} → Result T RecoverFault → ℕ → ℕ 
 OnlyOutside result before after =
     MatchResult result (λ _. after ≡ before) (λ fault. (fault ≡ Memory) ⊎ ((fault ≡ Device) × Grew before after))
 
--- no call of the disk failed; or the fault is the device's only where one did
+-- no call of the disk failed; or the fault is the device's only if one did
 abbrev pub OnlyCounted : {T : Type 0} → Result T RecoverFault → ℕ → ℕ → Type 0
 OnlyCounted result before after = MatchResult result (λ _. after ≡ before) (λ fault. fault ≡ Device → Grew before after)
 
--- the first bytes are those of a store of that version and of so many rides, and of a timetable of so many bytes
+-- the first bytes are those of a store of that version and of `most` rides, and of a timetable of `count` bytes
 pub record IsOwnFront (version : Version) (most count : ℕ) (front : List ℕ) : Type 0 where
   pub of : IsOfVersion version front
   pub rides : get_or front 9 0 ≡ most
@@ -43,7 +43,7 @@ IsOtherFront version most count front (Damaged number) = ⊥
 IsOtherFront version most count front Device = ⊥
 IsOtherFront version most count front Memory = ⊥
 
--- neither a closed gate nor an open one with a text behind it
+-- neither a closed gate nor an open one with a text after it
 pub record IsCut (rest : List ℕ) : Type 0 where
   pub no_gate : (gate : ℕ) (free : List ℕ) → rest ≡ gate ∷ free → gate ≢ open_gate → ⊥
   pub no_text : (form : Form) (text more : List ℕ) (tree : Content) → IsSection form text tree → rest ≡ open_gate ∷ (sized text ++ more) → ⊥
@@ -61,7 +61,7 @@ pub record IsNext (rest text : List ℕ) : Type 0 where
   pub small : length text < 2 ^ 32
   pub are : rest ≡ open_gate ∷ (sized text ++ more)
 
--- the text is that of no tree that may stand behind those sources
+-- the text is that of no tree that may stand after those sources
 abbrev pub IsBad : Form → List ℕ → List ℕ → Type 0
 IsBad form before text = (tree : Content) → IsSection form text tree → IsNew tree.source before → ⊥
 

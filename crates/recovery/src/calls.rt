@@ -28,7 +28,7 @@ use timetable::{Rides, StopId, Timetable};
 /// Opens the store of that timetable, and of journeys of at most `rides` rides, that a file holds. What the disk has is synced first. Then
 /// the bytes are read, a section at a time, and each tree is given to the keeper before the next is read. The trees are those of the list
 /// that the bytes stand for. A fresh file is begun; nothing else is written. The disk comes back with each fault, with the same bytes but
-/// where a beginning failed; the keeper may have been given some trees then.
+/// if a beginning failed; the keeper may have been given some trees then.
 pub fn recover_to<D: Disk, K: Keeper>(
     alloc: Global,
     disk: D,
@@ -58,8 +58,8 @@ pub fn recover_to<D: Disk, K: Keeper>(
 
 /// Opens the store of that timetable, and of journeys of at most `rides` rides, that a file holds. What the disk has is
 /// synced first; then the bytes are read, a section at a time. A fresh file is begun; nothing else is written. The trees are
-/// those of the list that the bytes stand for. The disk comes back with each fault, with the same bytes but where a beginning
-/// failed.
+/// those of the list that the bytes stand for. The disk comes back with each fault, with the same bytes unless a
+/// beginning failed.
 pub fn recover<D: Disk>(
     alloc: Global,
     disk: D,

@@ -6,7 +6,7 @@ ghost use Rattle.pattern_tree.specs.Content.{Content};
 use pattern_tree::PatternTree;
 use std::alloc::{AllocError, Allocator};
 
-/// Who is given the trees of a store one by one, in storing order, each as soon as it is read, and keeps of it what it wants. So only one
+/// Who is given the trees of a store one by one, in storing order, each as soon as it is read. Of each it keeps what it wants. So only one
 /// tree is in memory at a time, beside what is kept.
 pub trait Keeper {
     /// What one tree makes of it: the keeper before, the tree, and the keeper after.

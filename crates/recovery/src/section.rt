@@ -18,7 +18,7 @@ use std::alloc::Allocator;
 use tree_codec::laws::{texts_apart, texts_within};
 use tree_codec::{CodecFault, decode_as};
 
-// The tree whose text that is, all of it, where it may stand behind the sources that are present; none where there is no such
+// The tree whose text that is, all of it, if it may stand after the sources that are present; none if there is no such
 // tree.
 fn tree_in<A: Allocator + Clone>(
     alloc: A,
@@ -64,7 +64,7 @@ fn tree_in<A: Allocator + Clone>(
     }
 }
 
-/// A tree that was read, and where the gate behind it stands.
+/// A tree that was read, and where the gate after it stands.
 #[derive(Drop)]
 pub(crate) struct Section<A: Allocator> {
     pub(crate) tree: PatternTree<A>,

@@ -65,7 +65,7 @@ fn has_history(ledger: &Ledger, entries: &[(Call, Reply)]) -> bool {
 }
 
 // Makes the call of the entry of that number after those before it. If memory is refused, the history and what can be seen of the queue
-// must be as before, and the call is made once more: its reply, and those of all later calls, are as if nothing had been refused.
+// must be as before, and the call is made once more. Its reply, and those of all later calls, are as if nothing had been refused.
 fn make_next(
     ledger: &mut Ledger,
     trees: &mut Trees,

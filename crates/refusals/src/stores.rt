@@ -81,7 +81,7 @@ fn store_of_three(alloc: Global, sample: &Sample) -> Result<SectionStore<MemDisk
     Ok(store)
 }
 
-// A put of a tree after three; the later one is put behind it.
+// A put of a tree after three; the later one is put after it.
 fn put_two(
     alloc: Global,
     sample: &Sample,
@@ -103,7 +103,7 @@ fn put_two(
 }
 
 /// A put of A's tree after three, for whose section there is no room in the buffer, and one of B's, for which there is none in the list.
-/// The fifth call of the disk from then on fails: it is that of B's tree, since A's makes four, and a put that is refused for want of
+/// The fifth call of the disk from then on fails. It is the call of B's tree, since A's makes four, and a put that is refused for want of
 /// memory makes none.
 pub fn put(alloc: Global, sample: &Sample) -> Result<Seen, Fail> {
     let [a, b, ..] = sample.trees.as_slice() else {

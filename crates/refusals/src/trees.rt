@@ -57,7 +57,7 @@ fn contains(tree: &PatternTree, number: u8) -> bool {
     }
 }
 
-// Whether a tree has exactly the first so many pairs.
+// Whether a tree has exactly the first `count` pairs.
 fn has_first(tree: &PatternTree, count: u8) -> bool {
     tree.ends() == u32::from(count) && (0..count).all(|number| contains(tree, number))
 }

@@ -91,7 +91,7 @@ all_begun table s d old new rounds rounds' e1 e2 sizes begins settled is = recor
       (begins r (let k : r < length old = omega (arith, in', sizes) in k)) (begins (suc r) (let k : suc r < length old = omega (arith, in', sizes) in k)) (is.nexts r in');
 }
 
--- what a layer does to the next is settled in its rows alone, and lowering a mark undoes nothing
+-- what a layer does to the next is settled only in its rows, and lowering a mark undoes nothing
 next_moved : (table : Table) (x x' y : Layer) → SameRow x.rode x'.rode → SameRow x.ready x'.ready
     → ((q a : ℕ) → By (at x.ready.marks q) a → By (at x'.ready.marks q) a) → IsBegunNext table x y → IsBegunNext table x' y
 next_moved table x x' y rode ready kept is = record {

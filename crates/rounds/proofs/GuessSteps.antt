@@ -7,7 +7,7 @@ use Rattle.lines.specs.declared.line.Times.{Times}
 use Rattle.lines.specs.Lines.{AreNoLater}
 use Rattle.stop_events.proofs.MemberFacts.{none_passes}
 
--- an instance in time, where the one before it isn't, is the first in time
+-- an instance in time, if the one before it isn't, is the first in time
 pub first_is : (times : List Times) (ready k : ℕ) (d : Times) → AllPairs AreNoLater times → k < length times → ready ≤ (get_or times k d).departure
     → (k ≡ 0) ⊎ ((get_or times (k - 1) d).departure < ready) → first_index (λ (t : Times). leb ready t.departure) times ≡ Some k
 first_is times ready k d rising within late before = go (first_index (λ (t : Times). leb ready t.departure) times) refl where

@@ -50,7 +50,7 @@ impl Guesses {
     }
 }
 
-/// Which of the times, which never fall, is the first that departs at `ready` or later, where that is near the one that is guessed.
+/// Which of the times, which never fall, is the first that departs at `ready` or later, if that is near the one that is guessed.
 pub fn near(times: &[Times], ready: u32, guess: usize) -> Option<usize>
     requires { AllPairs AreNoLater times.now }
     ensures { IfSome result (λ first. first_index (λ times. nat_le ready times.departure) times.now ≡ Some first) }

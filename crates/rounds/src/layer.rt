@@ -1,4 +1,4 @@
-//! What is known after so many rides.
+//! What is known after a number of rides.
 
 ghost use Rattle.std.specs.Prelude.{◌≡◌, ℕ, ◌<◌, ◌≤◌, IfOk, length, None};
 ghost use Rattle.timetable.specs.Table.{IsTable, stops_of};
@@ -18,7 +18,7 @@ use std::alloc::{AllocError, Global};
 use stop_labels::{Label, Row};
 use timetable::{LATEST_MOMENT, StopId, Timetable};
 
-/// What is known of each stop after so many rides: when one alights there and when one may board there next.
+/// What is known of each stop after a number of rides: when one alights there and when one may board there next.
 #[derive(Debug, Drop)]
 pub struct Layer {
     pub rode: Row,
@@ -27,7 +27,7 @@ pub struct Layer {
     pub guesses: Guesses,
 }
 
-// Lowers each label to that of the same stop in `below`, where those that weren't lowered there are no sooner than here.
+// Lowers each label to that of the same stop in `below`, if those that weren't lowered there are no sooner than here.
 fn join(below: &Row, row: &mut Row)
     requires size { length below.now.marks ≡ length row.old.marks }
     requires early { AllEarly LATEST_MOMENT below.now.marks }

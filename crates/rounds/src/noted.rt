@@ -51,7 +51,7 @@ fn clear(listed: &[u32], earliest: &mut [u16])
 }
 
 impl Noted {
-    /// None of so many lines.
+    /// None of `lines` lines.
     pub fn none(alloc: Global, lines: usize) -> Result<Self, AllocError>
         ensures { IfOk result (λ noted. length noted ≡ lines) }
     {

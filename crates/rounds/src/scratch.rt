@@ -134,7 +134,7 @@ struct Start {
     depart: u32,
 }
 
-// What comes of one layer by one ride more, where all are done up to it.
+// What comes of one layer by one ride more, if all are done up to it.
 fn ride_from(
     table: &Timetable,
     lines: &Lines,
@@ -167,7 +167,7 @@ fn ride_from(
     );
 }
 
-// What comes of one layer by the changes of those who alight, where all are done up to the rides there.
+// What comes of one layer by the changes of those who alight, if all are done up to the rides there.
 fn change_at(table: &Timetable, start: &Start, index: usize, layers: &mut [Layer], rounds: &[Row])
     requires valid { IsTable table.now }
     requires index { index < length rounds.now }
@@ -177,7 +177,7 @@ fn change_at(table: &Timetable, start: &Start, index: usize, layers: &mut [Layer
     layers[index].change(table);
 }
 
-// What comes of each layer by one ride more, one after the other. Nobody changes where no ride follows.
+// What comes of each layer by one ride more, one after the other. Nobody changes if no ride follows.
 fn ride_layers(
     table: &Timetable,
     lines: &Lines,
@@ -231,8 +231,8 @@ fn run_layers(
 }
 
 impl Scratch {
-    /// For runs over this timetable, of journeys of at most so many rides. It makes the timetable's lines, and fails only
-    /// where memory runs out.
+    /// For runs over this timetable, of journeys of at most `rides` rides. It makes the timetable's lines, and fails only if memory runs
+    /// out.
     pub fn new(alloc: Global, table: &Timetable, rides: Rides) -> Result<Self, AllocError>
         ensures table { IfOk result (λ scratch. IsMadeFor scratch table.now) }
         ensures rides { IfOk result (λ scratch. rides_of scratch ≡ rides) }
@@ -242,7 +242,7 @@ impl Scratch {
     }
 
     /// The same over lines that were made for the timetable before, and that others may hold too: those of threads that run over one
-    /// timetable at once. It fails only where memory runs out.
+    /// timetable at once. It fails only if memory runs out.
     pub fn over(
         alloc: Global,
         table: &Timetable,
@@ -272,8 +272,7 @@ impl Scratch {
         self.rides
     }
 
-    /// The events of a stop of the timetable, strictly rising: the moments that are worth leaving it at. It fails only where
-    /// memory runs out.
+    /// The events of a stop of the timetable, strictly rising: the moments that are worth leaving it at. It fails only if memory runs out.
     pub fn departures(
         &self,
         alloc: Global,
@@ -327,9 +326,9 @@ impl Scratch {
     }
 
     /// The rounds from the stop of the last restart at this moment, as `run` has them, by a run that keeps the labels of the
-    /// runs since then. The moment is no later than that of the last of these. The view tells which arrivals this run lowered.
+    /// runs since then. The moment is no later than that of the last of these. The view says which arrivals this run lowered.
     ///
-    /// It fails only where memory runs out; then the next call is `restart`, or one that begins with it.
+    /// It fails only if memory runs out; then the next call is `restart`, or one that begins with it.
     pub fn run_kept(&mut self, table: &Timetable, depart: u32) -> Result<RoundView<'_>, AllocError>
         requires table { IsMadeFor self.old table.now }
         requires source { source_of self.old < stops_of table.now }
@@ -343,10 +342,10 @@ impl Scratch {
         Ok(self.view())
     }
 
-    /// The rounds from a stop at a moment of at most `LATEST_MOMENT`: for each number of rides up to that of the
-    /// scratch and each stop the least arrival, and where one more ride is sooner the pattern of such a journey.
+    /// The rounds from a stop at a moment of at most `LATEST_MOMENT`. For each number of rides up to that of the scratch and each stop they
+    /// have the least arrival, and, if one more ride is sooner, the pattern of such a journey.
     ///
-    /// It fails only where memory runs out. A scratch serves any stops and moments in turn, also after an error.
+    /// It fails only if memory runs out. A scratch serves any stops and moments in turn, also after an error.
     pub fn run(
         &mut self,
         table: &Timetable,
@@ -364,7 +363,7 @@ impl Scratch {
     }
 
     /// The best numbers from a stop to a stop at a moment of at most `LATEST_MOMENT`, as `scan` has them, among journeys
-    /// of at most as many rides as the scratch has. It fails only where memory runs out, and serves further runs, also after
+    /// of at most as many rides as the scratch has. It fails only if memory runs out, and serves further runs, also after
     /// an error.
     pub fn scan(
         &mut self,

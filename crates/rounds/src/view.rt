@@ -69,8 +69,8 @@ impl<'a> RoundView<'a> {
 }
 
 impl RoundView<'_> {
-    /// The moment of the least arrival over journeys of one to `rides` rides to the stop; none where there is no such
-    /// journey. With no rides, or at a stop that the timetable hasn't, there is none.
+    /// The moment of the least arrival over journeys of one to `rides` rides to the stop; none if there is no such journey. With no rides,
+    /// or at a stop that the timetable hasn't, there is none.
     pub fn arrival(&self, rides: u8, stop: StopId) -> Option<u32>
         requires { rides ≤ length (rounds_of self.now) }
         ensures { result ≡ arrival_in (rounds_of self.now) rides stop }
@@ -81,8 +81,8 @@ impl RoundView<'_> {
         self.rounds[rides as usize - 1].arrival(stop)
     }
 
-    /// The stops of boarding and alighting of a journey of exactly `rides` rides that arrives then, where it is sooner
-    /// than with fewer rides; none exactly where one ride more isn't sooner.
+    /// The stops of boarding and alighting of a journey of exactly `rides` rides that arrives then, if it is sooner than with fewer rides.
+    /// It is none exactly if one ride more isn't sooner.
     pub fn pattern(&self, rides: u8, stop: StopId) -> Option<Path>
         requires some { 1 ≤ rides }
         requires few { rides ≤ length (rounds_of self.now) }
@@ -131,7 +131,7 @@ impl RoundView<'_> {
         self.rounds[rides as usize - 1].lowered()
     }
 
-    // The label of the stop, where it is sooner than that of one ride less.
+    // The label of the stop, if it is sooner than that of one ride less.
     fn sooner_label(&self, rides: u8, stop: StopId) -> Option<&Label>
         requires some { 1 ≤ rides }
         requires few { rides ≤ length (rounds_of self.now) }

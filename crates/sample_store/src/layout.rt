@@ -1,4 +1,4 @@
-//! The bytes of a file of the sample feed's trees, by the layout alone.
+//! The bytes of a file of the sample feed's trees, only by the layout.
 
 use std::alloc::Global;
 use std::test::Fail;
@@ -31,7 +31,7 @@ pub const E: &[u8] = b"\x00\x00\x00\x04\x00\x00\x00\x00";
 /// The texts of all five.
 pub const TEXTS: [&[u8]; 5] = [A, B, C, D, E];
 
-/// The header of a file for a timetable and at most so many rides, its gate open.
+/// The header of a file for a timetable and at most `rides` rides, its gate open.
 pub fn header_of(alloc: Global, table: &Timetable, rides: u8) -> Result<Vec<u8>, Fail> {
     let mut canonical = Vec::new(alloc);
     table.write_canonical(Width::Four, &mut canonical)?;

@@ -1,4 +1,4 @@
-//! For tests only: the trees of the sample feed, and files of them, by the layout alone and as a store writes them.
+//! For tests only: the trees of the sample feed, and files of them, as a store writes them and only by the layout.
 #![tactic(auto)]
 
 mod layout;

@@ -48,7 +48,7 @@ few_pairs pairs n once same below =
           let b = below (get_or pairs c.0 no_pair) (Contains-get_or pairs c.0 no_pair x.0) in
           omega (arith, b, x.1, c.2)
 
--- so many paths of at most 8 rides have at most so many beginnings
+-- a number of paths of at most 8 rides have at most 8 times as many beginnings
 beginnings_few : (pairs : List Pair) → ((p : Pair) → IsIn p pairs → length p.0 ≤ 8) → beginnings pairs ≤ 8 * length pairs
 beginnings_few [] each = omega arith
 beginnings_few (p ∷ pairs) each =
@@ -66,7 +66,7 @@ module _ (rounds : List (List (Option Mark))) (t : ℕ) where
         count None e h = absurd h
         count (Some m) e h = ap (λ (x : List Step). length x) h ∙ counted r m some few e sooner
 
-  -- of so many rides there is one pattern at most
+  -- of `r` rides there is one pattern at most
   same_pattern : (r : ℕ) (p q : Pair) → IsPattern rounds t r p → IsPattern rounds t r q → p ≡ q
   same_pattern r p q a b = ap (λ (x : List Step). (x, p.1)) (path (mark_in rounds r t) a.path b.path) ∙ ap (λ (e : ℕ). (q.0, e)) (a.ends ∙ sym b.ends) where
     path : (o : Option Mark) → IsSomeAnd o (λ m. p.0 ≡ m.path) → IsSomeAnd o (λ m. q.0 ≡ m.path) → p.0 ≡ q.0

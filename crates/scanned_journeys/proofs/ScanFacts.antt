@@ -49,7 +49,7 @@ module _ (table : Table) (s t d k : ℕ) (rounds : List (List (Option Mark))) (a
     abbrev IsThereBy : ℕ → ℕ → Type 0
     IsThereBy r a = (m : Numbers) × TreeReaches table tree t d m × (m.rides ≤ r) × (m.arrival ≤ a)
 
-    -- where one ride more is sooner, its pattern has the journey; where it isn't, fewer rides are as early
+    -- if one ride more is sooner, its pattern has the journey; if it isn't, fewer rides are as early
     by_rounds : (fuel r a : ℕ) → r ≤ fuel → r ≤ k → arrival_in rounds r t ≡ Some a → IsThereBy r a
     by_rounds fuel zero a le few e = absurd (none-some a e)
     by_rounds zero (suc q) a le few e = absurd (let b : ⊥ = omega (arith, le) in b)

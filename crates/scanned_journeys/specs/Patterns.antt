@@ -9,7 +9,7 @@ use Rattle.pattern_tree.specs.Forest.{Pair}
 abbrev pub PaysOff : List (List (Option Mark)) → ℕ → ℕ → Type 0
 PaysOff rounds t r = IsSooner (arrival_in rounds r t) (arrival_in rounds (r - 1) t)
 
--- where one is, the pattern has r rides
+-- if one is, the pattern has r rides
 abbrev pub AreCounted : List (List (Option Mark)) → ℕ → ℕ → Type 0
 AreCounted rounds t k =
     (r : ℕ) (m : Mark) → 1 ≤ r → r ≤ k → mark_in rounds r t ≡ Some m → PaysOff rounds t r → length m.path ≡ r

@@ -29,8 +29,8 @@ fn put(tree: &mut PatternTree, path: &[(StopId, StopId)], end: StopId) -> Result
     }
 }
 
-/// The patterns of the best journeys of one to so many rides to a stop, as the rounds from a source have them. It fails only where
-/// memory runs out.
+/// The patterns of the best journeys of one to `rides` rides to a stop, as the rounds from a source have them. It fails only if memory runs
+/// out.
 pub(crate) fn patterns_to(
     alloc: Global,
     view: &RoundView<'_>,

@@ -45,7 +45,7 @@ pub fn journeys_of(
 /// numbers over all journeys of at most `rides` rides, the way on foot among them, with its rides. No journey with the same numbers leaves
 /// later, and none that leaves as late walks less.
 ///
-/// The rounds find the numbers (RAPTOR), and the pattern of a journey that has them; along each such pattern the earliest rides are
+/// The rounds find the numbers (RAPTOR), and the pattern of a journey that has them. Along each such pattern the earliest rides are
 /// taken (Transfer Patterns). For each journey with a ride it runs the rounds once more at the first event after its departure, and again
 /// if one can leave then. If the one that leaves last walks, one that walks less is sought. All runs are of one scratch. It fails only if
 /// memory runs out.

@@ -58,6 +58,6 @@ size_written front text all four is =
     let long : length all - 4 ≡ length text = omega (arith, ap length is, length-append front text, four) in
     ap (λ (n : ℕ). to_be_bytes w32 n ++ drop 4 all) long ∙ ap (λ (l : List ℕ). to_be_bytes w32 (length text) ++ l) (ap (λ (l : List ℕ). drop 4 l) is ∙ drop_at front text 4 four)
 
--- the text of a tree with these stops alone
+-- the text of a tree with only these stops
 pub text_within : (stops : ℕ) → stops ≤ 1_000_000 → (text : List ℕ) (tree : Content) → IsWithin stops tree → TreeText 4 1000000 text tree → TreeText 4 stops text tree
 text_within stops few text tree within is = (stops_within 4 1000000 stops text tree (omega (arith, few)) is).1 within

@@ -23,11 +23,11 @@ KeptIsHeld = (form : Form) (place : ℕ) (list : List ℕ) (disk : State) → Is
 abbrev pub HeldForGood : Type 0
 HeldForGood = (form : Form) (list : List ℕ) (old new : State) → LosesNothing form old new → HoldsAll form list old → HoldsAll form list new
 
--- a store goes on where nothing is done to it
+-- a store goes on if nothing is done to it
 abbrev pub NothingGoesOn : Type 0
 NothingGoesOn = (form : Form) (list storing : List ℕ) (old new : State) → new ≡ old → GoesOn form list storing old new
 
--- a store goes on by a put, with the tree's source behind its list
+-- a store goes on by a put, with the tree's source after its list
 abbrev pub PutGoesOn : Type 0
 PutGoesOn =
     (form : Form) (list : List ℕ) (trees : List Content) (tree : Content) (old new : State)

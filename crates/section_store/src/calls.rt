@@ -1,6 +1,6 @@
 //! The four calls of the disk by which a tree is put, in this order: its section is written, and synced; the gate before it
 //! is opened, and that is synced. After a fault of one of them none comes any more. Each function makes just its one call, and
-//! fails where that is told to fail.
+//! fails if that call was set to fail.
 
 ghost use Rattle.std.specs.Prelude.{◌≡◌, ◌↔◌, ◌+◌, ◌++◌, [], ◌∷◌, List, length, OnOk, IfOk, IfErr, IsErr, MatchResult};
 ghost use Rattle.disk_model.specs.Disk.{Writes, Syncs, after_sync};
@@ -161,7 +161,7 @@ impl<D: Disk> SectionStore<D> {
         }
     }
 
-    /// Brings the open gate to the disk. The closed gate behind the section is the next that a put opens.
+    /// Brings the open gate to the disk. The closed gate after the section is the next that a put opens.
     pub fn sync_gate(&mut self) -> Result<Receipt, PutFault>
         requires { self.old.next ≡ Step.SyncGate }
         ensures rest { (form : Form) (trees : List Content) → D.honest self.old.disk

@@ -62,7 +62,7 @@ fn close_header<D: Disk>(disk: &mut D) -> Result<(), DiskFault>
     write_and_sync(disk, 0, &[0])
 }
 
-/// Writes the header behind its closed gate, and the first closed gate.
+/// Writes the header after its closed gate, and the first closed gate.
 fn write_header<D: Disk>(disk: &mut D, rest: &[u8]) -> Result<(), DiskFault>
     requires { D.honest disk.old → IsClosed (D.state disk.old) }
     ensures whole { D.honest disk.old → OnOk result (IsWhole rest.now (D.state disk.new)) }
@@ -122,10 +122,10 @@ pub fn rest_of_header(alloc: Global, table: &Timetable, rides: Rides) -> Result<
     Ok(bytes)
 }
 
-/// Begins a store of trees of that timetable and for journeys of at most `rides` rides, in a fresh file, which is made
-/// shorter where need be. A crash at any moment leaves a file that stands for no trees. What a read gives and what a crash
-/// leaves must be one and the same fresh file, as after a sync. The disk comes back with each fault: `Memory`, which comes
-/// before any call of the disk, or `Device`. A trusted disk stays trusted.
+/// Begins a store of trees of that timetable and for journeys of at most `rides` rides, in a fresh file. The file is made shorter if need
+/// be. A crash at any moment leaves a file that stands for no trees. What a read gives and what a crash leaves must be one and the same
+/// fresh file, as after a sync. The disk comes back with each fault: `Memory`, which comes before any call of the disk, or `Device`. A
+/// trusted disk stays trusted.
 pub fn begin<D: Disk>(
     alloc: Global,
     disk: D,

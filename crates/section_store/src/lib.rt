@@ -1,4 +1,4 @@
-//! The file that keeps finished trees: sections behind gates, put so that a crash at any moment leaves the list of trees
+//! The file that keeps finished trees: sections after gates, put so that a crash at any moment leaves the list of trees
 //! before a put or the list after it.
 #![tactic(auto)]
 

@@ -18,7 +18,7 @@ use pattern_tree::laws::finished_is_within;
 use pattern_tree::{Finished, PatternTree};
 
 impl<D: Disk> SectionStore<D> {
-    /// Puts a tree behind those that are stored. A crash at any moment leaves the list before, or that list and this tree;
+    /// Puts a tree after those that are stored. A crash at any moment leaves the list before, or that list and this tree;
     /// after a Receipt it leaves the latter. What a crash could no longer take away it never can again, and a trusted disk
     /// stays trusted. A fault but `Device` comes before any call of the disk and changes nothing; after `Device` each put is
     /// refused, until the file is recovered.

@@ -16,7 +16,7 @@ use std::marker::Model;
 use timetable::StopId;
 
 /// A file of finished trees, and what is known of it: what it is a store of, where the closed gate stands, how long the
-/// section that was written behind it is and whose, and whose trees are stored, in order and as a set. The bytes of a
+/// section that was written after it is and whose, and whose trees are stored, in order and as a set. The bytes of a
 /// section are made in a buffer that is kept. By its type the file of an honest disk has what it should, at each call of a put.
 #[derive(Drop)]
 pub struct SectionStore<D: Disk> {
@@ -137,7 +137,7 @@ impl<D: Disk> SectionStore<D> {
 }
 
 impl SectionStore<MemDisk> {
-    /// Tells the nth call of the disk from now, counted from 1, to fail.
+    /// Makes the nth call of the disk from now, counted from 1, fail.
     pub fn fail_at(&mut self, n: u64)
         ensures state { state_of self.new.disk ≡ state_of self.old.disk }
         ensures failures { failures_of self.new.disk ≡ failures_of self.old.disk }

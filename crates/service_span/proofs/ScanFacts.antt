@@ -20,7 +20,7 @@ use Rattle.service_span.specs.Looked.{is_removed, keeps}
 le_Decides : (a b : ℤ) → Decides (int_le a b) (a ≤ℤ b)
 le_Decides a b = (λ e. search (rules, e), λ h. search (rules, h))
 
--- what comparisons of dates tell
+-- what comparisons of dates say
 pub at_most : (a b : ℤ) (r : Bool) → r ≡ is_le (int_cmp a b) → r ≡ true → a ≤ℤ b
 at_most a b r is yes' = let e : is_le (int_cmp a b) ≡ true = sym is ∙ yes' in grind (arith, ints, e)
 

@@ -16,7 +16,7 @@ same_span p q (Some span) same h = record {
   within = λ date e. h.within date (same date ∙ e);
 }
 
--- where no date passes one of two tests
+-- if no date passes one of two tests
 pub only_second : (p q : Date → Bool) (span : Option Span) → IsSpanWhere p None → IsSpanWhere q span → IsSpanWhere (λ date. p date || q date) span
 only_second p q span none h = same_span q (λ date. p date || q date) span (λ date. ap (λ b. b || q date) (sym (none date))) h
 

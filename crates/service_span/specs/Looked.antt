@@ -27,7 +27,7 @@ is_removed removed service date =
 abbrev pub keeps : BTreeSet (Bor (List ℕ) × ℕ) → CalendarRow → Date → Bool
 keeps removed row date = plans row.service date row && not (is_removed removed row.service date)
 
--- the same, where the service is one of these
+-- the same, if the service is one of these
 abbrev pub is_planned : BTreeSet (Bor (List ℕ)) → BTreeSet (Bor (List ℕ) × ℕ) → Date → CalendarRow → Bool
 is_planned names removed date row = is_member names row.service && keeps removed row date
 

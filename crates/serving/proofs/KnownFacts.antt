@@ -36,7 +36,7 @@ module _ (basis : BasisData) (p : PlannerView) (held : Held) (from to : List ℕ
       (subst (λ s. Journey basis.timetable s point.departure point.legs point.to point.arrival) (sym h.2.is.starts) h.2.is.in_time))
       points is.points_are
 
-  -- the journeys leave early enough to be told of
+  -- the journeys leave early enough to be reported
   pub early : All (λ (point : PointData). point.departure ≤ LATEST_MOMENT) points
   early =
       let is = over_basis in

@@ -21,7 +21,7 @@ use Rattle.reply_lines.specs.declared.reply.Reply.{Reply}
 use Rattle.reply_lines.specs.declared.reply.Reply.TheVariants as replies
 
 module _ (p : PlannerView) (basis : BasisData) (wanted : Bool) (line : List ℕ) (old new : BoardPart) where
-  -- what is told of an answer
+  -- what is reported of an answer
   pub told_reply : (question : Question) (depart : ℕ) (journeys : List PointData) → IsAsked basis.cover line question depart
       → IsAnswered p old new question.from.now question.to.now depart journeys
       → (All (IsExact p.form) old.origin.opened.list → AreBestBetween p question.from.now question.to.now depart journeys)

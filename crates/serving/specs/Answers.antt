@@ -35,7 +35,7 @@ pub record IsOver (basis : BasisData) (p : PlannerView) : Type 0 where
   pub table : p.form.table ≡ basis.timetable
   pub names : p.names ≡ basis.names
 
--- the answer tells these journeys, each from its departure, with their rides and walks if they are wanted
+-- the answer reports these journeys, each from its departure, with their rides and walks if they are wanted
 abbrev pub TellsJourneys : BasisData → Bool → List PointData → Answer → Type 0
 TellsJourneys basis wanted journeys answers.NoRide = ⊥
 TellsJourneys basis wanted journeys (answers.Arrive time) = ⊥
@@ -53,8 +53,8 @@ pub record IsAsked (cover : CoverDays) (line : List ℕ) (question : Question) (
   pub of_day : IsMoment cover question.day question.seconds moment
   pub leaves : depart ≡ depart_of moment
 
--- The line is a question, and the answer tells what one look of the reader gives to it. Where each tree with which the board was opened
--- is complete, these are exactly the best of all journeys.
+-- The line is a question, and the answer reports what one look of the reader gives to it. If each tree with which the board was opened is
+-- complete, these are exactly the best of all journeys.
 pub record IsRightAnswer (p : PlannerView) (basis : BasisData) (wanted : Bool) (line : List ℕ) (old new : BoardPart) (answer : Answer) : Type 0 where
   pub question : Question
   pub depart : ℕ
@@ -78,7 +78,7 @@ pub record AsksWithin (basis : BasisData) (line : List ℕ) (question : Question
   pub asked : question.within ≡ Some within
   pub times_are : AreTimesOf basis question within times
 
--- The line is a question, and the connections are those that one look of the reader gives to it. Where each tree with which the board was
+-- The line is a question, and the connections are those that one look of the reader gives to it. If each tree with which the board was
 -- opened is exact, the trees of the first place's stops are complete, so that these are the connections of all journeys.
 pub record AreRightConnections (p : PlannerView) (basis : BasisData) (wanted : Bool) (line : List ℕ) (old new : BoardPart)
     (shown : Connections) : Type 0 where
@@ -109,14 +109,14 @@ IsRefused p basis line old new refusals.Memory = IsLook old new
 IsRefused p basis line old new (refusals.Ask fault) =
     IsRightRefusal p basis.cover line old new fault ⊎ IsRightRefusalWithin p basis line old new fault
 
--- What is replied to a line by one whose reader knew `old` before it and knows `new` now, where the rides and walks of journeys are wanted or
+-- What is replied to a line by one whose reader knew `old` before it and knows `new` now. The rides and walks of journeys are wanted or
 -- aren't.
 abbrev pub IsReply : PlannerView → BasisData → Bool → List ℕ → BoardPart → BoardPart → Reply → Type 0
 IsReply p basis wanted line old new (replies.Answer answer) = IsRightAnswer p basis wanted line old new answer
 IsReply p basis wanted line old new (replies.Connections shown) = AreRightConnections p basis wanted line old new shown
 IsReply p basis wanted line old new (replies.Refused refusal) = IsRefused p basis line old new refusal
 
--- the reply tells these journeys, or that memory was refused
+-- the reply reports these journeys, or that memory was refused
 abbrev pub IsTold : BasisData → Bool → List PointData → Reply → Type 0
 IsTold basis wanted journeys (replies.Answer answer) = TellsJourneys basis wanted journeys answer
 IsTold basis wanted journeys (replies.Connections shown) = ⊥

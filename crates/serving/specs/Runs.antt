@@ -20,7 +20,7 @@ AreReplies Right (line ∷ lines) old new [] = ⊥
 AreReplies Right (line ∷ lines) old new (reply ∷ replies) =
     (seen : BoardPart) × Right line old seen reply × AreReplies Right lines seen new replies
 
--- the text is right replies to these lines, one behind the other
+-- the text is right replies to these lines, one after the other
 pub record AreAnswered (Right : IsRight) (lines : List (List ℕ)) (start : BoardPart) (text : List ℕ) : Type 0 where
   pub last : BoardPart
   pub replies : List (List ℕ)
@@ -31,8 +31,8 @@ pub record AreAnswered (Right : IsRight) (lines : List (List ℕ)) (start : Boar
 abbrev pub AreFirst : List (List ℕ) → List ℕ → Type 0
 AreFirst front input = (others : List (List ℕ)) × (lines input ≡ front ++ others)
 
--- All lines of the input are replied to, each on the output; or the first ones are, since the input couldn't be read on; or a beginning of
--- the replies to the first ones stands there, since the output refused more; or there was no memory to read a line.
+-- All lines of the input are replied to, each on the output. Or the first ones are, since the input couldn't be read on. Or a beginning of
+-- the replies to the first ones stands there, since the output refused more. Or there was no memory to read a line.
 abbrev pub IsServed : IsRight → BoardPart → List ℕ → Option (List ℕ) → Option (List ℕ) → End → Type 0
 IsServed Right start input old new ends.AllRead = (text : List ℕ) × AreAnswered Right (lines input) start text × Appends old new text
 IsServed Right start input old new ends.Unread =

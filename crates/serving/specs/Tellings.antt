@@ -13,7 +13,7 @@ use Rattle.reply_lines.specs.declared.reply.Reply.{Reply}
 abbrev pub IsAsking : List ℕ → Option Question → Type 0
 IsAsking line question = MatchOption question (NotQuestion line) (IsQuestion line)
 
--- The text tells a reply to the line that is right, by what a reader knew before it and knows after it.
+-- The text reports a reply to the line that is right, by what a reader knew before it and knows after it.
 abbrev pub IsReplyText : Telling → (List ℕ → BoardPart → BoardPart → Reply → Type 0) → List ℕ → BoardPart → BoardPart → List ℕ → Type 0
 IsReplyText tells Right line old new text =
     (question : Option Question) × (reply : Reply) × IsAsking line question × Right line old new reply × tells question reply text

@@ -27,8 +27,8 @@ fn print_text<W: Write>(text: &str, out: &mut W) -> Result<(), OutputRefused>
     }
 }
 
-/// Prints the reply to a question, or to a line that is none, on `out`, and flushes; or that memory was refused, where there is none for
-/// the reply's text.
+/// Prints the reply to a question, or to a line that is none, on `out`, and flushes. Or it prints that memory was refused, if there is none
+/// for the reply's text.
 pub(crate) fn print_reply<T: ReplyTeller, W: Write>(
     alloc: Global,
     basis: &Basis,

@@ -17,7 +17,7 @@ use reply_lines::{Refusal, Reply};
 use std::alloc::Global;
 use timetable::LATEST_MOMENT;
 
-// The journeys as they are told; if memory is refused, that is replied.
+// The journeys as they are reported; if memory is refused, that is replied.
 fn answer_of(
     alloc: Global,
     basis: &Basis,

@@ -55,14 +55,14 @@ fn serve_line<'a, T: ReplyTeller, W: Write>(
     (reader, printed)
 }
 
-/// Reads questions from the input, a line each, and replies to each on `out` before the next one is read: the best journeys between the
-/// question's places, as `Planner::ask` gives them on one look of the reader, or the connections, as `ask_within` gives them on such a
-/// look, or why there are none, as the teller tells it. It waits for nobody but the input and the output. The basis is that of the
+/// Reads questions from the input, a line each, and replies to each on `out` before the next one is read. The reply is the best journeys
+/// between the question's places, as `Planner::ask` gives them on one look of the reader, or the connections, as `ask_within` gives them on
+/// such a look, or why there are none, as the teller says it. It waits for nobody but the input and the output. The basis is that of the
 /// planner's timetable.
 ///
 /// A line is the ids of two places, a date (`YYYYMMDD`) and a time (`HH:MM:SS`), with a tab between each and the next. Another time may
 /// follow after a tab, of the same day: it asks for the connections until then. Any other line is refused, and so is one of more than
-/// 65,536 bytes, whose rest is skipped. Where memory is refused for a line, that is replied.
+/// 65,536 bytes, whose rest is skipped. If memory is refused for a line, that is replied.
 pub fn serve_lines<T: ReplyTeller, R: BufRead, W: Write>(
     alloc: Global,
     planner: &Planner,

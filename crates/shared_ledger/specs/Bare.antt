@@ -1,4 +1,4 @@
--- The timetable that a ledger is for where nobody picks one.
+-- The timetable that a ledger is for if nobody picks one.
 use Rattle.std.specs.Prelude.{[]}
 use Rattle.timetable.specs.Table.{Table}
 

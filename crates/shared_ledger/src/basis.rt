@@ -2,8 +2,8 @@
 
 use std::marker::Brand;
 
-/// The timetable and the most rides that a ledger is for. What lies under a lock is known by its type alone, so the type names them; a
-/// caller picks them where it opens a ledger.
+/// The timetable and the most rides that a ledger is for. What lies under a lock is known only by its type, so the type names them. A
+/// caller picks them when it opens a ledger.
 pub trait Basis {
     ghost use Rattle.std.specs.Prelude.{ℕ};
     ghost use Rattle.timetable.specs.Table.{Table};

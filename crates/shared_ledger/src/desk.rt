@@ -102,7 +102,7 @@ impl<B: Basis> Desk<B> {
         self.ledger.stop()
     }
 
-    /// Stops the ledger, and from now on no claim asks it and nobody waits at Full. Where memory is refused for the entry the ledger
+    /// Stops the ledger, and from now on no claim asks it and nobody waits at Full. If memory is refused for the entry, the ledger
     /// isn't stopped, and no claim asks it all the same.
     pub fn close(&mut self) -> Result<(), AllocError>
         ensures made { OnOk result (Made self.old.ledger Call.Stop Reply.Done self.new.ledger) }
@@ -128,7 +128,7 @@ impl<B: Basis> Desk<B> {
         self.closed
     }
 
-    /// Whether so many seats were left.
+    /// Whether `seats` seats were left.
     pub fn were_left(&self, seats: usize) -> bool
         ensures { IsTrue result ↔ (seats ≤ self.now.left) }
     {
@@ -142,7 +142,7 @@ impl<B: Basis> Desk<B> {
         self.ledger.is_full() && !self.closed
     }
 
-    /// Whether who takes waits: no tree waits, one may come, and not all of so many seats were left.
+    /// Whether who takes waits: no tree waits, one may come, and not all of `seats` seats were left.
     pub fn lacks_tree(&self, seats: usize) -> bool
         ensures { IsTrue result ↔ (((self.now.ledger.trees ≡ []) × MayCome (state_of self.now.ledger)) × (self.now.left < seats)) }
     {

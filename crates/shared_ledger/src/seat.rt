@@ -20,7 +20,7 @@ impl Seat {
     }
 }
 
-// So many seats.
+// `seats` seats.
 pub(crate) fn seats_of(alloc: Global, seats: usize) -> Result<Vec<Seat>, AllocError>
     requires { seats ≤ 256 }
     ensures { IfOk result (λ list. list.items ≡ all_seats seats) }

@@ -13,8 +13,8 @@ use std::sync::{Arc, Condvar, Mutex, Wait};
 use timetable::{Rides, StopId, Timetable};
 use work_ledger::{Claimed, Compared, Entry, Fault, Ledger, Outcome, Refusal, Taken};
 
-/// A ledger that several threads share. Each call is one of the ledger's, made under the lock; what that one promises holds of it, and
-/// the history under the lock is one that a single thread could have made.
+/// A ledger that several threads share. Each call is one of the ledger's, made under the lock, and what that one promises holds of it. The
+/// history under the lock is one that a single thread could have made.
 ///
 /// Who hands in waits at `room`, and who takes at `trees`. A place that comes free wakes one who hands in, and a tree wakes those who take.
 #[derive(Drop)]
@@ -30,7 +30,7 @@ pub struct Shared<B: Basis> {
 }
 
 impl<B: Basis> Shared<B> {
-    /// The ledger under a lock, with so many seats. The ledger comes back where memory is refused.
+    /// The ledger under a lock, with `seats` seats. The ledger comes back if memory is refused.
     pub fn open(
         alloc: Global,
         ledger: Ledger,
@@ -67,9 +67,9 @@ impl<B: Basis> Shared<B> {
         self.desk.lock(rt).claim(seat.number())
     }
 
-    /// Hands in the tree of a source that the seat claimed. It waits for room, each time with an entry that the ledger was full, until
-    /// the ledger is closed. A refused tree comes back. The tree is compared with the ledger's timetable before the lock is taken, so
-    /// both are read whole; who knows that they are the same calls `hand_in_own`.
+    /// Hands in the tree of a source that the seat claimed. It waits for room, each time with an entry that the ledger was full, until the
+    /// ledger is closed. A refused tree comes back. The tree is compared with the ledger's timetable before the lock is taken, so both are
+    /// read whole. Who knows that they are the same calls `hand_in_own`.
     pub fn hand_in<R: Wait>(
         &self,
         rt: &R,
@@ -131,8 +131,8 @@ impl<B: Basis> Shared<B> {
         answer
     }
 
-    /// Takes the tree that has waited longest. It waits for one, each time with an entry that the ledger was empty. None where no tree
-    /// will come: the ledger says so, or all other seats were left. It is for the ledger's timetable and rides.
+    /// Takes the tree that has waited longest. It waits for one, each time with an entry that the ledger was empty. None if no tree will
+    /// come: the ledger says so, or all other seats were left. It is for the ledger's timetable and rides.
     pub fn take<R: Wait>(&self, rt: &R, _seat: &Seat) -> Result<Option<Finished>, AllocError>
         ensures own { IfOk result (λ taken. IfSome taken (λ tree. (tree.table ≡ B.table) × (tree.rides ≡ B.rides))) }
     {

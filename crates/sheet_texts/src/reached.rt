@@ -18,7 +18,7 @@ fn ids_of<'r>(alloc: Global, reach: &Reach<'r>) -> Result<Vec<&'r str>, AllocErr
     Ok(ids)
 }
 
-// A stop that one reaches, as the clock and the names tell it.
+// A stop that one reaches, as the clock and the names say it.
 fn reached_of(
     alloc: Global,
     clock: Clock,

@@ -32,7 +32,7 @@ pub fn asked_by<'a>(command: &'a str, question: &Question<'a>, format: Format) -
     }
 }
 
-/// A text with a line's end behind it.
+/// A text with a line's end after it.
 pub fn line(text: String) -> Result<String, AllocError> {
     let mut text = text;
     text.push('\n')?;

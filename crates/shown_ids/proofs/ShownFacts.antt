@@ -41,7 +41,7 @@ kind c = one (c == 92) refl where
   one true e = doubled (eqb-true c 92 e) (cond-true (c == 92) _ _ e)
   one false e = two (is_control c) refl e
 
--- the character that is shown first, and what is shown behind it
+-- the character that is shown first, and what is shown after it
 first : List ℕ → ℕ
 first l =
     cond (head l == 92)

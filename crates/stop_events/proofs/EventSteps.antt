@@ -69,7 +69,7 @@ stop_of table leg c is = ap (λ o. unwrap_or (option_map (λ (c : Call). c.stop)
 departure_of : (table : Table) (leg : Leg) (c : Call) → call_at table leg.instance leg.board ≡ Some c → departs table leg ≡ c.departure
 departure_of table leg c is = ap (λ o. unwrap_or (option_map (λ (c : Call). c.departure) o) 0) is
 
--- a line that calls at a position to which one walks so many seconds
+-- a line that calls at a position to which one walks `seconds` seconds
 module _ (table : Table) (s seconds position : ℕ) (line : LineData) (halt : Halt) (valid : IsTable table) (ok : IsLine table line)
     (is : slice_get line.halts position ≡ Some halt) (way : foot table s halt.stop ≡ Some seconds) where
   midnight : Times

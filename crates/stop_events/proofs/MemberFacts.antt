@@ -108,7 +108,7 @@ none_passes p xs k d is h = elim (cases_lt (position_or_len p xs) (length xs)) [
   | inr long ↦ fails_before_first p xs k d (omega arith)
 ]
 
--- an instance before another is found exactly where the last one before it departs in time
+-- an instance before another is found exactly if the last one before it departs in time
 pub found_before : (times : List Times) (ready trip : ℕ) (d : Times) → AllPairs AreNoLater times → 0 < trip → trip < length times
     → (ready ≤ (get_or times (trip - 1) d).departure) ↔ IsSomeAnd (first_index (λ (t : Times). leb ready t.departure) times) (λ first. first < trip)
 found_before times ready trip d rising some within =

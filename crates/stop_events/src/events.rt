@@ -11,7 +11,7 @@ use lines::{Halt, Line, Lines};
 use std::alloc::{AllocError, Global};
 use timetable::{StopId, Timetable};
 
-// The last position where one may alight; 0 where there is none.
+// The last position where one may alight; 0 if there is none.
 fn last_alighting(halts: &[Halt]) -> usize
     ensures within { result ≤ length halts.now }
     ensures alights { (result ≡ 0) ⊎ IsSomeAnd (slice_get halts.now result) (λ h. IsTrue h.alight) }
@@ -26,7 +26,7 @@ fn last_alighting(halts: &[Halt]) -> usize
     last
 }
 
-// Adds the moments to leave a stop at for the rides of a line's instances that board at a position, so many seconds away on foot.
+// Adds the moments to leave a stop at for the rides of a line's instances that board at a position, `seconds` seconds away on foot.
 fn gather(
     table: &Timetable,
     line: &Line,
@@ -52,7 +52,7 @@ fn gather(
     Ok(())
 }
 
-// Adds the moments to leave a stop at for the rides that board at one, so many seconds away on foot.
+// Adds the moments to leave a stop at for the rides that board at one, `seconds` seconds away on foot.
 fn gather_at(
     table: &Timetable,
     lines: &Lines,
@@ -72,9 +72,9 @@ fn gather_at(
     Ok(())
 }
 
-/// The events of a stop, strictly rising: the moments, of 0 or later, at which one can leave it and be just in time for a
-/// ride, which boards at the stop, or at a stop to which one walks. Between two of them the journeys of one ride or more
-/// stay the same (`laws::between_events`). It looks at the lines that call at these stops. It fails only where memory runs out.
+/// The events of a stop, strictly rising: the moments, of 0 or later, at which one can leave it and be just in time for a ride. The ride
+/// boards at the stop, or at a stop to which one walks. Between two of the events the journeys of one ride or more stay the same
+/// (`laws::between_events`). It looks at the lines that call at these stops. It fails only if memory runs out.
 pub fn departures(
     alloc: Global,
     table: &Timetable,

@@ -4,7 +4,7 @@ ghost use Rattle.stop_events.specs.Laws.{BetweenEvents, AfterTheLastEvent};
 
 use timetable::Timetable;
 
-/// Between two events nothing changes: with no event from a departure on up to a later one, a journey of one ride or more
+/// Between two events nothing changes. With no event from a departure on up to a later one, a journey of one ride or more
 /// at the first is one at the second, with the same arrival.
 pub fn between_events(_table: &Timetable)
     ensures { BetweenEvents _table.now }

@@ -44,7 +44,7 @@ agreed_put moments labels i a m e in' is =
       ];
     }
 
--- where there are no moments, there are no labels
+-- if there are no moments, there are no labels
 pub none_kept : (moments : List (Option ℕ)) (labels : List Mark) → length labels ≡ length moments → ((p : ℕ) → when moments p ≡ None) → (p : ℕ)
     → at (with_moments moments labels) p ≡ None
 none_kept moments labels size none p =
@@ -65,7 +65,7 @@ no_moment zero p = refl
 no_moment (suc n) zero = refl
 no_moment (suc n) (suc p) = no_moment n p
 
--- where there is a moment, the label is there as it stands
+-- if there is a moment, the label is there as it stands
 pub some_kept : (moments : List (Option ℕ)) (labels : List Mark) (p a : ℕ) (other : Mark) → length labels ≡ length moments → when moments p ≡ Some a
     → at (with_moments moments labels) p ≡ Some (get_or labels p other)
 some_kept moments labels p a other size e = kept_at moments labels p other size ∙ ap (λ moment. kept moment (get_or labels p other)) e

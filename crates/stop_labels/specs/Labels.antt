@@ -3,7 +3,7 @@ use Rattle.std.specs.Prelude.{Option, ◌≡◌, ℕ, List, [], ◌∷◌, lengt
 use Rattle.stop_labels.specs.Mark.{Mark, at, arrival_of}
 use Rattle.stop_labels.specs.Row.{when}
 
--- a label, where there is a moment
+-- a label, if there is a moment
 abbrev pub kept : Option ℕ → Mark → Option Mark
 kept None label = None
 kept (Some moment) label = Some label

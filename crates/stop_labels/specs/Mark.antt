@@ -29,7 +29,7 @@ By mark a = IsSomeAnd mark (λ m. m.arrival ≤ a)
 abbrev pub is_by : Option Mark → ℕ → Bool
 is_by mark a = unwrap_or (option_map (λ m. nat_le m.arrival a) mark) false
 
--- the marks with this one at p, where it is earlier
+-- the marks with this one at p, if it is earlier
 abbrev pub lowered : List (Option Mark) → ℕ → Mark → List (Option Mark)
 lowered marks p mark = if is_by (at marks p) mark.arrival then marks else slice_set marks p (Some mark)
 

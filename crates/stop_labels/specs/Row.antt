@@ -37,6 +37,6 @@ pub record SameRow (old new : RowData) : Type 0 where
   pub size : length new.marks ≡ length old.marks
   pub settled : new.settled ≡ old.settled
 
--- the row with this mark at p, where it is earlier
+-- the row with this mark at p, if it is earlier
 abbrev pub lowered_in : RowData → ℕ → Mark → RowData
 lowered_in row p mark = record { marks = lowered row.marks p mark; settled = row.settled }

@@ -12,7 +12,7 @@ use std::marker::Model;
 use timetable::StopId;
 
 /// A label of each stop, or none. When one is at each stop stands in a list of its own too, since that is looked at far more
-/// often than the rides; a stop without a moment there has no label, whatever stands in its place. Once it is made it takes no memory.
+/// often than the rides. A stop without a moment there has no label, whatever stands in its place. Once it is made it takes no memory.
 #[derive(Debug, Drop)]
 pub struct Labels {
     arrivals: Vec<Moment>,
@@ -31,7 +31,7 @@ impl Model for Labels {
     ghost invariant = { λ a. AreAgreed a.arrivals.items a.labels.items };
 }
 
-// A label for each of so many stops, to be written over.
+// A label for each of `stops` stops, to be written over.
 fn no_labels(alloc: Global, stops: usize) -> Result<Vec<Label>, AllocError>
     ensures { IfOk result (λ labels. length labels.items ≡ stops) }
 {
@@ -42,7 +42,7 @@ fn no_labels(alloc: Global, stops: usize) -> Result<Vec<Label>, AllocError>
     Ok(labels)
 }
 
-/// No moments, at so many stops.
+/// No moments, at `stops` stops.
 pub fn no_moments(alloc: Global, stops: usize) -> Result<Vec<Moment>, AllocError>
     ensures { IfOk result (λ moments. moments.items ≡ replicate {A = Option ℕ} stops None) }
 {
@@ -63,7 +63,7 @@ pub fn clear_moments(moments: &mut [Moment])
 }
 
 impl Labels {
-    /// No labels, at so many stops.
+    /// No labels, at `stops` stops.
     pub fn empty(alloc: Global, stops: usize) -> Result<Self, AllocError>
         ensures { IfOk result (λ labels. labels ≡ replicate {A = Option Mark} stops None) }
     {
@@ -81,7 +81,7 @@ impl Labels {
         clear_moments(&mut self.arrivals);
     }
 
-    /// The label of the stop of this number; none where there is no such stop.
+    /// The label of the stop of this number; none if there is no such stop.
     pub fn label(&self, stop: usize) -> Option<&Label>
         ensures none { IsNone result ↔ (at self.now stop ≡ None) }
         ensures some { IfSome result (λ label. at self.now stop ≡ Some label.now) }
@@ -92,7 +92,7 @@ impl Labels {
         }
     }
 
-    /// When one is at the stop of this number; none where there is no such stop.
+    /// When one is at the stop of this number; none if there is no such stop.
     pub fn arrival(&self, stop: usize) -> Option<u32>
         ensures value { result ≡ arrival_of (at self.now stop) }
         ensures early { IfSome result (λ m. m < never) }

@@ -64,7 +64,7 @@ impl Moment {
         self.number <= latest
     }
 
-    /// Whether it is sooner than the other, where none is later than any moment.
+    /// Whether it is sooner than the other, with none later than any moment.
     pub fn is_sooner(&self, other: &Moment) -> bool
         ensures { IsTrue result ↔ IsSooner self.now other.now }
     {

@@ -68,7 +68,7 @@ fn settle(labels: &Labels, listed: &[StopId], settled: &mut [Moment])
 }
 
 impl Row {
-    /// No labels, at so many stops.
+    /// No labels, at `stops` stops.
     pub fn empty(alloc: Global, stops: usize) -> Result<Self, AllocError>
         ensures size { IfOk result (λ row. length row.marks ≡ stops) }
         ensures none { IfOk result (λ row. (stop : ℕ) → at row.marks stop ≡ None) }
@@ -100,7 +100,7 @@ impl Row {
         self.lowered.clear();
     }
 
-    /// The label of the stop; none where there is no such stop.
+    /// The label of the stop; none if there is no such stop.
     pub fn label(&self, stop: StopId) -> Option<&Label>
         ensures none { IsNone result ↔ (at self.now.marks stop ≡ None) }
         ensures some { IfSome result (λ label. at self.now.marks stop ≡ Some label.now) }
@@ -108,7 +108,7 @@ impl Row {
         self.labels.label(stop.number())
     }
 
-    /// When one is at the stop; none where there is no such stop.
+    /// When one is at the stop; none if there is no such stop.
     pub fn arrival(&self, stop: StopId) -> Option<u32>
         ensures { result ≡ arrivals_of self.now stop }
     {
@@ -154,7 +154,7 @@ impl Row {
         self.labels.moment(stop.number()).is_sooner(there)
     }
 
-    // Puts the label at the stop, at a moment where none is as early, and with one ride more if there is one.
+    // Puts the label at the stop, at a moment earlier than any there, and with one ride more if there is one.
     #[inline(always)]
     fn put(&mut self, stop: StopId, label: &Label, arrival: u32, ride: Option<(StopId, StopId)>)
         requires known { stop < length self.old.marks }
@@ -171,7 +171,7 @@ impl Row {
         self.labels.put(number, label, arrival, ride);
     }
 
-    /// Puts the label at the stop, unless one there is as early. Nothing is copied where one is.
+    /// Puts the label at the stop, unless one there is as early. Nothing is copied if one is.
     pub fn lower_to(&mut self, stop: StopId, label: &Label)
         requires known { stop < length self.old.marks }
         requires early { label.now.arrival < never }
@@ -182,7 +182,7 @@ impl Row {
         }
     }
 
-    /// Puts the label at the stop, so many seconds later, unless one there is as early. Nothing is copied where one is.
+    /// Puts the label at the stop, `seconds` seconds later, unless one there is as early. Nothing is copied if one is.
     pub fn lower_later(&mut self, stop: StopId, label: &Label, seconds: u32)
         requires known { stop < length self.old.marks }
         requires early { label.now.arrival + seconds < never }
@@ -193,8 +193,8 @@ impl Row {
         }
     }
 
-    /// Puts the label at `to` of one who boards at `from` with the label there and is at `to` at the moment of arrival, unless
-    /// one there is as early. Nothing is copied where one is.
+    /// Puts the label at `to` of one who boards at `from` with the label there and is at `to` at the moment of arrival, unless one there is
+    /// as early. Nothing is copied if one is.
     pub fn lower_ridden(&mut self, from: StopId, label: &Label, to: StopId, arrival: u32)
         requires known { to < length self.old.marks }
         requires early { arrival < never }

@@ -13,7 +13,7 @@ filter_read v p (x ∷ xs) =
     elim (p (v x)) as (λ t. map v (cond t (x ∷ filter (λ x. p (v x)) xs) (filter (λ x. p (v x)) xs)) ≡ cond t (v x ∷ filter p (map v xs)) (filter p (map v xs)))
     [ true ↦ ap (λ (l : List _). v x ∷ l) (filter_read v p xs) | false ↦ filter_read v p xs ]
 
--- where no more than the limit was read, it is everything
+-- if no more than the limit was read, it is everything
 pub all_read : (inner remaining : Option (List ℕ)) (limit : ℕ) (before items : List ℕ) → inner ≡ remaining → limit ≡ LONGEST + 1 → before ≡ []
     → IfSome (option_map (take limit) inner) (λ xs. items ≡ before ++ xs) → length items ≤ LONGEST
     → IfSome remaining (λ bytes. (items ≡ bytes) × (length bytes ≤ LONGEST))
@@ -26,7 +26,7 @@ all_read inner (Some bytes) limit before items same most none read few =
     let small : length bytes ≤ LONGEST = omega (arith, count, long) in
     (is ∙ take_all (LONGEST + 1) bytes (omega (arith, small)), small)
 
--- a text is a list, and what isn't one is told so
+-- a text is a list, and what isn't one is reported so
 pub is_list : (remaining : Option (List ℕ)) (items : List ℕ) → IfSome remaining (λ bytes. (items ≡ bytes) × (length bytes ≤ LONGEST))
     → IsUtf8 (strip_bom items) → IfSome remaining (λ bytes. IsContent bytes items)
 is_list None items all text = tt

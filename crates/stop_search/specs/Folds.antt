@@ -14,7 +14,7 @@ decomposed text = encode_utf8_all (nfd (chars text))
 abbrev pub case_folded : List ℕ → List ℕ
 case_folded text = encode_utf8_all (default_case_fold (chars text))
 
--- a nonspacing mark, as an accent that stands behind its letter
+-- a nonspacing mark, as an accent that stands after its letter
 abbrev pub is_mark : ℕ → Bool
 is_mark c = nat_eq (general_category_number (general_category c)) 5
 

@@ -8,10 +8,10 @@ use std::alloc::{AllocError, Global};
 use ucd_category::GeneralCategory;
 use unicode_normalization::to_nfd;
 
-// The number of the category of nonspacing marks, as accents behind their letters.
+// The number of the category of nonspacing marks, as accents after their letters.
 const NONSPACING_MARK: u32 = GeneralCategory::NonspacingMark as u32;
 
-// Whether a character is a nonspacing mark, as an accent that stands behind its letter.
+// Whether a character is a nonspacing mark, as an accent that stands after its letter.
 fn is_mark(character: char) -> bool
     ensures { result ≡ is_mark character }
 {
@@ -27,7 +27,7 @@ fn unmarked(alloc: Global, text: &str) -> Result<String, AllocError>
         .collect(alloc)
 }
 
-/// The text without regard to case and accents: two texts that differ in these alone give the same. It fails only where memory runs out.
+/// The text without regard to case and accents: two texts that differ only in these give the same. It fails only if memory runs out.
 pub fn folded(alloc: Global, text: &str) -> Result<String, AllocError>
     ensures { IfOk result (λ plain. string_bytes plain ≡ folded text.now) }
 {

@@ -6,7 +6,7 @@ use gtfs_text::Sheet;
 use std::alloc::{AllocError, Global};
 use std::fmt;
 
-/// How many stops are listed where not all are asked for.
+/// How many stops are listed if not all are asked for.
 const MOST: usize = 20;
 
 /// The names of the fields of a line, as stops.txt has them.
@@ -49,7 +49,7 @@ fn found<'a>(alloc: Global, sheet: &'a Sheet, text: &str) -> Result<Vec<StopRow<
 }
 
 /// The stops and stations of stops.txt whose id or name contains the text, without regard to case and accents, in the order of their names
-/// and then of their ids: the first twenty, or all of them. It fails only where memory runs out.
+/// and then of their ids: the first twenty, or all of them. It fails only if memory runs out.
 pub fn list_stops<'a>(
     alloc: Global,
     sheet: &'a Sheet,

@@ -6,7 +6,7 @@ use gtfs_text::Sheet;
 use std::alloc::{AllocError, Global};
 use strsim::osa_distance;
 
-/// How many near stops are told.
+/// How many near stops are reported.
 const MOST: usize = 3;
 
 /// The most characters of an id that near stops are looked for.
@@ -19,8 +19,8 @@ struct Near<'a> {
     stop: StopRow<'a>,
 }
 
-// How many characters have to be put in, taken out, changed or swapped with the next to make one text of the other, both without regard to
-// case and accents; none where they are more than so many.
+// How many characters have to be put in, taken out, changed or swapped with the next to make one text of the other; none if they are more
+// than `most`. Both texts are taken without regard to case and accents.
 fn distance_to(
     alloc: Global,
     asked: &str,
@@ -40,7 +40,7 @@ fn distance_to(
     })
 }
 
-// The lesser of two distances, where there is one.
+// The lesser of two distances, if there is one.
 fn lesser(one: Option<usize>, other: Option<usize>) -> Option<usize> {
     match (one, other) {
         (Some(one), Some(other)) => Some(one.min(other)),
@@ -51,7 +51,7 @@ fn lesser(one: Option<usize>, other: Option<usize>) -> Option<usize> {
 
 /// At most three stops and stations whose id or name is nearest to the text, the nearest first: so near that no more characters have to be
 /// put in, taken out, changed or swapped with the next than a third of the text's, without regard to case and accents. One whose id is the
-/// text is passed over. None for a text of more than 64 characters. It fails only where memory runs out.
+/// text is passed over. None for a text of more than 64 characters. It fails only if memory runs out.
 pub fn near_stops<'a>(
     alloc: Global,
     sheet: &'a Sheet,

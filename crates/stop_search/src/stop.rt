@@ -6,8 +6,8 @@ use gtfs_text::Sheet;
 use shown_ids::Shown;
 use std::fmt;
 
-/// A stop or a station of stops.txt. They are in the order of their names, and of their ids where the names are the same. Each text is
-/// empty where the row has none.
+/// A stop or a station of stops.txt. They are in the order of their names, and of their ids if the names are the same. Each text is
+/// empty if the row has none.
 #[derive(Clone, Copy, Debug, PartialEq, Eq, PartialOrd, Ord)]
 pub struct StopRow<'a> {
     /// `stop_name`.
@@ -73,7 +73,7 @@ impl Columns {
     }
 }
 
-/// What a row has in a column: nothing where there is no such column.
+/// What a row has in a column: nothing if there is no such column.
 pub(crate) fn text_in<'a>(sheet: &'a Sheet, row: usize, column: Option<usize>) -> &'a str
     requires { row < length sheet.now }
 {

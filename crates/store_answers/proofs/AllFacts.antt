@@ -1,4 +1,4 @@
--- The audits of all stored trees, told in their order.
+-- The audits of all stored trees, reported in their order.
 use Rattle.std.proofs.Common.{ℕ, List, [], ◌∷◌, slice_index_or, subst}
 use Rattle.std.specs.List.{AllZip}
 use Rattle.pattern_tree.specs.Content.{Content}
@@ -10,7 +10,7 @@ use Rattle.store_answers.specs.Audited.{TellsAudit, TellsStored}
 use Rattle.store_answers.specs.Lines.{TellsOne}
 use Rattle.store_terms.specs.Stores.{form_over}
 
--- what is told of the audits is told of their trees
+-- what is reported of the audits is reported of their trees
 pub told_all : (basis : BasisData) (k : ℕ) (trees : List Content) (audits : List TreeAudit) (lines : List Audit)
     → AllZip (IsTreeAudit (form_over basis k)) trees audits → AllZip (TellsOne basis) audits lines → AllZip (TellsStored basis k) trees lines
 told_all basis k [] [] [] are told = tt

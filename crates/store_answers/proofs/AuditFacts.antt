@@ -47,7 +47,7 @@ shallow_one : (form : Form) (bytes : List ℕ) (trees : List Content) (tree : Co
 shallow_one form bytes trees tree stands is =
     longest_still is.one.pairs tree.pairs form.rides is.pairs (shallow form bytes trees is.one stands (contains_in is.one trees is.among))
 
--- a tree that can't be compared tells of no failed call
+-- a tree that can't be compared reports no failed call
 pub uncompared_fails : (basis : BasisData) (held : ℕ → Option Content) (from : List ℕ) (fault : Fault) (before after : ℕ)
     → IsUncomparedIn basis held from fault → OnlyFailing before after fault
 uncompared_fails basis held from fault before after (inl none) (inl e) = absurd (let t = none.told in cc)

@@ -78,7 +78,7 @@ held_tree s (Some tree) stored = (tree, refl, stored)
 own_of : (s : ℕ) (slot : Option Content) (tree : Content) → IsSomeAnd slot (λ t. t.source ≡ s) → slot ≡ Some tree → tree.source ≡ s
 own_of s slot tree stored is = subst (λ (o : Option Content). IsSomeAnd o (λ t. t.source ≡ s)) is stored
 
--- what tells points of a set tells points of a larger one
+-- what reports points of a set reports points of a larger one
 points_weaker : (basis : BasisData) (Of As : PointData → Type 0) (legs : Bool) (front : List Numbers) (points : List Point)
     → ((p : PointData) → Of p → As p) → AllZip (TellsReached basis Of legs) front points → AllZip (TellsReached basis As legs) front points
 points_weaker basis Of As legs [] [] f h = tt

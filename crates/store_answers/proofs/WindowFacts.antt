@@ -73,7 +73,7 @@ module _ (P Q : ℕ → Numbers → Type 0) (to : (d : ℕ) (n : Numbers) → P 
   chosen_same window None list next are = first_same P Q to from window ENOUGH list next are
   chosen_same window (Some n) list next are = next_same window n list next are
 
--- a question that has no answer tells of no failed call
+-- a question that has no answer reports no failed call
 pub unasked_fails : (basis : BasisData) (board : List (Option Content)) (times : Times) (question : Question) (fault : Fault) (before after : ℕ)
     → IsUnaskedWithin basis (tree_at board) times question fault → OnlyFailing before after fault
 unasked_fails basis board times question fault before after (inl h) =

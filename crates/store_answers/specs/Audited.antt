@@ -71,17 +71,17 @@ IsUncompared basis Lacks from fault = IsNoStop basis from fault ⊎ (IsNoTree ba
 abbrev pub IsUncomparedIn : BasisData → Held → List ℕ → Fault → Type 0
 IsUncomparedIn basis held from fault = IsUncompared basis (λ s. held s ≡ None) from fault
 
--- the first difference of the answers from that tree from those of the timetable, or that there is none, told of a stop by this id
+-- the first difference of the answers from that tree from those of the timetable, or that there is none, reported of a stop by this id
 pub record TellsTree (basis : BasisData) (k : ℕ) (tree : Content) (from : List ℕ) (audit : Audit) : Type 0 where
   pub difference : Option Difference
   pub first : IsFirstDifference basis.timetable tree k difference
   pub told : TellsAudit basis from difference audit
 
--- told of the tree's own stop by its id
+-- reported of the tree's own stop by its id
 abbrev pub TellsStored : BasisData → ℕ → Content → Audit → Type 0
 TellsStored basis k tree audit = TellsTree basis k tree (slice_index_or basis.names.stops tree.source []) audit
 
--- The tree of the id's stop that the file has was compared, and that is told. Nothing was done but to open the file.
+-- The tree of the id's stop that the file has was compared, and that is reported. Nothing was done but to open the file.
 pub record IsAudited (basis : BasisData) (k : ℕ) (from : List ℕ) (old new : State) (report : Report) : Type 0 where
   pub trees : List Content
   pub stands : Stands (form_over basis k) old.read trees
@@ -95,8 +95,8 @@ pub record IsAudited (basis : BasisData) (k : ℕ) (from : List ℕ) (old new : 
   pub told : TellsTree basis k tree from audit
   pub opening : IsOpening (form_over basis k) old new
 
--- Each tree that the file has was compared, and the same is told of each, in the order in which they were stored. Nothing was done but to
--- open the file.
+-- Each tree that the file has was compared, and the same is reported of each, in the order in which they were stored. Nothing was done but
+-- to open the file.
 pub record IsAllAudited (basis : BasisData) (k : ℕ) (old new : State) (report : Report) : Type 0 where
   pub trees : List Content
   pub stands : Stands (form_over basis k) old.read trees

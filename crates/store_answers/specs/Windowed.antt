@@ -23,9 +23,9 @@ use Rattle.told_connections.specs.Windows.{IsRefusedWithin, IsRightWithin, IsWal
 use Rattle.told_connections.specs.Next.{AreChosen}
 use Rattle.told_connections.specs.declared.times.Times.{Times}
 
--- The trees of the first stops are among these, and each connection is a journey of these trees, of those with its numbers and its departure
--- one that walks least. The connections are those of all journeys of these trees; if the trees of the first stops are complete, those of all
--- journeys of at most k rides.
+-- The trees of the first stops are among these, and each connection is a journey of these trees. Of those with its numbers and its
+-- departure it is one that walks least. The connections are those of all journeys of these trees. If the trees of the first stops are
+-- complete, they are those of all journeys of at most k rides.
 pub record AreStoredTold (basis : BasisData) (k : ℕ) (trees : List Content) (legs : Bool) (asked : Option ℕ) (froms tos : List ℕ)
     (first last : ℕ) (shown : Connections) : Type 0 where
   pub stored : All (Contains (sources trees)) froms

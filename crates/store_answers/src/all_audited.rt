@@ -39,9 +39,9 @@ fn all_told<'a>(
     Ok(all)
 }
 
-/// Audits all trees that the file of the disk has, in the order in which they were stored: where the answers of one ride or more of each
-/// differ first from those of the timetable. N workers audit in parallel. The file is recovered, and a fresh one begun. All trees are in
-/// memory then, and are let go as they are audited. `progress` is told how many are audited. The disk comes back.
+/// Audits all trees that the file of the disk has, in the order in which they were stored. It finds where the answers of one ride or more
+/// of each differ first from those of the timetable. N workers audit in parallel. The file is recovered, and a fresh one begun. All trees
+/// are in memory then, and are let go as they are audited. `progress` is given how many are audited. The disk comes back.
 pub fn audit_all<'a, D: Disk, R: Threads + Sync, P: AuditProgress>(
     alloc: Global,
     rt: &R,

@@ -16,8 +16,8 @@ use timetable::Rides;
 use told_connections::{Times, ask_within};
 
 /// The connections between the question's places, each a stop or a station, that depart from the moment to `until`, from the trees that
-/// the file of the disk has, with their rides and walks if `legs` wants them. The file is recovered, and a fresh one begun; of its trees
-/// only those are kept that the question leaves from. The disk comes back.
+/// the file of the disk has. They have their rides and walks if `legs` wants them. The file is recovered, and a fresh one begun; of its
+/// trees only those are kept that the question leaves from. The disk comes back.
 pub fn ask_stored_within<'a, D: Disk>(
     alloc: Global,
     basis: &'a Basis,

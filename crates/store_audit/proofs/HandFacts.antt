@@ -72,7 +72,7 @@ none_waits : (back : List Content) → AllZip IsHeldTree back [] → back ≡ []
 none_waits [] h = refl
 none_waits (tree ∷ back) h = absurd h
 
--- where none waits, all are audited
+-- if none waits, all are audited
 pub all_done : (form : Form) (trees : List Content) (done : List TreeAudit) → AreInHand form trees done [] → AllZip (IsTakenAudit form) trees done
 all_done form trees done h =
     subst (λ (l : List Content). AllZip (IsTakenAudit form) l done)

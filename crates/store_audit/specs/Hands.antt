@@ -38,7 +38,7 @@ pub record IsAuditOf (due : Due) (audit : TreeAudit) : Type 0 where
   pub source : audit.source ≡ due.patterns.source
   pub difference : audit.difference ≡ due.difference
 
--- the audits of these trees are put behind others
+-- the audits of these trees are put after others
 pub record Gathers (due : List Due) (old new : List TreeAudit) : Type 0 where
   pub audits : List TreeAudit
   pub are : new ≡ old ++ audits

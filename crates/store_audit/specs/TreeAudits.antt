@@ -15,7 +15,7 @@ pub record IsTreeAudit (form : Form) (tree : Content) (audit : TreeAudit) : Type
 abbrev pub AreAuditsOf : Form → List ℕ → List TreeAudit → Type 0
 AreAuditsOf form bytes audits = (trees : List Content) × Stands form bytes trees × AllZip (IsTreeAudit form) trees audits
 
--- the stops that an audit names are stops of a timetable that has so many
+-- the stops that an audit names are stops of a timetable that has `stops` stops
 pub record IsKnown (stops : ℕ) (audit : TreeAudit) : Type 0 where
   pub source : audit.source < stops
   pub to : IfSome audit.difference (λ difference. difference.to < stops)

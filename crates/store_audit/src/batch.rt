@@ -38,7 +38,7 @@ fn audit_each<R: Threads + Sync>(crew: &Crew<'_, R>, due: &mut [Due])
     );
 }
 
-// Puts the audits of trees behind others, in order. It fails if one is none, or memory runs out.
+// Puts the audits of trees after others, in order. It fails if one is none, or memory runs out.
 fn gather(due: &[Due], done: &mut Vec<TreeAudit>) -> Result<(), AllocError>
     ensures { OnOk result (Gathers due.now done.old.items done.new.items) }
 {
@@ -51,7 +51,7 @@ fn gather(due: &[Due], done: &mut Vec<TreeAudit>) -> Result<(), AllocError>
     Ok(())
 }
 
-// Audits the trees of a batch, and puts their audits behind others. It fails only if memory runs out.
+// Audits the trees of a batch, and puts their audits after others. It fails only if memory runs out.
 fn audit_batch<R: Threads + Sync>(
     crew: &Crew<'_, R>,
     batch: &mut Vec<Due>,
@@ -65,8 +65,8 @@ fn audit_batch<R: Threads + Sync>(
     gather(batch, done)
 }
 
-/// Audits the trees of all batches, and puts their audits behind others. Each batch is let go once it is audited. `progress` is told how
-/// many audits there are then. It fails only if memory runs out.
+/// Audits the trees of all batches, and puts their audits after others. Each batch is let go once it is audited. It reports to `progress`
+/// how many audits there are then. It fails only if memory runs out.
 pub(crate) fn audit_batches<R: Threads + Sync, P: AuditProgress>(
     crew: &Crew<'_, R>,
     batches: Vec<Vec<Due>>,

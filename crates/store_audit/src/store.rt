@@ -40,8 +40,8 @@ fn audits_of<R: Threads + Sync, P: AuditProgress>(
 
 /// The audits of all trees that the file of the disk has, for the crew's timetable and rides, in the order in which they were stored. The
 /// file is recovered, and a fresh one begun; nothing else is written. All trees are in memory then, packed as they are asked. Each batch
-/// is let go once it is audited. `progress` is told how many are audited. The disk comes back; want of memory, also for an audit, is the
-/// fault `Memory`.
+/// is let go once it is audited. It reports to `progress` how many are audited. The disk comes back; want of memory, also for an audit, is
+/// the fault `Memory`.
 pub fn audit_store<D: Disk, R: Threads + Sync, P: AuditProgress>(
     crew: &Crew<'_, R>,
     disk: D,

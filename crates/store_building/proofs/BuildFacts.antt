@@ -156,18 +156,18 @@ module _ {D : Type 0} (part : Share) (honest : D → Type 0) (state : D → Stat
   left outcomes.DeviceFailed p = tt
   left outcomes.NoMemory p = tt
 
-  -- what is left is told of the stops of that form
+  -- what is left is reported of the stops of that form
   pub left_of : (form : Form) (outcome : Outcome) → first.form ≡ form → IsPrecomputed part honest state failures first last outcome
       → CountsLeft part (stops_of form.table) last.stored outcome
   left_of form outcome same p =
       subst (λ (x : Form). CountsLeft part (stops_of x.table) last.stored outcome) (same_form outcome p ∙ same) (left outcome p)
 
-  -- want of memory tells of no failed call
+  -- want of memory reports no failed call
   of_memory : (fault : Fault) → fault ≡ faults.Memory → OnlyFailing (failures first.disk) (failures last.disk) fault
   of_memory fault is =
       subst (OnlyFailing (failures first.disk) (failures last.disk)) (sym is) (memory_fails (failures first.disk) (failures last.disk))
 
-  -- a build without a report tells of a failed call only where one failed
+  -- a build without a report says that a call failed only if one did
   pub end_fails : (outcome : Outcome) (fault : Fault) → IsEndOf outcome fault → IsPrecomputed part honest state failures first last outcome
       → OnlyFailing (failures first.disk) (failures last.disk) fault
   end_fails outcomes.Done fault is p = of_memory fault is

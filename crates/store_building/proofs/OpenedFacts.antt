@@ -35,13 +35,13 @@ opened_reader form old desk readers rest reader last each same holds opened righ
       right = λ trusted. subst (λ (f : Form). All (IsExact f) desk.board.origin.opened.list) same (right trusted);
     })
 
--- why a planner isn't opened, as a recovery tells it
+-- why a planner isn't opened, as a recovery reports it
 pub unopened_cause : (form : Form) (bytes : List ℕ) (fault : OpenFault) → IsPlannerUnopened form bytes fault
     → CauseOf form bytes (cause_of fault) × (IsOutside (cause_of fault) ⊎ StandsForNoList form bytes)
 unopened_cause form bytes (opens.Recover fault) h = h
 unopened_cause form bytes opens.Memory h = (tt, inl (inr refl))
 
--- the disk is left alone unless the device or memory failed, as a recovery tells it
+-- the disk is left alone unless the device or memory failed, as a recovery reports it
 pub alone_by : (fault : OpenFault) (old new : State) → IsNotTheBytes fault ⊎ IsLeftAlone old new → IsOutside (cause_of fault) ⊎ IsLeftAlone old new
 alone_by (opens.Recover fault) old new h = h
 alone_by opens.Memory old new h = inl (inr refl)

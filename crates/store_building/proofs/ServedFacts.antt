@@ -13,7 +13,7 @@ use Rattle.store_building.specs.Replies.{AreReplied, IsOpenedReader}
 use Rattle.store_terms.specs.Stores.{form_over}
 use Rattle.store_building.specs.Openings.{planner_over}
 
--- of a known input, where the reader is one of a board that was opened so
+-- of a known input, if the reader is one of a board that was opened so
 pub replied : (basis : BasisData) (k : ℕ) (tells : Telling) (wanted : Bool) (old : State) (input before after : Option (List ℕ)) (end : End) (reader : BoardPart) (p : PlannerView)
     → p ≡ planner_over basis k → IsOpenedReader (form_over basis k) old reader
     → IfSome input (λ bytes. IsServed (IsReplyText tells (IsReply p basis wanted)) reader bytes before after end)

@@ -1,4 +1,4 @@
--- What a build does to a store, and what the program tells of it.
+-- What a build does to a store, and what the program reports of it.
 use Rattle.std.specs.Prelude.{◌≡◌, ◌⊎◌, ◌≤◌, ◌+◌, ◌++◌, ℕ, List, [], Result, Ok, Err, length}
 use Rattle.std.specs.List.{All}
 use Rattle.disk_model.specs.Disk.{State}
@@ -27,10 +27,11 @@ pub record AddsOf (part : Share) (old new : List ℕ) : Type 0 where
   pub is : new ≡ old ++ more
   pub own : All (IsOf part) more
 
--- A build of a part, whenever it is stopped. The file stood for the old list. After it trees of the part's stops are stored, in the order in
--- which workers hand them in, whatever that is; at most one has begun to be stored that isn't acknowledged. From the moment at which the
--- file was recovered, each outcome at each moment stands for the very trees of the old list and for others after them, in that order. What each outcome of one
--- moment held, each outcome of each later one holds, and each one of the end all that is acknowledged. A trusted disk stays trusted.
+-- A build of a part, whenever it is stopped. The file stood for the old list. After it trees of the part's stops are stored, in the order
+-- in which workers hand them in, whatever that is. At most one has begun to be stored that isn't acknowledged. From the moment at which the
+-- file was recovered, each outcome at each moment stands for the very trees of the old list and for others after them, in that order. What
+-- each outcome of one moment held, each outcome of each later one holds, and each one of the end all that is acknowledged. A trusted disk
+-- stays trusted.
 pub record IsBuilding (part : Share) (form : Form) (old new : State) (before acknowledged storing : List ℕ) : Type 0 where
   pub stood : StandsForSources form before old.read
   pub life : IsLife form old new before storing

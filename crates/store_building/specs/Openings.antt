@@ -12,7 +12,7 @@ use Rattle.store_terms.specs.Stores.{form_over}
 abbrev pub planner_over : BasisData → ℕ → PlannerView
 planner_over basis k = record { form = form_over basis k; names = basis.names }
 
--- why a planner isn't opened, as a recovery tells it
+-- why a planner isn't opened, as a recovery reports it
 abbrev pub cause_of : OpenFault → RecoverFault
 cause_of (opens.Recover fault) = fault
 cause_of opens.Memory = Memory

@@ -27,7 +27,8 @@ pub record IsOpenedReader (form : Form) (old : State) (reader : BoardPart) : Typ
   pub opened : AllZip IsSameTree trees reader.origin.opened.list
   pub right : IsTrusted form old → All (IsExact form) reader.origin.opened.list
 
--- The lines of an input are replied to, each from one look of such a reader, and told so, with rides and walks where they are wanted.
+-- The lines of an input are replied to, each from one look of such a reader. Each reply stands there as a text of the telling, with rides and
+-- walks if they are wanted.
 pub record AreReplied (basis : BasisData) (k : ℕ) (tells : Telling) (wanted : Bool) (old : State) (input : List ℕ) (before after : Option (List ℕ))
     (end : End) : Type 0 where
   pub reader : BoardPart

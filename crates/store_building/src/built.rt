@@ -91,7 +91,7 @@ fn report_of<'a>(built: Result<Built<'a>, Fault<'a>>) -> Result<Report<'a>, Faul
 /// stop is left without its tree if that is too large, or memory is refused for it.
 ///
 /// Of an honest disk, whatever the order of the workers' steps: stopped before, within or after any call, the file stands for a list that
-/// begins with the old one, and has each tree whose storing was done; the same build again goes on from there.
+/// begins with the old one, and has each tree whose storing was done. The same build again goes on from there.
 pub fn build<'a, D: Disk + Drop, T: Threads + Wait + Sync, P: Progress>(
     alloc: Global,
     rt: &T,

@@ -20,7 +20,7 @@ use std::alloc::Global;
 use std::sync::{Arc, Wait};
 use timetable::Rides;
 
-// Why a planner isn't opened, as a recovery tells it.
+// Why a planner isn't opened, as a recovery reports it.
 fn cause(fault: OpenFault) -> RecoverFault
     ensures { result ≡ cause_of fault }
 {

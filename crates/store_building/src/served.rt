@@ -77,7 +77,7 @@ impl<'s, T: ReplyTeller, R: BufRead, W: Write + Drop> Meanwhile for Serving<'s, 
 }
 
 /// Replies to the questions of the input, a line each, on `out`, as the teller has it, while workers build the trees that the file of the
-/// disk lacks, and each is stored and shown to who asks: `serve_lines` says what the lines and the replies are, and `build` what a build
+/// disk lacks, and each is stored and shown to who asks. `serve_lines` says what the lines and the replies are, and `build` what a build
 /// is. Once there are no more lines, or the output refuses a write, no tree is begun any more, and what is in hand ends. The disk
 /// and the output come back.
 ///

@@ -100,7 +100,7 @@ board_none stops board bare = λ s below. record {
   own = λ tree at. absurd (none_some tree (sym (bare s) ∙ at));
 }
 
--- what a slot tells
+-- what a slot says
 pub slot_none : (list : List ℕ) (s : ℕ) (slot : Option Content) → IsSlotOf list s slot → None ≡ slot → IsNew s list
 slot_none list s slot is at = among_new s list (sym is.there ∙ ap (λ (p : Option Content). is_some p) (sym at))
 
@@ -119,7 +119,7 @@ copied_some : (found : Option (Bor Content)) → is_some (option_copied found) �
 copied_some None = refl
 copied_some (Some tree) = refl
 
--- what a look at a slot tells
+-- what a look at a slot says
 pub look_none : (list : List ℕ) (s : ℕ) (slot : Option Content) (found : Option (Bor Content)) → IsSlotOf list s slot → option_copied found ≡ slot → is_some found ≡ false → IsNew s list
 look_none list s slot found is at none =
     among_new s list (sym is.there ∙ ap (λ (p : Option Content). is_some p) (sym at) ∙ copied_some found ∙ none)

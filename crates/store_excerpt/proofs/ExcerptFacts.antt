@@ -1,4 +1,4 @@
--- What an excerpt tells of the stops whose trees are kept.
+-- What an excerpt says of the stops whose trees are kept.
 use Rattle.std.proofs.Common.{◌≡◌, ◌<◌, Bor, true, nat_eq, ℕ, List, [], ◌∷◌, Option, None, Some, All, IfSome, length, arith, refl, sym, ◌∙◌, subst, inl, inr}
 use Rattle.std.specs.Option.{option_copied}
 use Rattle.std.specs.List.{Contains, list_any}
@@ -26,7 +26,7 @@ own_passes s n froms has is = elim (cases_eq n s) [
   | inr other ↦ absurd (let no : ⊥ = grind (arith, nat_tests) in no)
 ]
 
--- of the trees of some stops each such stop is a source where it was one of all
+-- of the trees of some stops each such stop is a source if it was one of all
 kept_among : (s : ℕ) (froms : List ℕ) (trees : List Content) → Contains froms s → is_among s (sources (trees_of froms trees)) ≡ is_among s (sources trees)
 kept_among s froms trees has =
     among_sources s (trees_of froms trees)
@@ -44,7 +44,7 @@ shows_among stops froms trees board is = record {
   slot : (s : ℕ) → s < stops → Contains froms s → IsSlotOf (sources trees) s (tree_at board s)
   slot s below has = record { there = (is s below).there ∙ kept_among s froms trees has; own = (is s below).own }
 
--- those that are kept are whole where all are
+-- those that are kept are whole if all are
 pub kept_whole : (form : Form) (among froms : List ℕ) (trees : List Content) → All (IsWholeAmong form among) trees
     → All (IsWholeAmong form among) (trees_of froms trees)
 kept_whole form among froms trees all = All-filter (λ (t : Content). is_among t.source froms) (IsWholeAmong form among) trees all

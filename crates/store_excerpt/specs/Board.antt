@@ -9,7 +9,7 @@ use Rattle.section_store.specs.Lasting.{IsExact}
 use Rattle.section_store.specs.Sections.{Form, IsNew}
 use Rattle.section_store.specs.Sources.{is_among}
 
--- what stands in a stop's slot is the stop's tree, where the list has the stop, else nothing
+-- what stands in a stop's slot is the stop's tree, if the list has the stop, else nothing
 pub record IsSlotOf (list : List ℕ) (s : ℕ) (slot : Option Content) : Type 0 where
   pub there : is_some slot ≡ is_among s list
   pub own : (tree : Content) → slot ≡ Some tree → tree.source ≡ s
@@ -22,7 +22,7 @@ IsBoardOf stops list board = (s : ℕ) → s < stops → IsSlotOf list s (tree_a
 abbrev pub AreOwn : List (Option Content) → Type 0
 AreOwn board = (s : ℕ) (tree : Content) → tree_at board s ≡ Some tree → tree.source ≡ s
 
--- of each of these stops, the board has its tree exactly where the list has the stop
+-- of each of these stops, the board has its tree exactly if the list has the stop
 pub record ShowsAmong (stops : ℕ) (froms list : List ℕ) (board : List (Option Content)) : Type 0 where
   pub held : (s : ℕ) → s < stops → Contains froms s → IsStored (tree_at board) s ↔ Contains list s
   pub missing : (s : ℕ) → s < stops → Contains froms s → (tree_at board s ≡ None) ↔ IsNew s list
@@ -42,7 +42,7 @@ AreOf trees board = (s : ℕ) (tree : Content) → tree_at board s ≡ Some tree
 abbrev pub AreExact : Form → List (Option Content) → Type 0
 AreExact form board = (s : ℕ) (tree : Content) → tree_at board s ≡ Some tree → IsExact form tree
 
--- the tree is whole where it is that of one of these stops
+-- the tree is whole if it is that of one of these stops
 abbrev pub IsWholeAmong : Form → List ℕ → Content → Type 0
 IsWholeAmong form froms tree = Contains froms tree.source → IsWhole form.table form.rides tree
 

@@ -6,7 +6,7 @@ use Rattle.pattern_query.specs.Questions.{AreComplete, IsStored, tree_at}
 use Rattle.section_store.specs.Sections.{Form}
 use Rattle.store_excerpt.specs.Board.{AreWholeAmong}
 
--- Where the trees of some stops are there, and each of them is whole, they are complete, and no path of theirs has more rides than
+-- If the trees of some stops are there, and each of them is whole, they are complete, and no path of theirs has more rides than
 -- were asked.
 abbrev pub WholeIsComplete : Type 0
 WholeIsComplete =

@@ -13,7 +13,7 @@ use std::alloc::{AllocError, Global};
 use std::marker::Model;
 use timetable::StopId;
 
-/// For each stop the patterns of its tree, where they are there.
+/// For each stop the patterns of its tree, if they are there.
 #[derive(Drop)]
 pub struct Board {
     slots: Vec<Option<Patterns>>,
@@ -57,7 +57,7 @@ impl Board {
         Ok(board)
     }
 
-    /// Puts patterns in the slot of their source, where it has one.
+    /// Puts patterns in the slot of their source, if it has one.
     pub fn show(&mut self, patterns: Patterns)
         ensures { self.new ≡ slice_set self.old patterns.source (Some patterns) }
     {
@@ -66,7 +66,7 @@ impl Board {
         }
     }
 
-    /// The patterns of a source, where they are there. It takes no memory.
+    /// The patterns of a source, if they are there. It takes no memory.
     pub fn patterns(&self, source: StopId) -> Option<&Patterns>
         ensures { option_copied result ≡ slice_index_or self.now source None }
     {

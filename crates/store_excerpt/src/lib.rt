@@ -1,4 +1,4 @@
-//! An open store with the trees of some stops alone: as much of a store as a question takes that leaves from these stops.
+//! An open store with the trees of only some stops: as much of a store as a question takes that leaves from these stops.
 #![tactic(auto)]
 
 mod board;

@@ -1,4 +1,4 @@
--- What a reported fault of a merge tells of the calls of the disk into which the parts are put.
+-- What a reported fault of a merge says of the calls of the disk into which the parts are put.
 use Rattle.std.proofs.Common.{◌≡◌, ℕ, List, refl, sym, subst, inl, inr}
 use Rattle.disk_model.specs.Disk.{Grew}
 use Rattle.recovery.specs.declared.fault.RecoverFault.{RecoverFault}
@@ -45,7 +45,7 @@ module _ (before after : ℕ) where
   silent_size (inr (inl e)) = cc
   silent_size (inr (inr e)) = cc
 
-  -- a store that isn't opened: only its device tells of a call
+  -- a store that isn't opened: only its device reports a call
   silent_store : (why : RecoverFault) → (why ≡ stores.Device → ⊥) → Tells (faults.Store why)
   silent_store why isnt (inl e) = let is : why ≡ stores.Device = cc in absurd (isnt is)
   silent_store why isnt (inr (inl e)) = cc

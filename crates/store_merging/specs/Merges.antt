@@ -1,4 +1,4 @@
--- What a merge does to a file, and what the program tells of it.
+-- What a merge does to a file, and what the program reports of it.
 use Rattle.std.specs.Prelude.{◌≡◌, ◌⊎◌, ℕ, List}
 use Rattle.std.specs.List.{All}
 use Rattle.disk_model.specs.Disk.{State}
@@ -67,7 +67,7 @@ CauseOfStop form all (merges.Put puts.AlreadyStored) = ⊥
 CauseOfStop form all (merges.Put puts.Failed) = ⊥
 CauseOfStop form all (merges.Put puts.OtherTimetable) = ⊥
 
--- the trees aren't put together, or it isn't told that they are
+-- the trees aren't put together, or it isn't reported that they are
 abbrev pub IsUnmerged : BasisData → ℕ → List Content → State → State → UnmergedFault → Type 0
 IsUnmerged basis k all old new (faults.Unopened why) = IsUnopened (form_over basis k) old new why
 IsUnmerged basis k all old new (faults.Stopped why) =

@@ -24,8 +24,8 @@ use timetable::Rides;
 /// if it is fresh; each stop that it has keeps its tree. It reports how many stops the file has then, and the ids of those that it lacks.
 /// `progress` hears how many it has. The disk comes back. Of the parts nothing is written, and only one tree is in memory at a time.
 ///
-/// Of honest disks: stopped before, within or after any call, the file stands for a front of the merged list that begins with what it had;
-/// the same command goes on from there.
+/// Of honest disks: stopped before, within or after any call, the file stands for a front of the merged list that begins with what it had.
+/// The same command goes on from there.
 pub fn merge_parts<'a, D: Disk, E: Disk, P: MergeProgress>(
     alloc: Global,
     basis: &'a Basis,

@@ -1,4 +1,4 @@
--- What opening the store of a basis's timetable gives, where the timetable is named as the opening took it.
+-- What opening the store of a basis's timetable gives, if the timetable is named as the opening took it.
 use Rattle.std.proofs.Common.{◌≡◌, ◌⊎◌, ℕ, Result, Ok, Err, MatchResult, IfOk, IfErr, subst, inl, inr}
 use Rattle.disk_model.specs.Disk.{State, Grew}
 use Rattle.timetable.specs.Table.{Table}
@@ -42,7 +42,7 @@ unopened basis k table old new why fault is cause no_list alone told opening = o
   opening = opening;
 })
 
--- a store that isn't opened tells of a failed call for no other cause
+-- a store that isn't opened reports a failed call for no other cause
 device_why : (why : RecoverFault) → TellsDevice (of_store why) → why ≡ stores.Device
 device_why stores.Device says = cc
 device_why stores.Memory (inl e) = cc
@@ -68,7 +68,7 @@ pub unopened_fails : (why : RecoverFault) (fault : Fault) (before after : ℕ) �
     → (why ≡ stores.Device → Grew before after) → OnlyFailing before after fault
 unopened_fails why fault before after told device says = device (device_why why (subst TellsDevice told says))
 
--- want of memory tells of no failed call
+-- want of memory reports no failed call
 pub memory_fails : (before after : ℕ) → OnlyFailing before after faults.Memory
 memory_fails before after (inl e) = cc
 memory_fails before after (inr (inl e)) = cc

@@ -22,8 +22,8 @@ form_over basis k = form_of basis.timetable k
 abbrev pub old_form_over : BasisData → ℕ → Form
 old_form_over basis k = old_form_of basis.timetable k
 
--- The store isn't opened: its bytes stand for no list, for this cause, and then the file reads as before; or else a call of the disk failed,
--- or memory ran out. Nothing of it is lost.
+-- The store isn't opened: its bytes stand for no list, for this cause, and then the file reads as before. Or else a call of the disk
+-- failed, or memory ran out. Nothing of it is lost.
 pub record IsUnopened (form : Form) (old new : State) (fault : Fault) : Type 0 where
   pub why : RecoverFault
   pub cause : CauseOf form old.read why
@@ -32,7 +32,7 @@ pub record IsUnopened (form : Form) (old new : State) (fault : Fault) : Type 0 w
   pub told : fault ≡ of_store why
   pub opening : IsOpening form old new
 
--- the store isn't opened, or memory ran out behind that
+-- the store isn't opened, or memory ran out after that
 abbrev pub IsUntold : BasisData → ℕ → State → State → Fault → Type 0
 IsUntold basis k old new fault =
     IsUnopened (form_over basis k) old new fault ⊎ ((fault ≡ faults.Memory) × IsOpening (form_over basis k) old new)
@@ -42,7 +42,7 @@ abbrev pub TellsDevice : Fault → Type 0
 TellsDevice fault =
     (fault ≡ faults.Store Device) ⊎ ((fault ≡ faults.PutFailed) ⊎ (fault ≡ faults.Migration sides.New (files.Recover Device)))
 
--- such a fault comes only where one more call of the disk failed
+-- such a fault comes only if one more call of the disk failed
 abbrev pub OnlyFailing : ℕ → ℕ → Fault → Type 0
 OnlyFailing before after fault = TellsDevice fault → Grew before after
 

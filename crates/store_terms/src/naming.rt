@@ -9,7 +9,7 @@ use feed_basis::Basis;
 use std::alloc::{AllocError, Global};
 use timetable::StopId;
 
-/// The ids of these stops of the timetable, in their order. It fails only where memory runs out.
+/// The ids of these stops of the timetable, in their order. It fails only if memory runs out.
 pub fn ids<'a>(
     alloc: Global,
     basis: &'a Basis,

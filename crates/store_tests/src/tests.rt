@@ -1,5 +1,5 @@
-//! Files by the layout alone, opened whole, cut short and with one byte changed; those of the first version, which are read and migrated;
-//! stores that are put to, refuse a tree, are stopped and opened again; and how faults are told.
+//! Files made only by the layout, opened whole, cut short and with one byte changed; those of the first version, which are read and
+//! migrated; stores that are put to, refuse a tree, are stopped and opened again; and how faults are reported.
 
 mod changes;
 mod crashes;

@@ -3,7 +3,7 @@ use Rattle.std.specs.Prelude.{◌≡◌, ◌⊎◌, ℕ, List, Option, Bool, tru
 use Rattle.std.specs.Io.KnownBytes.{Appends}
 use Rattle.answer_lines.specs.Printing.{AppendsBeginning}
 
--- the bytes that stand on a stream, where they are known, and whether it has refused a write
+-- the bytes that stand on a stream, if they are known, and whether it has refused a write
 pub record StreamData : Type 0 where
   pub contents : Option (List ℕ)
   pub has_refused : Bool

@@ -14,7 +14,7 @@ use std::{format, io};
 #[derive(Clone, Copy, Debug, PartialEq, Eq)]
 pub struct Refused;
 
-/// A writer, and whether it has refused a write so far. Contracts see the bytes that the writer holds, where they are known, and that.
+/// A writer, and whether it has refused a write so far. Contracts see the bytes that the writer holds, if they are known, and that.
 #[derive(Drop)]
 pub struct Stream<W: Write + Drop> {
     writer: W,

@@ -59,7 +59,7 @@ module _ (Of : ℕ → Numbers → Type 0) (window : Window) (n : ℕ) (list : L
               omega (arith, here, there)
         ]
 
-    -- one that was found is told, or comes after those that are
+    -- one that was found is reported, or comes after those that are
     found_or_later : (c : Connection) → IsListed list c
         → IsListed (take n list) c ⊎ ((new ≤ c.departure) × All (λ e. IsBefore e c) (take n list))
     found_or_later c l =
@@ -99,7 +99,7 @@ module _ (Of : ℕ → Numbers → Type 0) (window : Window) (n : ℕ) (list : L
       ];
     }
 
--- those that are chosen of the connections that are found are the ones that are told
+-- those that are chosen of the connections that are found are the ones that are reported
 pub chosen_are : (Of : ℕ → Numbers → Type 0) (window : Window) (asked : Option ℕ) (enough : ℕ) (list : List Connection) (from : ℕ)
     (chosen : List Connection) (new : ℕ) → enough ≡ enough_of asked → AreFirst Of window enough list from → Chooses asked list from chosen new
     → AreChosen Of window asked chosen new

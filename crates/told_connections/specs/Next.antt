@@ -22,8 +22,8 @@ pub record AreNext (Of : ℕ → Numbers → Type 0) (window : Window) (n : ℕ)
   pub some : next ≤ window.last → length list ≡ n
   pub rest : (c : Connection) → IsConnection Of window c → IsListed list c ⊎ ((next ≤ c.departure) × All (λ e. IsBefore e c) list)
 
--- the connections that are told: the first n of the window, if a number n is asked for; else all that depart before `next`, which are all of
--- the window or else enough
+-- the connections that are reported: the first n of the window, if a number n is asked for; else all that depart before `next`, which are
+-- all of the window or else enough
 abbrev pub AreChosen : (ℕ → Numbers → Type 0) → Window → Option ℕ → List Connection → ℕ → Type 0
 AreChosen Of window None list next = AreFirst Of window ENOUGH list next
 AreChosen Of window (Some n) list next = AreNext Of window n list next
@@ -35,18 +35,18 @@ abbrev pub enough_of : Option ℕ → ℕ
 enough_of None = ENOUGH
 enough_of (Some n) = n
 
--- those that are told of the connections that depart before `next`
+-- of the connections that depart before `next`, those that are reported
 abbrev pub chosen_of : Option ℕ → List Connection → List Connection
 chosen_of None list = list
 chosen_of (Some n) list = take n list
 
--- when the first one departs that isn't told, if it is known; else `next`
+-- when the first one that isn't reported departs, if it is known; else `next`
 abbrev pub IsLeftFrom : Option ℕ → List Connection → ℕ → ℕ → Type 0
 IsLeftFrom None list next new = new ≡ next
 IsLeftFrom (Some n) list next new =
     (length list ≤ n → new ≡ next) × ((d : Connection) → n < length list → new ≡ (slice_index_or list n d).departure)
 
--- of the connections that depart before `next` these are told, and the others depart at `new` or later
+-- of the connections that depart before `next` these are reported, and the others depart at `new` or later
 pub record Chooses (asked : Option ℕ) (list : List Connection) (next : ℕ) (chosen : List Connection) (new : ℕ) : Type 0 where
   pub items : chosen ≡ chosen_of asked list
   pub next_is : IsLeftFrom asked list next new

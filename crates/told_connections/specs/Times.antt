@@ -1,4 +1,4 @@
--- When one may leave, and how many connections are told.
+-- When one may leave, and how many connections are reported.
 use Rattle.std.specs.Prelude.{◌≡◌, ℕ, Option, None, Some}
 use Rattle.feed_basis.specs.Basis.{BasisData}
 use Rattle.question_lines.specs.declared.question.Question.{Question}

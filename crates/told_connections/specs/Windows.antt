@@ -1,4 +1,4 @@
--- The connections of a window, as they are told.
+-- The connections of a window, as they are reported.
 use Rattle.std.specs.Prelude.{◌≡◌, ◌⊎◌, ℕ, ◌<◌, ◌≤◌, Bool, true, List, [], ◌∷◌, Option, None, Some}
 use Rattle.std.specs.List.{All, AllZip, Contains}
 use Rattle.timetable.specs.Journeys.{IsLeast, Reaches, foot}
@@ -25,12 +25,12 @@ use Rattle.told_connections.specs.Next.{AreChosen}
 use Rattle.told_connections.specs.declared.times.Times.{Times}
 use Rattle.feed_basis.specs.Points.{Tells}
 
--- a line tells the connection by the last moment to leave for it and by its journey, which begins then
+-- a line reports the connection by the last moment to leave for it and by its journey, which begins then
 pub record TellsConnection (basis : BasisData) (wanted : Bool) (c : Connection) (line : Line) : Type 0 where
   pub departs : TellsMoment basis.cover c.departure line.departs
   pub journey : Tells basis c.departure wanted c.journey line.journey
 
--- nothing is left of the window up to `last`, or what departs from the told moment on
+-- nothing is left of the window up to `last`, or what departs from the reported moment on
 abbrev pub TellsNext : CoverDays → ℕ → ℕ → Option DayTime → Type 0
 TellsNext cover next last None = last < next
 TellsNext cover next last (Some time) = (next ≤ last) × TellsMoment cover next time
@@ -38,9 +38,9 @@ TellsNext cover next last (Some time) = (next ≤ last) × TellsMoment cover nex
 abbrev pub between : ℕ → ℕ → Window
 between first last = record { first = first; last = last }
 
--- The connections from s to t of at most k rides that depart from `first` to `last` are told, and the way on foot: all connections, or
--- else those before the told moment, which are enough; or the first ones, as many as are asked for. If their rides are wanted, then of all
--- journeys with its numbers and its departure each is one that walks least.
+-- The connections from s to t of at most k rides that depart from `first` to `last` are reported, and the way on foot. They are all
+-- connections, or else those before the reported moment, which are enough; or the first ones, as many as are asked for. If their rides are
+-- wanted, then of all journeys with its numbers and its departure each is one that walks least.
 pub record AreTold (basis : BasisData) (k : ℕ) (wanted : Bool) (s t first last : ℕ) (asked : Option ℕ) (shown : Connections) : Type 0 where
   pub found : List Connection
   pub next : ℕ
@@ -62,7 +62,7 @@ pub record IsAnsweredWithin (basis : BasisData) (k : ℕ) (wanted : Bool) (times
   pub covered : last ≤ basis.timetable.horizon
   pub told : AreTold basis k wanted s t first last times.next shown
 
--- one walks so many seconds from one of the first stops to one of the others
+-- one walks `seconds` seconds from one of the first stops to one of the others
 abbrev pub IsWalk : Table → List ℕ → List ℕ → ℕ → Type 0
 IsWalk table froms tos seconds = (s : ℕ) × Contains froms s × (t : ℕ) × Contains tos t × (foot table s t ≡ Some seconds)
 

@@ -86,10 +86,10 @@ fn found_within(
 }
 
 /// The connections from stop to stop that depart from the moment to `until`, or the first `next` of them, of at most `rides` rides, by
-/// rounds: no tree is asked. With `legs` the rides and walks of each journey are told.
+/// rounds: no tree is asked. With `legs` the rides and walks of each journey are reported.
 ///
 /// The window is searched from its beginning, an hour at a time. Once an hour ends with `ENOUGH` connections, or with `next`, the rest
-/// isn't searched, and the answer tells from when on.
+/// isn't searched, and the answer says from when on.
 pub fn scan_within<'a>(
     alloc: Global,
     basis: &Basis,

@@ -1,4 +1,4 @@
-//! Which of the connections that are found are told.
+//! Which of the connections that are found are reported.
 
 ghost use Rattle.std.specs.Prelude.{◌≡◌};
 ghost use Rattle.told_connections.specs.Next.{Chooses, enough_of};
@@ -19,8 +19,8 @@ pub(crate) fn enough_for(next: Option<u16>) -> usize
     }
 }
 
-/// Those that are told of the first connections of a window: as many as are asked for, if a number is. Its moment is then the departure of
-/// the first one that is left out, if one was found.
+/// Those of the first connections of a window that are reported: as many as are asked for, if a number is. Its moment is then the departure
+/// of the first one that is left out, if one was found.
 pub(crate) fn chosen(first: First, next: Option<u16>) -> First
     ensures { Chooses next first.connections.items first.next result.connections.items result.next }
 {

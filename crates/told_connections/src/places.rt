@@ -31,8 +31,8 @@ pub fn stops_of_any<'a>(place: &'a Option<Place<'a>>) -> &'a [StopId]
     }
 }
 
-/// The connections between the question's places, each a stop or a station, that depart from the moment to `until`, or the first `next`
-/// of them, from the trees of the first place's stops. With `legs` the rides and walks of each journey are told. If the trees are
+/// The connections between the question's places, each a stop or a station, that depart from the moment to `until`, or the first `next` of
+/// them. They are from the trees of the first place's stops. With `legs` the rides and walks of each journey are reported. If the trees are
 /// complete, these are the connections of all journeys. The network is that of the basis's timetable.
 ///
 /// The window is searched as `scan_within` does.

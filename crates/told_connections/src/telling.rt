@@ -1,4 +1,4 @@
-//! Connections as they are told.
+//! Connections as they are reported.
 
 ghost use Rattle.std.specs.Prelude.{◌≡◌, ◌≤◌, IfOk};
 ghost use Rattle.std.specs.List.{All, AllZip};
@@ -12,7 +12,7 @@ use feed_basis::{Basis, tell};
 use std::alloc::{AllocError, Global};
 use timetable::{LATEST_MOMENT, StopId, Timetable};
 
-// A connection as it is told, with its rides and walks if they are wanted.
+// A connection as it is reported, with its rides and walks if they are wanted.
 fn tell_connection(
     alloc: Global,
     basis: &Basis,
@@ -30,7 +30,7 @@ fn tell_connection(
     })
 }
 
-/// Connections as they are told, with their rides and walks if they are wanted. It fails only if memory runs out.
+/// Connections as they are reported, with their rides and walks if they are wanted. It fails only if memory runs out.
 pub(crate) fn tell_connections(
     alloc: Global,
     basis: &Basis,
@@ -48,7 +48,7 @@ pub(crate) fn tell_connections(
     Ok(list)
 }
 
-/// The moment `next` as it is told, if it lies within the window.
+/// The moment `next` as it is reported, if it lies within the window.
 pub(crate) fn tell_next(basis: &Basis, next: u32, last: u32) -> Option<DayTime>
     ensures { TellsNext basis.now.cover next last result }
 {

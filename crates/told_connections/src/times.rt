@@ -1,4 +1,4 @@
-//! When one may leave, and how many connections are told.
+//! When one may leave, and how many connections are reported.
 
 ghost use Rattle.told_connections.specs.Times.{AreTimesOf, IsLastMoment};
 
@@ -6,7 +6,7 @@ use feed_basis::Basis;
 use question_lines::{Question, Until, Within};
 
 /// When one may leave, from the moment of a question to its last one, each none if it is of a day that isn't covered; and how many
-/// connections are told at most.
+/// connections are reported at most.
 #[derive(Clone, Copy, Debug, PartialEq, Eq)]
 pub struct Times {
     pub moment: Option<u32>,

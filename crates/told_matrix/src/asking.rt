@@ -14,7 +14,7 @@ use std::alloc::Global;
 use std::slice;
 
 /// What a table is asked for: the ids of the stops to leave from and of those to go to, each in their order, and the first and the last
-/// moment to leave at, in seconds from the start of the first covered day; none for a moment that is none.
+/// moment to leave at, in seconds from the start of the first covered day. None for a moment that is none.
 #[derive(Clone, Copy)]
 pub struct Asked<'i, 'a> {
     pub origins: &'i [&'a str],

@@ -101,9 +101,9 @@ fn lines_over(alloc: Global, table: &Timetable) -> Result<Arc<Lines>, AllocError
     Ok(Arc::new(alloc, lines)?)
 }
 
-/// Prints a table: the names of its columns, and a line for each stop to leave from and each stop to go to, in their order, with how long
-/// one is on the way over the seconds of the window, with at most `rides` rides. The rows are worked out in the crew's threads, and printed
-/// as they come, so memory is taken only for those that are worked out at once. `progress` is told how many are printed.
+/// Prints a table: the names of its columns, and a line for each stop to leave from and each stop to go to, in their order. A line has how
+/// long one is on the way over the seconds of the window, with at most `rides` rides. The rows are worked out in the crew's threads, and
+/// printed as they come, so memory is taken only for those that are worked out at once. It reports to `progress` how many are printed.
 ///
 /// It fails if the stream refuses a write, or if memory runs out. The lines of the first stops to leave from stand there then.
 pub fn print_matrix<T: Threads + Sync, O: Write + Drop, P: MatrixProgress>(

@@ -1,4 +1,4 @@
-//! Stops, routes and trips by their ids, with the names that a feed has, for display alone.
+//! Stops, routes and trips by their ids, with the names that a feed has, only for display.
 #![tactic(auto)]
 
 mod names;

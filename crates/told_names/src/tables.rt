@@ -1,11 +1,11 @@
-//! What the files of names tell of ids.
+//! What the files of names say of ids.
 
 use feed_names::{NamedRow, RouteName, TripName, names_of};
 use gtfs_text::Sheet;
 use std::alloc::{AllocError, Global};
 use std::collections::{BTreeMap, BTreeSet};
 
-// Puts in what is told of each of these ids, if anything is.
+// Puts in what is said of each of these ids, if anything is.
 fn put_names<T: NamedRow>(
     alloc: Global,
     table: &mut BTreeMap<String, T>,
@@ -21,7 +21,7 @@ fn put_names<T: NamedRow>(
     Ok(())
 }
 
-/// What a file tells people of each of these ids. It fails only if memory runs out.
+/// What a file says to people of each of these ids. It fails only if memory runs out.
 pub(crate) fn table_of<T: NamedRow>(
     alloc: Global,
     sheet: &Option<Sheet>,
@@ -59,7 +59,7 @@ fn routes_of(alloc: Global, trips: &BTreeMap<String, TripName>) -> Result<Vec<&s
     ids.into_iter().collect(alloc)
 }
 
-/// What a file tells people of the routes of these trips. It fails only if memory runs out.
+/// What a file says to people of the routes of these trips. It fails only if memory runs out.
 pub(crate) fn route_table(
     alloc: Global,
     sheet: &Option<Sheet>,

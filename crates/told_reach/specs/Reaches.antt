@@ -1,4 +1,4 @@
--- Where one can be, as it is told.
+-- Where one can be, as it is reported.
 use Rattle.std.specs.Prelude.{Option, None, Some, ◌≡◌, ◌⊎◌, ℕ, ◌+◌, ◌*◌, ◌-◌, ◌≤◌, List, [], ◌∷◌}
 use Rattle.std.specs.List.{AllZip}
 use Rattle.std.specs.Option.{option_map}
@@ -22,14 +22,14 @@ use Rattle.feed_basis.specs.Stages.{stop_id}
 abbrev pub last_of : ℕ → Option ℕ → Option ℕ
 last_of d minutes = option_map (λ m. d + m * 60) minutes
 
--- a stop is told by its id, when one is there, with how many rides, and how many seconds after d
+-- a stop is reported by its id, when one is there, with how many rides, and how many seconds after d
 pub record TellsStop (basis : BasisData) (d : ℕ) (r : Reached) (shown : ReachedStop) : Type 0 where
   pub stop : shown.stop.now ≡ stop_id basis.names r.stop
   pub at : TellsMoment basis.cover r.arrival shown.arrives
   pub rides : shown.rides ≡ r.rides
   pub seconds : shown.seconds ≡ r.arrival - d
 
--- The stops are told at which one can be within the minutes, if any are given, who leaves the stop of the id at the moment, which is
+-- The stops at which one can be within the minutes, if any are given, are reported. One leaves the stop of the id at the moment, which is
 -- covered, with at most k rides.
 pub record IsReach (basis : BasisData) (k : ℕ) (from : List ℕ) (moment minutes : Option ℕ) (reach : Reach) : Type 0 where
   pub s : ℕ

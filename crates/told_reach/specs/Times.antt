@@ -1,4 +1,4 @@
--- How long one is on the way, as it is told.
+-- How long one is on the way, as it is reported.
 use Rattle.std.specs.Prelude.{Option, None, Some, ◌≡◌, ◌⊎◌, ◌*◌, ◌≤◌, ℕ, Bool, true, List, [], ◌∷◌, filter, nat_le}
 use Rattle.std.specs.List.{AllZip}
 use Rattle.answer_lines.specs.Moments.{TellsMoment}
@@ -14,7 +14,7 @@ use Rattle.reaching.specs.declared.travel_time.TravelTimes.{TravelTimes}
 use Rattle.feed_basis.specs.Stages.{stop_id}
 use Rattle.told_reach.specs.Reaches.{IsUnreached}
 
--- a stop is told by its id, with the least, the median and the greatest number of seconds
+-- a stop is reported by its id, with the least, the median and the greatest number of seconds
 pub record TellsTimes (basis : BasisData) (t : TravelTimes) (shown : TimedStop) : Type 0 where
   pub stop : shown.stop.now ≡ stop_id basis.names t.stop
   pub least : shown.least ≡ t.least
@@ -26,8 +26,8 @@ abbrev pub is_within : Option ℕ → TravelTimes → Bool
 is_within None t = true
 is_within (Some minutes) t = nat_le t.least (minutes * 60)
 
--- The travel times are told of one who leaves the stop of the id from the moment to the last one, both covered, with at most k rides: of
--- the stops where one is within the minutes, if any are given.
+-- The travel times are reported of one who leaves the stop of the id from the moment to the last one, both covered, with at most k rides.
+-- They are those of the stops where one is within the minutes, if any are given.
 pub record AreTimes (basis : BasisData) (k : ℕ) (from : List ℕ) (moment until minutes : Option ℕ) (times : TimedStops) : Type 0 where
   pub s : ℕ
   pub first : ℕ

@@ -1,4 +1,4 @@
-//! The stops that one reaches, as they are told.
+//! The stops that one reaches, as they are reported.
 
 ghost use Rattle.std.specs.Prelude.{◌≡◌, ◌<◌, ◌≤◌, IfErr, IfOk};
 ghost use Rattle.std.specs.List.{All, AllZip};
@@ -27,7 +27,7 @@ fn last_of(depart: u32, minutes: Option<u16>) -> Option<u32>
     }
 }
 
-// A stop that one reaches who leaves at the moment, as it is told.
+// A stop that one reaches who leaves at the moment, as it is reported.
 fn tell_stop(basis: &Basis, depart: u32, reached: Reached) -> ReachedStop<'_>
     requires sound { IsSound basis.now }
     requires known { reached.stop < stops_of basis.now.timetable }
@@ -41,7 +41,7 @@ fn tell_stop(basis: &Basis, depart: u32, reached: Reached) -> ReachedStop<'_>
     }
 }
 
-// Stops that one reaches who leaves at the moment, as they are told.
+// Stops that one reaches who leaves at the moment, as they are reported.
 fn tell_stops<'a>(
     alloc: Global,
     basis: &'a Basis,

@@ -1,4 +1,4 @@
-//! How long one is on the way, as it is told.
+//! How long one is on the way, as it is reported.
 
 ghost use Rattle.std.specs.Prelude.{◌≡◌, ◌<◌, IfErr, IfOk, filter};
 ghost use Rattle.std.specs.List.{All, AllZip};
@@ -51,7 +51,7 @@ fn timed(
     travel_times(alloc, basis.timetable(), &mut scratch, from, first, last)
 }
 
-// The travel times of a stop, as they are told.
+// The travel times of a stop, as they are reported.
 fn tell_times(basis: &Basis, times: TravelTimes) -> TimedStop<'_>
     requires sound { IsSound basis.now }
     requires known { times.stop < stops_of basis.now.timetable }
@@ -65,7 +65,7 @@ fn tell_times(basis: &Basis, times: TravelTimes) -> TimedStop<'_>
     }
 }
 
-// The travel times of stops, as they are told.
+// The travel times of stops, as they are reported.
 fn tell_all<'a>(
     alloc: Global,
     basis: &'a Basis,
@@ -115,9 +115,9 @@ fn found_times<'a>(
     })
 }
 
-/// How long one is on the way who leaves the stop of an id at a second from `moment` to `until`, with at most `rides` rides: for each stop
-/// the least, the median and the greatest number of seconds. Those of the stops where one is within `minutes`, if any are given. A
-/// station is no stop.
+/// How long one is on the way who leaves the stop of an id at a second from `moment` to `until`, with at most `rides` rides. For each stop
+/// these are the least, the median and the greatest number of seconds. Those of the stops where one is within `minutes`, if any are given.
+/// A station is no stop.
 pub fn times_from<'a>(
     alloc: Global,
     basis: &'a Basis,

@@ -108,7 +108,7 @@ head_out w A n =
     ap (λ (k : ℕ). numbers_text w ((branch n).board ∷ (branch n).alight ∷ length (branch n).ends ∷ (branch n).ends) ++ big_bytes 4 k) (children_of A n)
     ∙ ap (λ (b : Branch). numbers_text w (b.board ∷ b.alight ∷ length b.ends ∷ b.ends) ++ big_bytes 4 (length (out-Node A n).next.items)) (branch_out A n)
 
--- a node's numbers, put one behind the other
+-- a node's numbers, put one after the other
 pub head_put : (w : ℕ) (A : Type 0) (n : Node A) (old a b c d new : List ℕ) → a ≡ old ++ big_bytes w (out-Node A n).board → b ≡ a ++ big_bytes w (out-Node A n).alight → c ≡ b ++ big_bytes w (length (out-Node A n).ends.items)
     → d ≡ c ++ numbers_text w (out-Node A n).ends.items → new ≡ d ++ big_bytes 4 (length (out-Node A n).next.items) → new ≡ old ++ head_text w (branch n)
 head_put w A n old a b c d new p q r s t =

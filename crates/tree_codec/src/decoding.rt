@@ -1,5 +1,5 @@
 //! Reading a tree. The bytes are from strangers: no more is reserved by a count than a few nodes for which there are bytes, or one end for
-//! each byte, and nodes are read no deeper than 8 levels. A node is read where it stays, behind its earlier siblings: it isn't moved.
+//! each byte. Nodes are read no deeper than 8 levels. A node is read where it stays, after its earlier siblings: it isn't moved.
 
 ghost use Rattle.std.specs.Prelude.{None, ℕ, ◌≡◌, ◌≢◌, ◌<◌, ◌≤◌, ◌++◌, ◌-◌, min, List, [], length, take, IfOk, IfErr, MatchResult};
 ghost use Rattle.pattern_tree.specs.Forest.{forest, none};
@@ -32,7 +32,7 @@ struct Room {
     ends: u32,
 }
 
-/// Whether `end` comes after the last one, where there is one.
+/// Whether `end` comes after the last one, if there is one.
 fn end_follows(last: Option<StopId>, end: StopId) -> bool
     ensures { result ≡ end_follows last end }
 {
@@ -42,7 +42,7 @@ fn end_follows(last: Option<StopId>, end: StopId) -> bool
     }
 }
 
-/// Whether a step comes after the last one, where there is one.
+/// Whether a step comes after the last one, if there is one.
 fn step_follows(last: Option<(StopId, StopId)>, board: StopId, alight: StopId) -> bool
     ensures { result ≡ step_follows last (board, alight) }
 {
@@ -52,14 +52,14 @@ fn step_follows(last: Option<(StopId, StopId)>, board: StopId, alight: StopId) -
     }
 }
 
-/// Whether a node with so many ends and children has nothing.
+/// Whether a node with `ends` ends and `children` children has nothing.
 fn is_empty(ends: u32, children: u32) -> bool
     ensures { result ≡ lacks_items ends children }
 {
     ends == 0 && children == 0
 }
 
-/// Reads so many ends, into an empty list.
+/// Reads `count` ends, into an empty list.
 fn read_ends<A: Allocator>(
     input: &mut Input,
     form: StopForm,
@@ -95,7 +95,7 @@ fn blank<A: Allocator + Clone>(alloc: &A) -> Result<Node<A>, AllocError>
     })
 }
 
-/// Reads a node with all below it, on at most so many levels, into one that isn't read yet.
+/// Reads a node with all below it, on at most `below` levels, into one that isn't read yet.
 #[cycle(nodes)]
 #[tactic(auto, unfolding(crate::specs::Reading::node_at))]
 fn read_node<A: Allocator + Clone>(
@@ -142,7 +142,7 @@ fn read_node<A: Allocator + Clone>(
     Ok(())
 }
 
-/// Reads so many siblings with all below them, on at most so many levels, into an empty list.
+/// Reads `count` siblings with all below them, on at most `levels` levels, into an empty list.
 #[cycle(nodes)]
 fn read_level<A: Allocator + Clone>(
     alloc: &A,
@@ -215,8 +215,8 @@ fn tree<A: Allocator + Clone>(
 }
 
 /// The tree whose text the bytes begin with, its stops in this width, and how many bytes the text takes. Each stop's number is below
-/// `n_stops`, and below the number of stops that the width can tell. What follows the text isn't looked at. A fault other than want of
-/// memory comes only if the bytes begin with no text, and is the first that is met from left to right.
+/// `n_stops`, and below the number of stops that the width has numbers for. What follows the text isn't looked at. A fault other than want
+/// of memory comes only if the bytes begin with no text, and is the first that is met from left to right.
 pub fn decode_as<A: Allocator + Clone>(
     alloc: A,
     bytes: &[u8],

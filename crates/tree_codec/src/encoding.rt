@@ -86,7 +86,7 @@ fn put_tree<A: Allocator>(tree: &PatternTree<A>, out: &mut Vec<u8>) -> Result<()
     put_level(out, Width::Four, first)
 }
 
-/// Writes the text of a tree at the end. Where memory runs out, the vector is as before.
+/// Writes the text of a tree at the end. If memory runs out, the vector is as before.
 pub fn encode<A: Allocator>(tree: &PatternTree<A>, out: &mut Vec<u8>) -> Result<(), AllocError>
     ensures ok { OnOk result (AppendsText 4 1000000 out.old.items out.new.items tree.now) }
     ensures err { OnErr result (out.new.items ≡ out.old.items) }

@@ -18,7 +18,7 @@ use shared_ledger::Basis;
 use std::alloc::Global;
 use std::sync::Wait;
 
-/// Stores trees, and shows them to the audience, until no more come or the device fails. `progress` is told of each that is stored.
+/// Stores trees, and shows them to the audience, until no more come or the device fails. Each that is stored is reported to `progress`.
 pub(crate) fn flush_desk<D: Disk, B: Basis + Parted, R: Wait, P: Progress>(
     rt: &R,
     alloc: Global,

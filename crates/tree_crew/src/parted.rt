@@ -2,7 +2,7 @@
 
 use std::marker::Brand;
 
-/// The part of the stops whose trees are taken in a build. What a taker takes is known by its type alone, so the type names the part; a
+/// The part of the stops whose trees are taken in a build. What a taker takes is known only by its type, so the type names the part; a
 /// caller picks it where it starts a build.
 pub trait Parted {
     ghost use Rattle.stop_parts.specs.Parts.{Share};

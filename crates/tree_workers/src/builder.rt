@@ -51,7 +51,7 @@ impl Builder {
         })
     }
 
-    /// The finished tree of a stop of the timetable; none where it is too large or memory is refused.
+    /// The finished tree of a stop of the timetable; none if it is too large or memory is refused.
     pub(crate) fn build(&mut self, alloc: Global, source: StopId) -> Option<Finished>
         ensures own { IfSome result (λ tree. form_of tree.table tree.rides ≡ self.old) }
         ensures same { self.new ≡ self.old }

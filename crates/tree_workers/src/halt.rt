@@ -1,11 +1,11 @@
-//! How workers are told to stop.
+//! The flag that says that workers are to stop.
 
 ghost use Rattle.std.specs.Prelude.{◌≡◌, false};
 ghost use Rattle.std.specs.Sync.Mutex.{mutex_guard_value};
 
 use std::sync::{Mutex, MutexGuard, Wait};
 
-/// A flag by which workers are told to stop. They look at it before each claim.
+/// A flag that says that workers are to stop. They look at it before each claim.
 #[derive(Drop)]
 pub struct Halt {
     flag: Mutex<bool>,

@@ -12,7 +12,7 @@ use std::sync::Wait;
 use timetable::StopId;
 use work_ledger::Claimed;
 
-// Claims a source; none where none is given out, or memory is refused.
+// Claims a source; none if none is given out, or memory is refused.
 fn claim<B: Basis, R: Wait>(
     rt: &R,
     shared: &Shared<B>,
@@ -28,7 +28,7 @@ fn claim<B: Basis, R: Wait>(
     }
 }
 
-// Builds the tree of a source and hands it in; where there is none, or it isn't taken in, the source is given back.
+// Builds the tree of a source and hands it in; if there is none, or it isn't taken in, the source is given back.
 fn build_one<B: Basis, R: Wait, G: Gate>(
     workshop: &Workshop<'_, B, R, G>,
     seat: &Seat,
@@ -81,7 +81,7 @@ fn build_from<B: Basis, R: Wait, G: Gate>(
     }
 }
 
-// The same, where what building needs is made after the first claim.
+// The same, but what building needs is made after the first claim.
 fn build_at<B: Basis, R: Wait, G: Gate>(workshop: &Workshop<'_, B, R, G>, seat: &Seat) {
     let Some(first) = next_source(workshop, seat) else {
         return;

@@ -26,7 +26,7 @@ pub struct Workshop<'a, B: Basis, R: Wait, G: Gate> {
 }
 
 impl<'a, B: Basis, R: Wait, G: Gate> Workshop<'a, B, R, G> {
-    // A seat that nobody has; none where all are taken.
+    // A seat that nobody has; none if all are taken.
     pub(crate) fn take_seat(&self) -> Option<Seat> {
         self.seats.lock(self.rt).pop()
     }

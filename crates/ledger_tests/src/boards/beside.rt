@@ -15,7 +15,7 @@ use timetable::StopId;
 // How many trees are published.
 const PUBLISHED: u64 = 5_000;
 
-// What a reader met that looks on and on: how many looks there were, how many trees the last of them showed, whether each was given and
+// What a reader met that looks on and on: how many looks there were, how many trees the last of them showed. And whether each was given and
 // showed all that the one before showed, and how long the slowest took.
 #[derive(Drop)]
 struct Looks {

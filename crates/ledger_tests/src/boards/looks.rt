@@ -13,7 +13,7 @@ use timetable::{Rides, StopId};
 // How many trees are published one after the other.
 const PUBLISHED: u64 = 1_000;
 
-// Whether the reader finds the tree of a stop, and how many trees are shown; none where the look is refused.
+// Whether the reader finds the tree of a stop, and how many trees are shown; none if the look is refused.
 fn finds(reader: Reader, source: StopId) -> (Reader, Option<(bool, u64)>)
     ensures { result.0.told.book ≡ reader.told.book }
 {

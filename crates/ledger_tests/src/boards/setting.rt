@@ -61,7 +61,7 @@ impl Showing {
         self.writer.publish(rt, stored).is_ok()
     }
 
-    /// Shows so many copies; whether it did.
+    /// Shows `count` copies; whether it did.
     pub fn show<R: Wait>(&mut self, rt: &R, alloc: Global, count: u64) -> bool {
         for _ in 0..count {
             if !self.show_one(rt, alloc) {

@@ -18,14 +18,14 @@ const STORER: u8 = 8;
 // How many trees each seat hands in at most.
 const HANDED_IN: u32 = 15;
 
-/// What four seats were told, and the history that was made meanwhile.
+/// What four seats were answered, and the history that was made meanwhile.
 #[derive(Drop)]
 pub struct FourAtWork {
     pub told: [Vec<Entry>; 4],
     pub history: Vec<Entry>,
 }
 
-/// What eight seats were told, what a ninth that stores was told, and the history that was made meanwhile.
+/// What eight seats were answered, what a ninth that stores was answered, and the history that was made meanwhile.
 #[derive(Drop)]
 pub struct NineAtWork {
     pub first: [Vec<Entry>; 4],
@@ -34,7 +34,7 @@ pub struct NineAtWork {
     pub history: Vec<Entry>,
 }
 
-/// The ledger with so many seats.
+/// The ledger with `seats` seats.
 pub fn opened<B: Basis>(
     alloc: Global,
     ledger: Ledger,
@@ -67,7 +67,7 @@ pub fn history<B: Basis, R: Wait>(
 // How often one looks for what others are to do.
 const LONG: u32 = 10_000_000;
 
-/// Looks until the history has so many entries; whether it came to that.
+/// Looks until the history has `entries` entries; whether it came to that.
 pub fn comes_to<B: Basis, R: Wait>(
     rt: &R,
     shared: &Shared<B>,
@@ -184,7 +184,7 @@ fn eight_and_one<B: Basis + Send + Sync, R: Threads + Wait + Sync>(
     )
 }
 
-// The next four seats, from the first on where they are last in the list.
+// The next four seats, which are the last in the list, from the first of them on.
 fn next_four(seats: &mut Vec<Seat>) -> Option<[Seat; 4]> {
     let (d, c, b, a) = (seats.pop()?, seats.pop()?, seats.pop()?, seats.pop()?);
     Some([a, b, c, d])

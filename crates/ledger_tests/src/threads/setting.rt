@@ -17,7 +17,7 @@ use work_ledger::Ledger;
 // The most rides of each journey, in the trees and the ledgers.
 const RIDES: u8 = 1;
 
-/// A ledger of the timetable with room for so many waiting trees.
+/// A ledger of the timetable with room for `room` waiting trees.
 pub fn ledger(alloc: Global, table: &Arc<Timetable>, room: usize) -> Result<Ledger, AllocError>
     requires some { 0 < room }
     requires most { room ≤ 256 }
@@ -25,7 +25,7 @@ pub fn ledger(alloc: Global, table: &Arc<Timetable>, room: usize) -> Result<Ledg
     Ledger::new(alloc, table, Rides::new(RIDES), &[], room)
 }
 
-/// The timetable of so many stops, at which nothing calls.
+/// The timetable of `stops` stops, at which nothing calls.
 pub fn bare_stops(rt: &HostRuntime, stops: u32) -> Result<Arc<Timetable>, Fail> {
     let mut rows = String::from_str(rt.alloc(), "stop_id\n")?;
     for number in 0..stops {

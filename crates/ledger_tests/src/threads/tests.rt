@@ -1,4 +1,4 @@
-//! Many seats at once: what each was told, beside the history.
+//! Many seats at once: what each was answered, beside the history.
 
 use crate::threads::meeting::{NineAtWork, four_seats, nine_seats};
 use crate::threads::setting::{bare_stops, ledger};
@@ -10,7 +10,7 @@ use std::thread::Threads;
 use timetable::Timetable;
 use work_ledger::{Call, Entry, Reply};
 
-// The seat whose call it is, where only the seat `storer` takes and acknowledges.
+// The seat whose call it is, if only the seat `storer` takes and acknowledges.
 fn seat_of(entry: &Entry, storer: usize) -> usize {
     match entry.call {
         Call::Claim(seat) | Call::HandIn(seat, _, _) | Call::GiveBack(seat, _) => usize::from(seat),
@@ -18,7 +18,7 @@ fn seat_of(entry: &Entry, storer: usize) -> usize {
     }
 }
 
-// Whether who made the call waits, and is told nothing yet.
+// Whether who made the call waits, and is answered nothing yet.
 fn waits(entry: &Entry) -> bool {
     entry.reply == Reply::Full || entry.reply == Reply::Empty
 }
@@ -34,7 +34,7 @@ fn is_history(history: &[Entry], seat: usize, storer: usize, told: &[Entry]) -> 
     told.next().is_none()
 }
 
-// Whether the reply is the one that the call gets behind the one before it.
+// Whether the reply is the one that the call gets after the one before it.
 fn is_right(before: Option<Reply>, entry: &Entry) -> bool {
     let done = match entry.call {
         Call::Claim(_) => return matches!(entry.reply, Reply::Source(_) | Reply::Closed),
@@ -70,7 +70,7 @@ fn given_out(alloc: Global, history: &[Entry]) -> Result<Vec<usize>, AllocError>
     Ok(given)
 }
 
-// Whether each of so many sources was given out just once.
+// Whether each of `stops` sources was given out just once.
 fn each_once(alloc: Global, history: &[Entry], stops: usize) -> Result<bool, AllocError> {
     let mut given = given_out(alloc, history)?;
     given.sort_unstable();
@@ -83,12 +83,12 @@ fn each_once(alloc: Global, history: &[Entry], stops: usize) -> Result<bool, All
     )
 }
 
-// Whether no other seat has an entry than so many, from the first on.
+// Whether no seat has an entry but the first `seats` seats.
 fn are_of(history: &[Entry], seats: usize) -> bool {
     history.iter().all(|entry| seat_of(entry, 0) < seats)
 }
 
-// Whether what seats were told, of the numbers from `first` on, is right and just the history.
+// Whether what seats were answered, of the numbers from `first` on, is right and just the history.
 fn count(history: &[Entry], first: usize, storer: usize, told: &[Vec<Entry>]) -> bool {
     for number in 0..told.len() {
         let told = &told[number];
@@ -100,8 +100,8 @@ fn count(history: &[Entry], first: usize, storer: usize, told: &[Vec<Entry>]) ->
     true
 }
 
-// Four seats, of which the first takes a tree each time it handed one in, so that no call waits: whether all that they were told is right
-// and just the history, in which each of so many sources is given out once.
+// Four seats, of which the first takes a tree each time it handed one in, so that no call waits. Whether all that they were answered is
+// right and just the history, in which each of `stops` sources is given out once.
 fn four_count<R: Threads + Wait + Sync>(
     rt: &R,
     alloc: Global,
@@ -124,7 +124,7 @@ fn shared_counts(rt: HostRuntime) -> Result<(), Fail> {
     Ok(())
 }
 
-// Whether all that the nine seats were told is right and just the history.
+// Whether all that the nine seats were answered is right and just the history.
 fn nine_agree(seats: &NineAtWork) -> bool {
     let history = seats.history.as_slice();
     count(history, 0, 8, &seats.first)
@@ -134,7 +134,7 @@ fn nine_agree(seats: &NineAtWork) -> bool {
         && are_of(history, 9)
 }
 
-// Eight seats, beside a ninth that stores, with room for one tree: whether they agree, and each of so many sources is given out once.
+// Eight seats, beside a ninth that stores, with room for one tree: whether they agree, and each of `stops` sources is given out once.
 fn nine_count<R: Threads + Wait + Sync>(
     rt: &R,
     alloc: Global,

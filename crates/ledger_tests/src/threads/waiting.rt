@@ -15,7 +15,7 @@ use std::thread::Threads;
 use timetable::{StopId, Timetable};
 use work_ledger::{Call, Entry, Ledger, Reply};
 
-// What a seat met that handed in one tree: what it was told, and the source of the tree that came back.
+// What a seat met that handed in one tree: what it was answered, and the source of the tree that came back.
 #[derive(Drop)]
 struct Met {
     told: Vec<Entry>,
@@ -70,7 +70,7 @@ fn both<B: Basis + Send + Sync, R: Threads + Wait + Sync>(
     )
 }
 
-// A tree fills the queue, two wait with theirs, and the last seat closes the ledger. It fails where they don't come to wait.
+// A tree fills the queue, two wait with theirs, and the last seat closes the ledger. It fails if they don't come to wait.
 fn fill_and_close<B: Basis + Send + Sync, R: Threads + Wait + Sync>(
     rt: &R,
     alloc: Global,
@@ -116,7 +116,7 @@ fn count(entries: &[Entry], wanted: &Entry) -> usize {
     entries.iter().filter(|entry| **entry == *wanted).count()
 }
 
-// Whether the seat was told that its tree found no room, and has it back; and whether the history has its claim, and its asking once
+// Whether the seat was answered that its tree found no room, and has it back; and whether the history has its claim, and its asking once
 // before the ledger was closed and once since.
 fn has_its_tree_back(met: &Met, seat: u8, before: &[Entry], since: &[Entry]) -> bool {
     let Some(source) = met.back else {
@@ -153,7 +153,7 @@ fn none_comes<B: Basis, R: Wait>(rt: &R, shared: &Shared<B>, seat: &Seat) -> boo
     matches!(shared.take(rt, seat), Ok(None))
 }
 
-// What came of a take that waited: whether it was told that no tree will come, and the history.
+// What came of a take that waited: whether it answered that no tree will come, and the history.
 #[derive(Drop)]
 struct Lone {
     none: bool,
@@ -161,7 +161,7 @@ struct Lone {
 }
 
 // A take waits for the tree of a source that is claimed, if one `is_claimed`. Then the ledger is closed, and the source given back. It
-// fails where the take doesn't come to wait.
+// fails if the take doesn't come to wait.
 fn closed_while_empty<B: Basis + Send + Sync, R: Threads + Wait + Sync>(
     rt: &R,
     alloc: Global,
@@ -197,7 +197,7 @@ fn closed_while_empty<B: Basis + Send + Sync, R: Threads + Wait + Sync>(
     Ok(Lone { none, history })
 }
 
-// Whether the take was told that no tree will come, behind just these calls: it asked once before the ledger was closed, and once when no
+// Whether the take answered that no tree will come, after just these calls: it asked once before the ledger was closed, and once when no
 // source was claimed any longer.
 fn waits_for_the_last(lone: &Lone, is_claimed: bool) -> bool {
     let history = lone.history.as_slice();
@@ -232,7 +232,7 @@ fn waits_for_the_last(lone: &Lone, is_claimed: bool) -> bool {
             .as_slice()
 }
 
-// A take that waits is told that no tree will come once the ledger is closed, and no source is claimed.
+// A take that waits answers that no tree will come once the ledger is closed, and no source is claimed.
 #[test]
 fn closed_at_an_empty_queue(rt: HostRuntime) -> Result<(), Fail> {
     let alloc = rt.alloc();
@@ -250,8 +250,8 @@ fn end_early<B: Basis, R: Wait>(mut worker: Worker<'_, B, R>) -> Option<StopId> 
     worker.claim()
 }
 
-// A take waits, and all other seats are left: by a worker that ends without a word, by one that is let go, and by a call. It fails where
-// the take doesn't come to wait.
+// A take waits, and all other seats are left: by a worker that ends without a word, by one that is let go, and by a call. It fails if the
+// take doesn't come to wait.
 fn all_left<B: Basis + Send + Sync, R: Threads + Wait + Sync>(
     rt: &R,
     alloc: Global,
@@ -288,7 +288,7 @@ fn all_left<B: Basis + Send + Sync, R: Threads + Wait + Sync>(
     Ok(Lone { none, history })
 }
 
-// Whether the take was told that no tree will come, though a source is claimed: it asked once before the others left, and once since.
+// Whether the take answered that no tree will come, though a source is claimed: it asked once before the others left, and once since.
 fn waits_for_all(lone: &Lone) -> bool {
     let history = lone.history.as_slice();
     let Some(
@@ -310,7 +310,7 @@ fn waits_for_all(lone: &Lone) -> bool {
             .as_slice()
 }
 
-// A take that waits is told that no tree will come once all others have left, however they did.
+// A take that waits answers that no tree will come once all others have left, however they did.
 #[test]
 fn left_by_all_others(rt: HostRuntime) -> Result<(), Fail> {
     let alloc = rt.alloc();

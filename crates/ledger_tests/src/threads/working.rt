@@ -1,4 +1,4 @@
-//! Who works at a seat, and what it is told.
+//! Who works at a seat, and what it is answered.
 
 use crate::threads::setting::Workshop;
 use pattern_tree::Finished;
@@ -35,7 +35,7 @@ impl<'a, B: Basis, R: Wait> Worker<'a, B, R> {
         let _ = self.told.push(Entry { call, reply });
     }
 
-    /// Claims a source; none where no source is given out.
+    /// Claims a source; none if no source is given out.
     pub fn claim(&mut self) -> Option<StopId> {
         let seat = self.sitting.seat();
         let call = Call::Claim(seat.number());
@@ -92,7 +92,7 @@ impl<'a, B: Basis, R: Wait> Worker<'a, B, R> {
         self.note_done(call, answer);
     }
 
-    /// Takes a tree, and keeps it; its source. None where no tree will come.
+    /// Takes a tree, and keeps it; its source. None if no tree will come.
     pub fn take(&mut self) -> Option<StopId> {
         let seat = self.sitting.seat();
         let Some(tree) = self.shared.take(self.rt, seat).ok()? else {
@@ -147,7 +147,7 @@ impl<'a, B: Basis, R: Wait> Worker<'a, B, R> {
         true
     }
 
-    /// Leaves the seat; what it was told.
+    /// Leaves the seat; what it was answered.
     pub fn leave(self) -> Vec<Entry> {
         let Worker {
             shared: _,

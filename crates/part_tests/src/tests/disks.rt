@@ -5,7 +5,7 @@ use std::alloc::Global;
 use std::fs;
 use std::test::Fail;
 
-// A call of a script. Those in the second half are told to fail.
+// A call of a script. Those in the second half are set to fail.
 #[derive(Clone, Copy)]
 enum Step<'a> {
     Write(u64, &'a [u8]),
@@ -16,7 +16,7 @@ enum Step<'a> {
     FailSync,
 }
 
-// Does one step, and says whether it went as told. A place past the end is refused.
+// Does one step, and says whether it went as the step says. A place past the end is refused.
 fn take_step(disk: &mut MemDisk, step: &Step) -> Result<bool, Fail> {
     let end = disk.len()?;
     Ok(match *step {
@@ -78,7 +78,7 @@ fn leaves(disk: MemDisk, fill: &[u8], bytes: &[u8]) -> Result<bool, Fail> {
     }
 }
 
-// Steps, the least and the greatest length that a crash leaves behind them, and a fill with the bytes that it leaves by that.
+// Steps, the least and the greatest length that a crash leaves after them, and a fill with the bytes that it leaves by that.
 type Script<'a> = (&'a [Step<'a>], u64, u64, &'a [u8], &'a [u8]);
 
 const FIRST: Step<'static> = Step::Write(0, &[1, 2, 3]);

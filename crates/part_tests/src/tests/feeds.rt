@@ -4,7 +4,7 @@ use gtfs_tables::Tables;
 use sample_feed::{Feed, tables_of};
 use std::test::Fail;
 
-// The station of A stands behind it; X is no stop, the second transfer is in a seat, and a call has no stop.
+// The station of A stands after it; X is no stop, the second transfer is in a seat, and a call has no stop.
 const SMALL: Feed<'static> = Feed {
     stops: "stop_id,location_type,parent_station\nA,,S\nB,0,\n,,\nX,2,\nS,1,\n",
     trips: "trip_id,service_id\nT1,WK\nT2,SA\nT3,WK\n",

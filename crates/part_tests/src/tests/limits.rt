@@ -69,7 +69,7 @@ fn put_number(text: &mut Vec<u8>, width: Width, number: u16) -> Result<(), Alloc
     }
 }
 
-// The text of first nodes from stop 0 to the stops 0 to 243, each with the ends 0 to 65,533, and of one more with so many ends, up to
+// The text of first nodes from stop 0 to the stops 0 to 243, each with the ends 0 to 65,533, and of one more with `last` ends, up to
 // that number.
 fn many_ends(alloc: Global, width: Width, last: u16) -> Result<Vec<u8>, AllocError> {
     let mut text = Vec::new(alloc);
@@ -96,7 +96,7 @@ const ENDS: [(u16, CodecFault); 2] = [
     (9_705, CodecFault::TooLarge),
 ];
 
-// Whether a text with so many ends is refused for what it should be.
+// Whether a text with as many ends as `ENDS` says is refused for what it should be.
 fn reads_ends(alloc: Global, width: Width) -> Result<bool, AllocError> {
     for (last, fault) in ENDS {
         let text = many_ends(alloc, width, last)?;

@@ -79,7 +79,7 @@ fn makes(alloc: Global, table: &Arc<Timetable>, arena: &mut Arena) -> Result<boo
     Ok(has_pairs(alloc, of_a.tree(), OF_A) && has_pairs(alloc, &of_b.into_tree(), OF_B))
 }
 
-// An arena is as it was after each tree, or takes new memory where something that was forgotten holds it.
+// An arena is as it was after each tree, or takes new memory if something that was forgotten holds it.
 #[test]
 fn finished_trees(rt: HostRuntime) -> Result<(), Fail> {
     let table = Arc::new(rt.alloc(), demo(&rt)?)?;

@@ -74,7 +74,7 @@ fn check_crash(
     }
 }
 
-// The fills: zeros, ones, open gates, what was being written, and that turned over; where one byte is open, each value.
+// The fills: zeros, ones, open gates, what was being written, and that turned over; if one byte is open, each value.
 fn check_length(
     rt: &impl Abort,
     alloc: Global,

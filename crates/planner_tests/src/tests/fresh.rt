@@ -18,7 +18,7 @@ use std::sync::Arc;
 use std::test::Fail;
 use timetable::{Rides, Timetable};
 
-// No tree is stored, and the file has a header and a closed gate alone.
+// No tree is stored, and the file has only a header and a closed gate.
 const FRESH: [(Event, Wanted); 4] = [
     (Event::Ask(0, 3, 28_800), Wanted::NotStored),
     (Event::Crash(174, &[]), Wanted::Idle),

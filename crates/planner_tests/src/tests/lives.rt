@@ -22,7 +22,7 @@ fn stopped_life(
     life_of(alloc, table, disk, orders)
 }
 
-// A crash leaves so many bytes, and these where it leaves them open.
+// A crash leaves `len` bytes, and these where it leaves them open.
 fn crashed(disk: MemDisk, len: u64, fill: &[u8]) -> Result<MemDisk, Fail> {
     match disk.crash(len, fill) {
         Ok(disk) => Ok(disk),

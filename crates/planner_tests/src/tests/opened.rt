@@ -1,4 +1,4 @@
-//! A core on a disk that is told to fail: what it was told before counts for nothing.
+//! A core on a disk that is set to fail: what was set before counts for nothing.
 
 ghost use Rattle.std.specs.Prelude.{◌≡◌};
 ghost use Rattle.disk_model.specs.Disk.{empty_disk};
@@ -13,7 +13,7 @@ use std::alloc::Global;
 use std::process::Abort;
 use std::test::Fail;
 
-// Only the call that the run itself tells to fail does so.
+// Only the call that the run itself sets to fail does so.
 const PUT: [(Event, Wanted); 8] = [
     (Event::Claim(0), Wanted::Source(0)),
     (Event::HandIn(0, 0), Wanted::Done),
@@ -25,7 +25,7 @@ const PUT: [(Event, Wanted); 8] = [
     (Event::Restart, Wanted::Restarted(&[])),
 ];
 
-// The one call of that number is told to fail, or all from it on.
+// The one call of that number is set to fail, or all from it on.
 fn told(alloc: Global, number: u64, all: bool) -> MemDisk
     ensures { state_of result ≡ empty_disk }
 {

@@ -37,7 +37,7 @@ fn is_wanted(reply: &Reply, wanted: Wanted) -> bool {
     }
 }
 
-// Whether a life that recovered so many first stops came to its end with just these replies.
+// Whether a life that recovered the first `recovered` stops came to its end with just these replies.
 fn has_replies(life: &Life<MemDisk>, recovered: usize, wanted: &[Wanted]) -> bool {
     is_front(life, recovered)
         && life.end == End::Done

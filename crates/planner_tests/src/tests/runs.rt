@@ -15,7 +15,7 @@ const OPEN: [u8; 1] = [0xA5];
 
 const SHUT: [u8; 1] = [0x5A];
 
-// The header ends at 175 bytes, and A's section with the gate behind it at 272: 97 places lie open while it is written.
+// The header ends at 175 bytes, and A's section with the gate after it at 272: 97 places lie open while it is written.
 const BODY: [(Event, Wanted); 14] = [
     (Event::Claim(0), Wanted::Source(0)),
     (Event::HandIn(1, 0), Wanted::NotYours),
@@ -100,7 +100,7 @@ const PUT: [(Event, Wanted); 20] = [
 ];
 
 // B's gate is left open in the midst of its write: it is recovered. The file is left at 336 bytes in the midst of the write of C's
-// section, which isn't found; once C is put the file has 342 bytes.
+// section, which isn't found. Once C is put the file has 342 bytes.
 const LIVES: [(Event, Wanted); 35] = [
     (Event::Claim(0), Wanted::Source(0)),
     (Event::HandIn(0, 0), Wanted::Done),

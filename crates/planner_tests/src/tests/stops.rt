@@ -25,7 +25,7 @@ const BEFORE: [Event; 11] = [
     Event::Take,
 ];
 
-// Behind which calls of the disk a crash comes, the place whose bytes were written last, how many crashes are possible, five of each
+// After which calls of the disk a crash comes, the place whose bytes were written last, how many crashes are possible, five of each
 // length, and after how many of them B is recovered beside A.
 #[derive(Clone, Copy)]
 struct Stop {
@@ -35,7 +35,7 @@ struct Stop {
     found: usize,
 }
 
-// B's section lies behind its gate, at 271, and the file has 329 bytes with it. While it isn't synced, each length from 272 on is
+// B's section lies after its gate, at 271, and the file has 329 bytes with it. While it isn't synced, each length from 272 on is
 // possible. While its gate isn't synced, it is open after two of five fills.
 const STOPS: [Stop; 9] = [
     Stop {
@@ -140,7 +140,7 @@ fn filled(alloc: Global, fill: Fill, written: &[u8]) -> Result<Vec<u8>, AllocErr
     Ok(bytes)
 }
 
-// The steps up to a crash behind these calls, and a restart.
+// The steps up to a crash after these calls, and a restart.
 fn steps_to(
     alloc: Global,
     sample: &Sample,
@@ -156,7 +156,7 @@ fn steps_to(
     Ok(steps)
 }
 
-// How many trees are recovered, the first ones; none where the crash isn't possible.
+// How many trees are recovered, the first ones; none if the crash isn't possible.
 fn found_after(
     alloc: Global,
     sample: &Sample,

@@ -59,7 +59,7 @@ pub fn is_first(list: &[StopId]) -> bool {
         .all(|(index, stop)| stop.number() == index)
 }
 
-/// Whether the sources that were recovered are the first so many stops, in their order.
+/// Whether the sources that were recovered are the first `count` stops, in their order.
 pub fn is_front(life: &Life<MemDisk>, count: usize) -> bool {
     match &life.recovered {
         None => false,

@@ -17,15 +17,15 @@ use timetable::StopId;
 enum End {
     // No planner was opened.
     Unopened,
-    // The device failed once so many trees were stored.
+    // The device failed once that many trees were stored.
     Failed(usize),
-    // So many are stored, each stop's.
+    // That many are stored, each stop's.
     Done(usize),
     // Another end, or one before a build has ended.
     Other,
 }
 
-// When the calls of the disk fail, counted from 1: one alone, or that and all later ones.
+// When the calls of the disk fail, counted from 1: only one, or that and all later ones.
 #[derive(Clone, Copy, Debug)]
 enum Failing {
     Once,
@@ -92,7 +92,7 @@ fn end_at<R: Threads + Wait + Sync>(
     }
 }
 
-// What comes of it where so many calls of the disk were made after the opening: each of the five trees is put by four.
+// What comes of it if `calls` calls of the disk were made after the opening: each of the five trees is put by four.
 fn end_after(calls: usize) -> End {
     if calls < 20 {
         End::Failed(calls / 4)

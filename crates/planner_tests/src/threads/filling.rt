@@ -33,7 +33,7 @@ impl Gate for Count {
     }
 }
 
-// Holds up the thread that stores, once it has stored a tree, until so many builds have ended, and some turns more. Notes how many have
+// Holds up the thread that stores, once it has stored a tree, until `ENDED` builds have ended, and some turns more. Notes how many have
 // ended then.
 #[derive(Drop)]
 struct Waiting<'a> {

@@ -1,4 +1,4 @@
-//! A build that was told to stop before it began, and one that finds each tree stored.
+//! A build that was asked to stop before it began, and one that finds each tree stored.
 
 use super::setting::{Setting, basis, open_on};
 use disk_model::{MemDisk, read_up_to};
@@ -94,7 +94,7 @@ fn fresh_file<R: Wait>(rt: &R, alloc: Global, basis: &Basis) -> Result<Vec<u8>, 
     file_on(alloc, &mut disk)
 }
 
-// Whether nothing is claimed where the flag was set before.
+// Whether nothing is claimed if the flag was set before.
 fn claims_nothing<R: Threads + Wait + Sync>(
     rt: &R,
     alloc: Global,

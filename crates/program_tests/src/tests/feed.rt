@@ -1,4 +1,4 @@
-//! The feed of one trip, by readers that fail where they are to.
+//! The feed of one trip, by readers that fail if they are to.
 
 use gtfs_tables::{FeedFile, Files};
 use std::io;
@@ -21,7 +21,7 @@ const TRANSFERS: &[u8] = b"from_stop_id,to_stop_id,transfer_type\n";
 
 const FREQUENCIES: &[u8] = b"trip_id,start_time,end_time,headway_secs\n";
 
-/// A reader of these bytes, which fails at their end where it is to fail.
+/// A reader of these bytes, which fails at their end if it is to fail.
 #[derive(Drop)]
 pub struct Source {
     bytes: &'static [u8],
@@ -40,7 +40,7 @@ impl Read for Source {
 /// A file whose reader fails, and how.
 pub type Failure = Option<(FeedFile, ErrorKind)>;
 
-// A file of these bytes, half of which are read where its reader fails.
+// A file of these bytes, half of which are read if its reader fails.
 fn reader_of(file: FeedFile, bytes: &'static [u8], failure: Failure) -> Option<Source> {
     match failure {
         Some((failing, kind)) if failing == file => Some(Source {

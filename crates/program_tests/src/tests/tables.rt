@@ -43,7 +43,7 @@ fn a_table_up_to_where_it_is_refused(rt: HostRuntime) -> Result<(), Fail> {
     Ok(())
 }
 
-// The first file that isn't read is told, and nothing is printed.
+// The first file that isn't read is reported, and nothing is printed.
 #[test]
 fn files_of_stops_that_are_not_read(rt: HostRuntime) -> Result<(), Fail> {
     let rows = [

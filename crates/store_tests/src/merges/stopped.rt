@@ -21,8 +21,8 @@ fn crashed(disk: MemDisk, byte: u8) -> Result<MemDisk, Fail> {
     }
 }
 
-// Merges two parts into a new file. Its disk stops at the first call, then at the third call of the next run, and so on, each time with
-// a crash after it, until all is stored. It says how often the disk stopped, and what the file has.
+// Merges two parts into a new file. Its disk stops at the first call, then at the third call of the next run, and so on, until all is
+// stored. After each stop comes a crash. It says how often the disk stopped, and what the file has.
 fn stops_of(alloc: Global, town: &Town, byte: u8) -> Result<(u32, Vec<u8>), Fail> {
     let mut disk = MemDisk::new(alloc);
     for stops in 0..200_u32 {

@@ -62,7 +62,7 @@ fn any_order(rt: HostRuntime) -> Result<(), Fail> {
     Ok(())
 }
 
-// A part that is missing is told by the stops that lack, and once it is there, it goes on with them.
+// A part that is missing is reported by the stops that lack, and once it is there, it goes on with them.
 fn check_missing(rt: &impl Abort, alloc: Global, town: &Town) -> Result<(), Fail> {
     let mut parts = town.parts(alloc, 3)?;
     let Some(last) = parts.pop() else {

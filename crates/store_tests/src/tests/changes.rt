@@ -196,7 +196,7 @@ const OLD_SECTIONS: [(usize, usize, &[(Answer, usize)]); 16] = [
     (285, 286, &[(List(5), 254), (Refused(Damaged(5)), 1)]),
 ];
 
-// Counts an answer, where it is one of those that are known.
+// Counts an answer, if it is one of those that are known.
 fn count(known: &[(Answer, usize)], counts: &mut [usize], answer: Answer) -> Result<(), Fail> {
     let at = known.iter().position(|row| row.0 == answer);
     let count = at
@@ -226,7 +226,7 @@ fn count_at(
     Ok(())
 }
 
-// Goes over the rows of a table, for the file of these texts, which has so many bytes.
+// Goes over the rows of a table, for the file of these texts, which has `len` bytes.
 fn check_changes(
     rt: &impl Abort,
     alloc: Global,

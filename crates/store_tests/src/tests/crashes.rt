@@ -12,7 +12,7 @@ use std::alloc::Global;
 use std::test::Fail;
 use timetable::Rides;
 
-// When the calls of the disk fail, counted from 1: one alone, or that and all later ones.
+// When the calls of the disk fail, counted from 1: only one, or that and all later ones.
 #[derive(Clone, Copy)]
 enum Failing {
     Once(u64),
@@ -33,7 +33,7 @@ struct Ended {
     receipts: usize,
 }
 
-// The file before the store is begun, told when to fail.
+// The file before the store is begun, set to fail as `failing` says.
 fn file_before(alloc: Global, before: Before, failing: Failing) -> Result<MemDisk, Fail>
     ensures { IfOk result (λ disk. IsFreshRest (state_of disk)) }
 {
@@ -102,7 +102,7 @@ fn is_right(sample: &Sample, receipts: usize, bytes: &[u8]) -> bool {
     }
 }
 
-// Goes over bytes that a crash of this length leaves: each value where one is left open, and else some of them.
+// Goes over bytes that a crash of this length leaves: each value if one byte is left open, and else some of them.
 fn check_length(
     alloc: Global,
     sample: &Sample,
@@ -139,7 +139,7 @@ fn check_moment(alloc: Global, sample: &Sample, moment: Moment) -> Result<usize,
     }
 }
 
-// Goes over the calls of the disk, each failing alone and with all later ones. Says how many calls there are.
+// Goes over the calls of the disk. Each fails, once only it and once it and all later ones. Says how many calls there are.
 fn count_calls(alloc: Global, sample: &Sample, before: Before) -> Result<u64, Fail> {
     for n in 1..40 {
         let mut receipts = 0;

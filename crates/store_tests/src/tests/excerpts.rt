@@ -10,7 +10,7 @@ use std::alloc::Global;
 use std::test::Fail;
 use timetable::{Rides, StopId};
 
-// The text of B's tree with a byte behind it.
+// The text of B's tree with a byte after it.
 const LONGER: &[u8] = b"\x00\x00\x00\x01\x00\x00\x00\x00\x00";
 
 // What comes of opening the file of these texts for the trees of these stops.

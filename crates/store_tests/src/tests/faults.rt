@@ -1,4 +1,4 @@
-//! How a refused put is told, and a refused migration.
+//! How a refused put is reported, and a refused migration.
 
 use migration::MigrateFault;
 use recovery::RecoverFault;

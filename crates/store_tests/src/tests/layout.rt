@@ -1,8 +1,8 @@
-//! Which list a file of the sample feed's trees stands for, by the layout alone.
+//! Which list a file of the sample feed's trees stands for, only by the layout.
 
 use sample_store::TEXTS;
 
-// What stands behind an open gate, where that is the length and the text.
+// What stands after an open gate, the length and the text, if the file has these.
 fn behind<'a>(rest: &'a [u8], text: &[u8]) -> Option<&'a [u8]> {
     let (gate, rest) = rest.split_first()?;
     let (size, rest) = rest.split_at_checked(4)?;
@@ -13,7 +13,7 @@ fn behind<'a>(rest: &'a [u8], text: &[u8]) -> Option<&'a [u8]> {
     same.then_some(rest)
 }
 
-/// How many of the texts, from the first on, a file stands for; none where it stands for no list of them.
+/// How many of the texts, from the first on, a file stands for; none if it stands for no list of them.
 pub fn list_in(bytes: &[u8], header: &[u8]) -> Option<usize> {
     if bytes.len() < 15 || bytes.first() != Some(&0xA5) {
         return Some(0);

@@ -12,7 +12,7 @@ use std::process::Abort;
 use std::test::Fail;
 use timetable::{Rides, Timetable};
 
-// What a store of the sample feed for three rides is read as for this timetable and so many rides.
+// What a store of the sample feed for three rides is read as for this timetable and `rides` rides.
 fn read_for(rt: &HostRuntime, table: Timetable, rides: Rides) -> Result<Answer, Fail> {
     let file = file_of(rt.alloc(), HEADER, &TEXTS)?;
     Opening::old(rt.alloc(), table, rides)?.answer(rt.alloc(), &file)
@@ -40,7 +40,7 @@ const FOUR_RIDES: &[u8] =
     b"\x00\x02\x00\x00\x00\x01\x00\x00\x00\x01\x00\x00\x00\x00\x00\x01\x00\x01\x00\x02\x00\x00\x00\x00\x00\x01\x00\x02\x00\x03\
     \x00\x00\x00\x00\x00\x01\x00\x03\x00\x04\x00\x01\x00\x04\x00\x00\x00\x00";
 
-// The text of C's tree with a byte behind it, and with four bytes for the stop.
+// The text of C's tree with a byte after it, and with four bytes for the stop.
 const LONGER: &[u8] = b"\x00\x02\x00\x00\x00\x00\x00";
 
 const WIDER: &[u8] = b"\x00\x00\x00\x02\x00\x00\x00\x00";

@@ -13,7 +13,7 @@ use std::test::Fail;
 use timetable::{Rides, Timetable};
 use tree_codec::encode;
 
-/// What comes of opening bytes: the file was begun; it is as it was and has so many trees; or it is refused for what its bytes are. A
+/// What comes of opening bytes: the file was begun; it is as it was and has a number of trees; or it is refused for what its bytes are. A
 /// fresh file that is only read has no trees.
 #[derive(Clone, Copy, Debug, PartialEq, Eq)]
 pub enum Answer {
@@ -31,7 +31,7 @@ pub struct Opening {
     pub header: Vec<u8>,
 }
 
-// Whether the file is these open sections, a closed gate, and anything behind it.
+// Whether the file is these open sections, a closed gate, and anything after it.
 fn is_list(file: &[u8], sections: &[u8]) -> bool {
     let gate = file.strip_prefix(sections).and_then(|rest| rest.first());
     gate.is_some_and(|gate| *gate != 0xA5)
@@ -60,7 +60,7 @@ fn refused(
 }
 
 impl Opening {
-    /// For that timetable, and at most so many rides.
+    /// For that timetable, and at most `rides` rides.
     pub fn new(alloc: Global, table: Timetable, rides: Rides) -> Result<Self, Fail> {
         let header = header_of(alloc, &table, rides.number())?;
         Ok(Opening {

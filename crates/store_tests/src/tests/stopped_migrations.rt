@@ -1,4 +1,4 @@
-//! Migrations of the file of five trees to an empty file whose disk is stopped, each of which is followed by a crash and run again.
+//! Migrations of the file of five trees to an empty file whose disk is stopped. Each is followed by a crash and run again.
 
 use super::first::{HEADER, TEXTS};
 use super::migrations::{disk_of, migrated};

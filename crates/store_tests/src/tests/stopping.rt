@@ -55,7 +55,7 @@ fn finished(alloc: Global, sample: &Sample, disk: MemDisk) -> Result<(usize, Vec
     }
 }
 
-// How many trees are found after that stop and a crash that left so many bytes; and the file, once the others are put.
+// How many trees are found after that stop and a crash that left `len` bytes; and the file, once the others are put.
 fn found_after(
     alloc: Global,
     sample: &Sample,
@@ -86,7 +86,7 @@ fn stopped_puts(rt: HostRuntime) -> Result<(), Fail> {
     check_stops(&rt, rt.alloc(), &sample)
 }
 
-// Whether opening the file of five trees is refused where the n-th call of the disk fails. Its bytes must then be as they were.
+// Whether opening the file of five trees is refused if the n-th call of the disk fails. Its bytes must then be as they were.
 fn is_refused(alloc: Global, own: &Opening, file: &[u8], n: u64) -> Result<bool, Fail> {
     let mut disk = MemDisk::new(alloc);
     disk.write_at(0, file)?;

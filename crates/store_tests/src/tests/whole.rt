@@ -26,7 +26,7 @@ pub fn later(rt: &HostRuntime) -> Result<Timetable, Fail> {
     Ok(table_of(rt, feed, Span::TUESDAY)?)
 }
 
-// What a store of the sample feed for three rides is opened as for this timetable and so many rides.
+// What a store of the sample feed for three rides is opened as for this timetable and `rides` rides.
 fn opened_for(rt: &HostRuntime, table: Timetable, rides: Rides) -> Result<Answer, Fail> {
     let alloc = rt.alloc();
     let own = Opening::new(alloc, demo(rt)?, Rides::new(3))?;
@@ -58,7 +58,7 @@ const FOUR_RIDES: &[u8] =
     \x00\x00\x00\x02\x00\x00\x00\x03\x00\x00\x00\x00\x00\x00\x00\x01\
     \x00\x00\x00\x03\x00\x00\x00\x04\x00\x00\x00\x01\x00\x00\x00\x04\x00\x00\x00\x00";
 
-// The text of C's tree with a byte behind it.
+// The text of C's tree with a byte after it.
 const LONGER: &[u8] = b"\x00\x00\x00\x02\x00\x00\x00\x00\x00";
 
 // What these texts, each in an open section, are opened as, for three rides

@@ -18,7 +18,7 @@ use Rattle.gtfs_stops.proofs.stops.add_ids.Goals as goal
 columns : (table : Table) → is_some (column_of table (codes "stop_id")) ≡ true → list_all (λ name. is_some (column_of table name)) (codes "stop_id" ∷ []) ≡ true
 columns table h = rw h refl
 
--- the ids of a kind, where no two rows have one
+-- the ids of a kind, if no two rows have one
 ids_are : (table : Table) (kind : RowKind) (texts : List (List ℕ)) → AreApart (stop_id table) (rows_of table) → texts ≡ distinct (ids_of_kind kind table) → texts ≡ ids_of_kind kind table
 ids_are table kind texts apart held = held ∙ distinct_apart (stop_id table) (rows_of_kind kind table)
     (AllPairs-filter (λ (a b : ℕ). bytes_eq (stop_id table b) (stop_id table a) ≡ false) (λ (row : ℕ). means kind (location_type table row)) (rows_of table) apart)

@@ -6,7 +6,7 @@ use Rattle.recovery.proofs.FirstVersion.{only_read, settled_stands, kept_may, ke
 use Rattle.recovery.proofs.Refusals.{refused_cause, refused_none}
 use Rattle.recovery.proofs.old.read_v1.Goals as goal
 
--- where the look refused
+-- if the look refused
 pub returns-in-Err-clause-refused : goal.returns-in-Err-clause-refused
 returns-in-Err-clause-refused g c = λ honest.
     let form = old_form_of (arc_value c.args.table.now) c.args.rides in
@@ -25,7 +25,7 @@ pub returns-in-Err-clause-outcomes : goal.returns-in-Err-clause-outcomes
 returns-in-Err-clause-outcomes g c = λ honest.
     only_read (g.D.Disk.state c.args.disk) (g.D.Disk.state c.look.new.disk) (g.met.D.Disk.may_stay c.args.disk honest) (c.in-Err.ensures.stays honest)
 
--- where the trees were read
+-- if the trees were read
 pub returns-clause-stands : goal.returns-clause-stands
 returns-clause-stands g c = λ honest.
     let same : c.old-form.result ≡ old_form_of (arc_value c.args.table.now) c.args.rides = search rules in

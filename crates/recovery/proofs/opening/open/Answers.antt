@@ -11,7 +11,7 @@ use Rattle.recovery.proofs.Recovering.{looked_opening, begun_opening, fresh_rest
 use Rattle.recovery.proofs.Refusals.{outside_cause, refused_cause, refused_none}
 use Rattle.recovery.proofs.opening.open.Goals as goal
 
--- where the look refused
+-- if the look refused
 pub returns-in-Err-clause-refused : goal.returns-in-Err-clause-refused
 returns-in-Err-clause-refused g c = λ honest.
     let form = form_of (arc_value c.args.table.now) c.args.rides in
@@ -26,7 +26,7 @@ returns-in-Err-clause-cause g c = λ honest.
     let read = (g.D.Disk.state c.args.disk).read in
     refused_cause form read c.in-Err.fault (subst (λ (f : Form). IsRefusal f read c.in-Err.fault) same (c.in-Err.ensures.refused honest))
 
--- where the file is fresh
+-- if the file is fresh
 pub begin-requires : goal.begin-requires
 begin-requires g c = λ after.
     let honest = c.look.ensures.honest.1 after in
@@ -50,7 +50,7 @@ pub returns-in-None-clause-cause : goal.returns-in-None-clause-cause
 returns-in-None-clause-cause g c = λ honest.
     outside_cause (form_of (arc_value c.args.table.now) c.args.rides) (g.D.Disk.state c.args.disk).read c.begin_fault.result c.begin_fault.ensures.outside
 
--- where a store was found
+-- if a store was found
 pub resume-requires-clause-kept : goal.resume-requires-clause-kept
 resume-requires-clause-kept g c = λ after.
     let honest = c.look.ensures.honest.1 after in

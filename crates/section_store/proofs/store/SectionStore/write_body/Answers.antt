@@ -20,7 +20,7 @@ use Rattle.disk_model.specs.Moments.{Leaves}
 use Rattle.section_store.proofs.Lasting.{list_keeps, write_loses}
 use Rattle.section_store.proofs.store.SectionStore.write_body.Goals as goal
 
--- what the mark of a tree's source tells
+-- what the mark of a tree's source says
 module _ (form : Form) (tree : Content) (stored : List ℕ) (marked : Bool) (stop : ℕ) (may : MayStand form tree) (source : stop ≡ tree.source)
     (told : stop < stops_of form.table → IsTrue (not marked) ↔ IsNew stop stored) where
   told_here : IsTrue (not marked) ↔ IsNew stop stored

@@ -4,7 +4,7 @@ use Rattle.stop_labels.specs.Labels.{AreAgreed, with_moments}
 use Rattle.stop_labels.proofs.LabelSteps.{some_kept}
 use Rattle.stop_labels.proofs.labels.Labels.label.Goals as goal
 
--- the label that was read, where there is a moment
+-- the label that was read, if there is a moment
 read_label : (moments : List (Option ℕ)) (labels : List Mark) (marks : List (Option Mark)) (stop a : ℕ) (moment : Option ℕ) (label : Mark) → AreAgreed moments labels
     → with_moments moments labels ≡ marks → moment ≡ arrival_of (at marks stop) → moment ≡ Some a
     → label ≡ get_or labels stop label → at marks stop ≡ Some label
