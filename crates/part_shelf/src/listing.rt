@@ -9,8 +9,9 @@ ghost use Rattle.part_shelf.specs.Spots.{IsListing};
 
 use crate::entry::Entry;
 use disk_model::Disk;
+use file_kinds::is_begun;
 use pattern_tree::PatternTree;
-use recovery::{Keeper, RecoverFault, is_begun, recover_to};
+use recovery::{Keeper, RecoverFault, recover_to};
 use std::alloc::{AllocError, Allocator, Global};
 use std::sync::Arc;
 use timetable::{Rides, Timetable, Width};

@@ -2,7 +2,7 @@
 use Rattle.std.specs.Prelude.{◌≡◌, ◌↔◌, ◌⊎◌, ℕ, List, [], ◌∷◌, ◌++◌, Bool, true, false, MatchBool, Option, None, Some, Ok, Err, codes}
 use Rattle.disk_model.specs.declared.fault.FileFault.{FileFault}
 use Rattle.disk_model.specs.declared.fault.FileFault.TheVariants as files
-use Rattle.recovery.specs.Kinds.{CanOpen, IsNamedBehindGate}
+use Rattle.file_kinds.specs.Kinds.{CanOpen, IsNamedAfterGate}
 use Rattle.recovery.specs.declared.fault.RecoverFault.TheVariants.{Device, NotAStore}
 use Rattle.section_store.specs.Beginnings.{CanBegin}
 use Rattle.section_store.specs.Sections.{Form, IsFresh}
@@ -30,8 +30,8 @@ pub record IsReady {D : Type 0} (v : SystemView D) (form : Form) (path : List �
 -- why a file of these bytes isn't used: it is something else than a store; or the device or memory failed
 abbrev pub WhyUnused : Form → List ℕ → Fault → Type 0
 WhyUnused form bytes fault =
-    ((fault ≡ faults.Store NotAStore) × (¬ CanOpen form bytes) × (¬ IsNamedBehindGate bytes))
-    ⊎ (((fault ≡ faults.GateDamaged) × (¬ CanOpen form bytes) × IsNamedBehindGate bytes)
+    ((fault ≡ faults.Store NotAStore) × (¬ CanOpen form bytes) × (¬ IsNamedAfterGate bytes))
+    ⊎ (((fault ≡ faults.GateDamaged) × (¬ CanOpen form bytes) × IsNamedAfterGate bytes)
     ⊎ ((fault ≡ faults.Store Device) ⊎ (fault ≡ faults.Memory)))
 
 -- the fault is one of a file, or memory ran out

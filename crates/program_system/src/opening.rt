@@ -6,10 +6,11 @@ ghost use Rattle.program_system.specs.World.{view_of};
 ghost use Rattle.store_terms.specs.Stores.{form_over};
 
 use crate::system::System;
-use disk_model::{Disk, FileFault};
+use disk_model::{Disk, FileFault, ReadFault};
 use faults::Fault;
 use feed_basis::Basis;
-use recovery::{FileKind, RecoverFault, file_kind};
+use file_kinds::{FileKind, file_kind};
+use recovery::RecoverFault;
 use shown_ids::Shown;
 use std::alloc::Global;
 use std::io::Write;
@@ -87,7 +88,8 @@ pub fn open_ready<S: System>(
         }),
         Ok(FileKind::GateDamaged) => Err((Fault::GateDamaged, Some(disk))),
         Ok(FileKind::Foreign) => Err((Fault::Store(RecoverFault::NotAStore), Some(disk))),
-        Err(fault) => Err((Fault::from(fault), Some(disk))),
+        Err(ReadFault::Failed) => Err((Fault::Store(RecoverFault::Device), Some(disk))),
+        Err(ReadFault::Memory) => Err((Fault::Memory, Some(disk))),
     }
 }
 

@@ -3,10 +3,10 @@
 use build_meter::Meter;
 use disk_model::{FileDisk, FileFault};
 use feed_files::{FeedReader, list_folder, open_feed};
+use file_kinds::is_begun;
 use folder_teller::FolderTeller;
 use gtfs_tables::Files;
 use program_system::System;
-use recovery::is_begun;
 use std::alloc::Global;
 use std::hash::RandomState;
 use std::sync::Wait;

@@ -1,9 +1,9 @@
 use Rattle.std.proofs.Common.{refl, inl, inr, subst}
 use Rattle.timetable.specs.Table.{Table}
 use Rattle.section_store.specs.Sections.{form_of}
-use Rattle.recovery.specs.Kinds.{IsOfKind}
-use Rattle.recovery.specs.declared.kind.FileKind.{FileKind}
-use Rattle.recovery.specs.declared.kind.FileKind.TheVariants.{Foreign}
+use Rattle.file_kinds.specs.Kinds.{IsOfKind}
+use Rattle.file_kinds.specs.declared.kind.FileKind.{FileKind}
+use Rattle.file_kinds.specs.declared.kind.FileKind.TheVariants.{Foreign}
 use Rattle.program_system.proofs.FileFacts.{foreign_fails}
 use Rattle.program_system.proofs.opening.open_ready.Goals as goal
 

@@ -1,5 +1,5 @@
 use Rattle.std.proofs.Common.{◌≡◌, ◌⊎◌, ◌<◌, ℕ, get_or}
-use Rattle.recovery.proofs.kind.is_left_of.Given as goal
+use Rattle.file_kinds.proofs.kind.is_left_of.Given as goal
 
 -- each byte so far is its own or 00
 abbrev pub invariant-loop-i : goal.invariant-loop-i

@@ -2,19 +2,18 @@
 
 ghost use Rattle.std.specs.Prelude.{◌≡◌, ◌↔◌, ◌≢◌, ◌⊎◌, ◌≤◌, ◌<◌, ◌++◌, [], ◌∷◌, IsTrue, IfOk, IfErr, MatchBool, length, take, drop, get_or};
 ghost use Rattle.std.specs.Arc.{arc_value};
-ghost use Rattle.disk_model.specs.Calls.{FailsByCalls};
+ghost use Rattle.disk_model.specs.Calls.{FailsByCalls, FailsByReads};
 ghost use Rattle.section_store.specs.Beginnings.{CanBegin, IsLeftOf, IsUnfinished};
 ghost use Rattle.section_store.specs.Sections.{IsFresh, form_of, open_gate};
-ghost use Rattle.recovery.specs.Kinds.{IsNamedBehindGate, IsOfKind};
-ghost use Rattle.recovery.specs.Reading.{OnlyOutside};
+ghost use Rattle.file_kinds.specs.Kinds.{IsNamedAfterGate, IsOfKind};
 
-use crate::fault::RecoverFault;
-use crate::header::{SHORTEST, is_name};
-use crate::reading::read_bytes;
-use disk_model::{Disk, DiskFault};
-use section_store::{OPEN, rest_of_header};
+use disk_model::{Disk, DiskFault, ReadFault, read_up_to};
+use section_store::{NAME, OPEN, rest_of_header};
 use std::alloc::Global;
 use timetable::{Rides, Timetable};
+
+// How many bytes a file has that isn't fresh, at least.
+const SHORTEST: usize = 15;
 
 // How many bytes a file has up to the end of a store's name.
 const NAMED: usize = 8;
@@ -24,7 +23,7 @@ const NAMED: usize = 8;
 pub enum FileKind {
     /// A store may be begun in it: it is empty, or a beginning that was stopped may have left it.
     New,
-    /// It begins with an open gate, and is no shorter than a store: `recover` says what it is.
+    /// It begins with an open gate, and is no shorter than a store. Only an opening says what it is.
     Old,
     /// A store's name stands after a gate that isn't open, and no beginning has left it so: the first byte was damaged.
     GateDamaged,
@@ -62,12 +61,12 @@ fn is_unfinished(bytes: &[u8], whole: &[u8]) -> bool
 
 // Whether the first bytes of a file have a store's name after a gate that isn't open.
 fn is_named(head: &[u8]) -> bool
-    ensures { IsTrue result ↔ IsNamedBehindGate head.now }
+    ensures { IsTrue result ↔ IsNamedAfterGate head.now }
 {
     if head.len() < NAMED {
         return false;
     }
-    head[0] != OPEN && is_name(&head[1..NAMED])
+    head[0] != OPEN && &head[1..NAMED] == NAME.as_slice()
 }
 
 // Whether a store of that timetable and rides may be begun in the file, which has `end` bytes. They are read into `piece`.
@@ -78,21 +77,21 @@ fn can_begin<D: Disk>(
     table: &Timetable,
     rides: Rides,
     piece: &mut Vec<u8>,
-) -> Result<bool, RecoverFault>
+) -> Result<bool, ReadFault>
     requires { D.honest disk.old → end ≡ length (D.state disk.old).read }
     ensures honest { D.honest disk.old ↔ D.honest disk.new }
     ensures same { D.honest disk.old → D.state disk.new ≡ D.state disk.old }
     ensures can { D.honest disk.old
         → IfOk result (λ can. IsTrue can ↔ CanBegin (form_of table.now rides) (D.state disk.old).read) }
-    ensures outside { OnlyOutside result (D.failures disk.old) (D.failures disk.new) }
+    ensures failed { FailsByReads result (D.failures disk.old) (D.failures disk.new) }
 {
     let Ok(whole) = rest_of_header(alloc, table, rides) else {
-        return Err(RecoverFault::Memory);
+        return Err(ReadFault::Memory);
     };
     if end > 1 + whole.len() as u64 {
         return Ok(false);
     }
-    read_bytes(disk, 0, end, piece)?;
+    read_up_to(disk, 0, end, piece)?;
     Ok(is_unfinished(piece, &whole))
 }
 
@@ -128,17 +127,17 @@ pub fn file_kind<D: Disk>(
     disk: &mut D,
     table: &Timetable,
     rides: Rides,
-) -> Result<FileKind, RecoverFault>
+) -> Result<FileKind, ReadFault>
     ensures honest { D.honest disk.old ↔ D.honest disk.new }
     ensures same { D.honest disk.old → D.state disk.new ≡ D.state disk.old }
     ensures kind { D.honest disk.old → IfOk result (IsOfKind (form_of table.now rides) (D.state disk.old).read) }
-    ensures outside { OnlyOutside result (D.failures disk.old) (D.failures disk.new) }
+    ensures failed { FailsByReads result (D.failures disk.old) (D.failures disk.new) }
 {
     let mut piece = Vec::new(alloc);
     let Ok(end) = disk.len() else {
-        return Err(RecoverFault::Device);
+        return Err(ReadFault::Failed);
     };
-    read_bytes(disk, 0, SHORTEST as u64, &mut piece)?;
+    read_up_to(disk, 0, SHORTEST as u64, &mut piece)?;
     if is_old(&piece) {
         return Ok(FileKind::Old);
     }
