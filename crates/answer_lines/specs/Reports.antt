@@ -1,5 +1,6 @@
 -- How reports are shown, and the status that each ends a program with.
 use Rattle.std.specs.Prelude.{ℕ, List, [], ◌∷◌, ◌++◌, codes}
+use Rattle.std.specs.Borrow.{Bor}
 use Rattle.std.specs.Fmt.{decimal}
 use Rattle.std.specs.List.{flat_map}
 use Rattle.shown_ids.specs.Shown.{shown}
@@ -18,7 +19,7 @@ id_line front id = front ++ (shown id ++ 10 ∷ [])
 abbrev pub count_line : ℕ → ℕ → List ℕ
 count_line stored of = codes "stored " ++ (decimal stored ++ (codes " of " ++ (decimal of ++ 10 ∷ [])))
 
--- all of so many trees were taken over
+-- all of `count` trees were taken over
 abbrev pub migrated_line : ℕ → List ℕ
 migrated_line count = codes "migrated " ++ (decimal count ++ (codes " of " ++ (decimal count ++ 10 ∷ [])))
 
@@ -32,6 +33,16 @@ report_text (reports.AuditedAll audits) = flat_map audit_line audits.items
 report_text (reports.Migrated count) = migrated_line count
 report_text (reports.Reached reach) = reach_text reach
 report_text (reports.Timed times) = times_text times
+
+-- the ids of the stops that a store has, or that a build left: other reports list none
+abbrev pub listed_by : Report → List (Bor (List ℕ))
+listed_by (reports.Stored ids) = ids.items
+listed_by (reports.Built built) = built.missing.items
+listed_by (reports.Audited audit) = []
+listed_by (reports.AuditedAll audits) = []
+listed_by (reports.Migrated count) = []
+listed_by (reports.Reached reach) = []
+listed_by (reports.Timed times) = []
 
 -- 3 if some stop has no tree
 abbrev pub status_by : {X : Type 0} → List X → ℕ

@@ -4,7 +4,7 @@ ghost use Rattle.std.specs.Prelude.{◌≡◌, Some};
 ghost use Rattle.std.specs.Fmt.{WritesOnOk};
 ghost use Rattle.std.specs.List.{flat_map};
 ghost use Rattle.answer_lines.specs.Audits.{audit_line, has_difference};
-ghost use Rattle.answer_lines.specs.Reports.{built_status, id_line, report_status, report_text};
+ghost use Rattle.answer_lines.specs.Reports.{built_status, id_line, listed_by, report_status, report_text};
 
 use crate::audit::Audit;
 use crate::reach::Reach;
@@ -56,7 +56,9 @@ impl Built<'_> {
 
 impl<'a> Report<'a> {
     /// The ids of the stops that a store has, or that a build left: other reports list none.
-    pub fn stops(&self) -> &[&'a str] {
+    pub fn stops(&self) -> &[&'a str]
+        ensures { result.now ≡ listed_by self.now }
+    {
         match self {
             Report::Stored(ids) => ids.as_slice(),
             Report::Built(built) => built.missing.as_slice(),
