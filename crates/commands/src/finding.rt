@@ -1,7 +1,6 @@
 //! What a command finds: at the timetable, or over the file of a store.
 
 ghost use Rattle.std.specs.Prelude.{◌≡◌, option_map};
-ghost use Rattle.feed_commands.specs.Finds.{IsReachFound, IsScanned};
 ghost use Rattle.commands.specs.Runs.{IsSearchFound};
 ghost use Rattle.program_system.specs.World.{view_of};
 

@@ -1,6 +1,5 @@
 //! Replies to the questions of an input, over the file of a store.
 
-ghost use Rattle.std.specs.Prelude.{◌≡◌};
 ghost use Rattle.commands.specs.Runs.{IsServed};
 ghost use Rattle.commands.specs.Served.{IsServedBy, dialogue_of};
 ghost use Rattle.program_system.specs.World.{view_of};

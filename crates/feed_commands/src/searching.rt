@@ -1,6 +1,5 @@
 //! What a search over the timetable finds.
 
-ghost use Rattle.std.specs.Prelude.{◌≡◌};
 ghost use Rattle.answering.specs.Answers.{IsDirect};
 ghost use Rattle.feed_commands.specs.Finds.{IsReachFound, IsScanned, IsStopAnswer};
 

@@ -1,7 +1,6 @@
 //! What a file is, before it is opened as a store.
 
-ghost use Rattle.std.specs.Prelude.{◌≡◌, ◌↔◌, ◌≢◌, ◌⊎◌, ◌≤◌, ◌<◌, ◌++◌, [], ◌∷◌, IsTrue, IfOk, IfErr, MatchBool, length, take, drop, get_or};
-ghost use Rattle.std.specs.Arc.{arc_value};
+ghost use Rattle.std.specs.Prelude.{◌≡◌, ◌↔◌, ◌≢◌, ◌⊎◌, ◌≤◌, ◌<◌, IsTrue, IfOk, MatchBool, length, get_or};
 ghost use Rattle.disk_model.specs.Calls.{FailsByCalls, FailsByReads};
 ghost use Rattle.section_store.specs.Beginnings.{CanBegin, IsLeftOf, IsUnfinished};
 ghost use Rattle.section_store.specs.Sections.{IsFresh, form_of, open_gate};

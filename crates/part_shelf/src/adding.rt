@@ -1,6 +1,6 @@
 //! Adds a part.
 
-ghost use Rattle.std.specs.Prelude.{◌≡◌, ◌↔◌, ◌++◌, [], ◌∷◌, List, IfOk, IfErr, MatchResult, map};
+ghost use Rattle.std.specs.Prelude.{◌≡◌, ◌↔◌, ◌++◌, [], ◌∷◌, List, IfErr, MatchResult, map};
 ghost use Rattle.disk_model.specs.Disk.{State};
 ghost use Rattle.pattern_tree.specs.Content.{Content};
 ghost use Rattle.recovery.specs.Recovery.{IsLeftAlone};
