@@ -1,8 +1,9 @@
 //! Lists of stops as JSON.
 
-use itinerary_texts::{Place, write_place_members};
+use itinerary_texts::write_place_members;
 use json_writer::JsonWriter;
 use std::alloc::{AllocError, Global};
+use told_names::Place;
 
 /// A stop or a station of a list.
 #[derive(Drop)]

@@ -3,8 +3,8 @@
 use crate::reach::ReachText;
 use crate::timed::TimesText;
 use csv::{Terminator, Writer, WriterBuilder};
-use itinerary_texts::Place;
 use std::alloc::{AllocError, Global};
+use told_names::Place;
 
 // The columns of a stop, by their names in GTFS Schedule, and three numbers.
 const REACH: [&str; 8] = [

@@ -7,9 +7,9 @@ use crate::wanted::names_for;
 use answer_lines::{Answer, DayTime, Point, Stage};
 use connection_lines::{Connection, Connections};
 use feed_basis::Basis;
-use itinerary_texts::{Frequency, Itinerary, Journey, Leg, Place, Stay, Time, Trip, Window};
+use itinerary_texts::{Frequency, Itinerary, Journey, Leg, Stay, Time, Window};
 use std::alloc::{AllocError, Global};
-use told_names::{NameSheets, Names};
+use told_names::{NameSheets, Names, Place, Trip};
 use zone_clock::Clock;
 
 /// What was asked.

@@ -1,9 +1,10 @@
 //! Journeys on a map: GeoJSON (RFC 7946).
 
-use crate::itinerary::{Itinerary, Journey, Leg, Place, Trip};
+use crate::itinerary::{Itinerary, Journey, Leg};
 use crate::plain::{write_iso, write_kind};
 use json_writer::JsonWriter;
 use std::alloc::{AllocError, Global};
+use told_names::{Place, Trip};
 
 /// A position: its longitude and its latitude, in degrees (RFC 7946, section 3.1.1).
 pub type Position = (f64, f64);

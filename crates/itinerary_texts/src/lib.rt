@@ -8,7 +8,7 @@ mod plain;
 mod time;
 
 pub use geo::{Position, begin_feature, begin_features, end_features, geojson, position_of};
-pub use itinerary::{Frequency, Itinerary, Journey, Kind, Leg, Place, Route, Stay, Trip, Window};
+pub use itinerary::{Frequency, Itinerary, Journey, Kind, Leg, Stay, Window};
 pub use people::people_text;
 pub use plain::{itinerary_json, write_iso, write_place, write_place_members, write_time};
 pub use time::{Shown, Time};

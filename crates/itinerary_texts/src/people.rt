@@ -1,9 +1,10 @@
 //! Journeys for people.
 
-use crate::itinerary::{Itinerary, Journey, Kind, Leg, Place, Trip, Window};
+use crate::itinerary::{Itinerary, Journey, Kind, Leg, Window};
 use shown_ids::Shown;
 use std::alloc::{AllocError, Global};
 use std::{fmt, format};
+use told_names::{Place, Trip};
 
 // So many seconds in minutes, rounded up.
 fn minutes(seconds: u32) -> u32 {

@@ -1,11 +1,10 @@
 //! Answers as JSON.
 
-use crate::itinerary::{
-    Frequency, Itinerary, Journey, Kind, Leg, Place, Route, Stay, Trip, Window,
-};
+use crate::itinerary::{Frequency, Itinerary, Journey, Kind, Leg, Stay, Window};
 use crate::time::Time;
 use json_writer::JsonWriter;
 use std::alloc::{AllocError, Global};
+use told_names::{Place, Route, Trip};
 
 /// Writes how one gets on.
 pub(crate) fn write_kind(out: &mut JsonWriter, kind: Kind) {

@@ -5,12 +5,11 @@ use feed_report::{FeedReport, is_feed_file};
 use feed_texts::{FeedText, ListedStop, StopList, feed_json};
 use gtfs_text::Sheet;
 use itineraries::places_of;
-use itinerary_texts::Place;
 use option_words::{Format, StopSearch, Style};
 use std::alloc::{AllocError, Global};
 use std::format;
 use stop_search::{FIELDS, Listing, StopRow, list_stops};
-use told_names::NameSheets;
+use told_names::{NameSheets, Place};
 
 // The listed stops as lines, perhaps with the names of the fields first.
 fn listing_lines(alloc: Global, listing: &Listing<'_>, header: bool) -> Result<String, AllocError> {

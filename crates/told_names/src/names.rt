@@ -1,9 +1,9 @@
 //! Names, by ids.
 
+use crate::named::{Place, Route, Trip};
 use crate::tables::{ids_of, route_table, table_of};
 use feed_names::{RouteName, StopName, TripName};
 use gtfs_text::Sheet;
-use itinerary_texts::{Place, Route, Trip};
 use std::alloc::{AllocError, Global};
 use std::collections::BTreeMap;
 
