@@ -17,7 +17,7 @@ PROGRAM = crates/tp/out/tp
 .PHONY: all check install uninstall deb
 
 all:
-	@bin/tp --version >/dev/null
+	@bin/prove
 
 check:
 	@bin/check

@@ -38,7 +38,7 @@ def look_at_starts(look: Look, program: str, room: Path) -> None:
     is_reported = errors.startswith("tp: Z1 NotAStore\n") and str(room / "other") in errors
     look(status == 4 and is_reported, f"with a file that is no store: {status}, {errors!r}")
     status, errors = run(RUN, *here, "--feed", str(DEMO), "--program", str(room / "none"))
-    look(status == 70 and "bin/tp" in errors, f"without the program: {status}, {errors!r}")
+    look(status == 70 and "bin/prove" in errors, f"without the program: {status}, {errors!r}")
     status, errors = run("/usr/bin/python3", "-S", RUN, *here, "--feed", str(DEMO))
     look(status == 69 and "apt-get install" in errors and "python3-starlette" in errors, f"without packages: {status}, {errors!r}")
     wrong = {"--date": "20240230", "--days": "15", "--zone": "Europe/Berlin", "--tiles": "x:{x}{y}{z}", "--port": "65536", "--workers": "0"}

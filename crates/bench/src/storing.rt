@@ -9,11 +9,12 @@ use disk_model::{Disk, DiskFault, FileDisk, FileFault, write_and_sync};
 use faults::Fault;
 use pattern_building::finish;
 use pattern_tree::{Arena, Finished};
-use recovery::{RecoverFault, Recovered, recover};
+use recovery::{Recovered, recover};
 use rounds::{Rides, Scratch};
 use section_store::{PutFault, SectionStore};
 use std::alloc::{AllocError, Global};
 use std::sync::Arc;
+use store_faults::RecoverFault;
 use timetable::{StopId, Timetable};
 use tree_codec::encode;
 

@@ -1,5 +1,6 @@
+pub mod Left
 pub mod Feeds
 pub mod Idle
-pub mod Served
 pub mod Runs
 pub mod Programs
+pub mod Searches

@@ -1,5 +1,5 @@
 -- What the program leaves, from its words on.
-use Rattle.std.specs.Prelude.{◌≡◌, ◌⊎◌, ℕ, List, [], Option, None, Result, Err}
+use Rattle.std.specs.Prelude.{◌≡◌, ◌⊎◌, ℕ, List, [], Option, None, Result, Ok, Err}
 use Rattle.clap.specs.Words.{Text, fault_of, subcommand_of}
 use Rattle.gtfs_tables.specs.Feed.{Feed}
 use Rattle.command_grammar.specs.CommandLine.{program_app}
@@ -20,7 +20,9 @@ use Rattle.faults.specs.declared.fault.Fault.TheVariants.{BadDate, BadTime, Memo
 use Rattle.command_line.specs.Given.{folder_given, word_given}
 use Rattle.printing.specs.Tellings.{Telling}
 use Rattle.feed_commands.specs.Checks.{AreStops, IsFolderChecked}
-use Rattle.commands.specs.Runs.{IsPlanRun, voice_of}
+use Rattle.printing.specs.Faults.{voice_of}
+use Rattle.commands.specs.Runs.{IsPlanRun}
+use Rattle.commands.specs.Left.{Stored}
 use Rattle.program_system.specs.World.{SystemView}
 use denote.Ref.{Bor}
 
@@ -47,9 +49,9 @@ pub record NameJob (words : List Text) (job : Job) : Type 0 where
   pub is : IsJob (subcommand_of program_app words) job
 
 -- this is reported, or its fault, and no store was opened
-pub record IsPlainRun {D : Type 0} (v : SystemView D) (voice : Voice) (told : Result Told Fault) (old new : StreamsData) (status : ℕ)
+pub record IsPlainRun {D : Type 0} (t : Telling) (voice : Voice) (told : Result Told Fault) (old new : StreamsData) (status : ℕ)
     (disk : Option D) : Type 0 where
-  pub finished : IsFinished v.telling voice told old new status
+  pub finished : IsFinished t voice told old new status
   pub none : disk ≡ None
 
 -- in that style, over the feed in that folder
@@ -61,21 +63,26 @@ abbrev pub AreFaultsListed : {D : Type 0} → StreamsData → StreamsData → �
 AreFaultsListed old new status disk = IsWritten tolds.Faults old new status × (disk ≡ None)
 
 -- What a job leaves, whatever feed its folder holds. Memory may run out as the files of the feed are opened.
-abbrev pub IsJobRun : {D : Type 0} → SystemView D → Option (List ℕ) → Job → StreamsData → StreamsData → ℕ → Option D → Type 0
-IsJobRun v input jobs.Faults old new status disk = AreFaultsListed old new status disk
-IsJobRun v input (jobs.Check check) old new status disk =
-    (told : Result Told Fault) × IsPlainRun v (folder_voice check.style check.feed) told old new status disk
+abbrev pub IsJobRun : {D : Type 0} → SystemView → Stored D → Option (List ℕ) → Job → StreamsData → StreamsData → ℕ → Option D → Type 0
+IsJobRun v stored input jobs.Faults old new status disk = AreFaultsListed old new status disk
+IsJobRun v stored input (jobs.Check check) old new status disk =
+    (told : Result Told Fault) × IsPlainRun v.telling (folder_voice check.style check.feed) told old new status disk
     × IsFolderChecked v.world v.telling check told
-IsJobRun v input (jobs.Stops search) old new status disk =
-    (told : Result Told Fault) × IsPlainRun v (folder_voice search.style search.feed) told old new status disk
+IsJobRun v stored input (jobs.Stops search) old new status disk =
+    (told : Result Told Fault) × IsPlainRun v.telling (folder_voice search.style search.feed) told old new status disk
     × AreStops v.telling search told
-IsJobRun v input (jobs.Plan plan) old new status disk =
-    IsPlainRun v (voice_of plan) (Err Memory) old new status disk
-    ⊎ ((feed : Feed) → v.world.holds plan.settings.feed.now feed → IsPlanRun v input feed plan old new status disk)
+IsJobRun v stored input (jobs.Plan plan) old new status disk =
+    IsPlainRun v.telling (voice_of plan) (Err Memory) old new status disk
+    ⊎ ((feed : Feed) → v.world.holds plan.settings.feed.now feed → IsPlanRun v stored input feed plan old new status disk)
+
+-- what comes of words that were read as a job, or as none for that cause
+abbrev pub IsReadRun : {D : Type 0} → SystemView → Stored D → Option (List ℕ) → Result Job Unread → StreamsData → StreamsData → ℕ → Option D → Type 0
+IsReadRun v stored input (Ok job) old new status disk = IsJobRun v stored input job old new status disk
+IsReadRun v stored input (Err why) old new status disk = IsRefused v.telling why old new status × (disk ≡ None)
 
 -- These words, over the bytes of standard input, if they are known, and over what the system has, leave this on both streams, this status
--- and this disk.
-abbrev pub IsProgramRun : {D : Type 0} → SystemView D → Option (List ℕ) → List Text → StreamsData → StreamsData → ℕ → Option D → Type 0
-IsProgramRun v input words old new status disk =
+-- and this disk. What a command over a store leaves is said by those who do it.
+abbrev pub IsProgramRun : {D : Type 0} → SystemView → Stored D → Option (List ℕ) → List Text → StreamsData → StreamsData → ℕ → Option D → Type 0
+IsProgramRun v stored input words old new status disk =
     (IsNoJob v.telling words old new status × (disk ≡ None))
-    ⊎ ((job : Job) × NameJob words job × IsJobRun v input job old new status disk)
+    ⊎ ((job : Job) × NameJob words job × IsJobRun v stored input job old new status disk)

@@ -1,12 +1,12 @@
-//! The program: from its words and its system to what stands on both of its streams, its status, and the disk of its store.
+//! The program up to where a store is needed: from what its words name and its system to both of its streams and its status; or to the
+//! command over a store that is left to do.
 #![tactic(auto)]
 
-mod finding;
 mod idling;
 mod program;
-mod replies;
-mod replying;
 mod running;
-mod served;
+mod searching;
+mod so_far;
 
-pub use program::run_words;
+pub use program::run_read;
+pub use so_far::SoFar;

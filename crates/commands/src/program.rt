@@ -1,43 +1,41 @@
-//! The program, from its words to both streams.
+//! From what the words name to both streams.
 
-ghost use Rattle.std.specs.Prelude.{◌≡◌, List, map};
-ghost use Rattle.clap.specs.Words.{Text};
-ghost use Rattle.command_line.specs.Programs.{IsMatched};
-ghost use Rattle.commands.specs.Programs.{AreFaultsListed, IsJobRun, IsPlainRun, IsProgramRun, IsRefused, folder_voice, word_voice};
+ghost use Rattle.std.specs.Prelude.{◌≡◌, IfSome, None};
+ghost use Rattle.commands.specs.Left.{IsStoredJob, IsStoredRead, all_left};
+ghost use Rattle.commands.specs.Programs.{AreFaultsListed, IsJobRun, IsPlainRun, IsReadRun, IsRefused, folder_voice, word_voice};
 ghost use Rattle.program_system.specs.World.{view_of};
 ghost use Rattle.printing.specs.Finished.{IsFaulted, streams_of};
 
-use crate::running::{run_plan, voice_of};
-use clap::{ArgMatches, Error};
-use command_grammar::matches_of;
-use command_line::{Given, Job, Unread, Word, read_words};
-use disk_model::Disk;
+use crate::running::run_plan;
+use crate::so_far::SoFar;
+use command_line::{Given, Job, Unread, Word};
 use faults::Fault;
 use feed_commands::{check, stops};
 use option_words::Style;
-use printing::{Streams, Teller, Told, Voice, finish, print, say_no_memory, show, tell_fault};
-use program_system::{Ended, System};
+use printing::{
+    Streams, Teller, Told, Voice, finish, print, say_no_memory, show, tell_fault, voice_of,
+};
+use program_system::System;
 use std::alloc::Global;
-use std::io::{BufRead, Write};
+use std::io::Write;
 
 // Ends with what is reported, or its fault, without a store.
-fn ended<S: System, O: Write + Drop, E: Write + Drop>(
+fn ended<T: Teller, O: Write + Drop, E: Write + Drop>(
     alloc: Global,
-    system: &S,
+    teller: &T,
     voice: &Voice<'_>,
     told: Result<Told<'_>, Fault<'_>>,
     streams: Streams<O, E>,
-) -> Ended<S::Store, O, E>
-    ensures { IsPlainRun (view_of (S.world system.now) S.Store.honest S.Store.state S.Store.failures
-        S.Teller.telling)
+) -> SoFar<O, E>
+    ensures { IsPlainRun T.telling
         voice.now told.entry (streams_of streams.out streams.err) (streams_of result.streams.out result.streams.err)
-        result.status result.store }
+        result.status result.left }
 {
     let mut streams = streams;
-    let status = finish(alloc, &system.teller(), voice, told, &mut streams);
-    Ended {
+    let status = finish(alloc, teller, voice, told, &mut streams);
+    SoFar {
         status,
-        store: None,
+        left: None,
         streams,
     }
 }
@@ -53,49 +51,49 @@ fn folder_voice<'a>(style: Style, feed: &'a str) -> Voice<'a>
 }
 
 // Prints the faults and the statuses of the program.
-fn list_faults<D: Disk + Drop, O: Write + Drop, E: Write + Drop>(
+fn list_faults<O: Write + Drop, E: Write + Drop>(
     alloc: Global,
     streams: Streams<O, E>,
-) -> Ended<D, O, E>
+) -> SoFar<O, E>
     ensures { AreFaultsListed (streams_of streams.out streams.err) (streams_of result.streams.out result.streams.err)
-        result.status result.store }
+        result.status result.left }
 {
     let mut streams = streams;
     let status = print(alloc, Told::Faults, &mut streams);
-    Ended {
+    SoFar {
         status,
-        store: None,
+        left: None,
         streams,
     }
 }
 
 // Does a job.
-fn run_job<S: System, I: BufRead, O: Write + Drop, E: Write + Drop>(
+fn run_job<S: System, O: Write + Drop, E: Write + Drop>(
     alloc: Global,
     system: &S,
     job: &Job<'_>,
-    input: &mut I,
     streams: Streams<O, E>,
-) -> Ended<S::Store, O, E>
-    ensures { IsJobRun (view_of (S.world system.now) S.Store.honest S.Store.state S.Store.failures S.Teller.telling)
-        (I.remaining input.old) job.now (streams_of streams.out streams.err) (streams_of result.streams.out result.streams.err)
-        result.status result.store }
+) -> SoFar<O, E>
+    ensures run { IsJobRun (view_of (S.world system.now) S.Teller.telling) all_left None job.now
+        (streams_of streams.out streams.err) (streams_of result.streams.out result.streams.err) result.status result.left }
+    ensures left { IfSome result.left (λ _. IsStoredJob job.now) }
 {
+    let teller = system.teller();
     match job {
         Job::Faults => list_faults(alloc, streams),
         Job::Stops(search) => {
             let voice = folder_voice(search.style, search.feed);
-            let told = stops(alloc, &system.teller(), search);
-            ended(alloc, system, &voice, told, streams)
+            let told = stops(alloc, &teller, search);
+            ended(alloc, &teller, &voice, told, streams)
         }
         Job::Check(asked) => {
             let voice = folder_voice(asked.style, asked.feed);
             let told = check(alloc, system, asked);
-            ended(alloc, system, &voice, told, streams)
+            ended(alloc, &teller, &voice, told, streams)
         }
         Job::Plan(plan) => match system.open_feed(alloc, plan.settings.feed) {
-            Ok(files) => run_plan(alloc, system, plan, files, input, streams),
-            Err(_) => ended(alloc, system, &voice_of(plan), Err(Fault::Memory), streams),
+            Ok(files) => run_plan(alloc, system, plan, files, streams),
+            Err(_) => ended(alloc, &teller, &voice_of(plan), Err(Fault::Memory), streams),
         },
     }
 }
@@ -123,70 +121,51 @@ fn tell_word<T: Teller, O: Write + Drop, E: Write + Drop>(
 fn refuse_words<T: Teller, O: Write + Drop, E: Write + Drop>(
     alloc: Global,
     teller: &T,
-    why: Unread<'_>,
+    why: &Unread<'_>,
     shown: &[u8],
     streams: &mut Streams<O, E>,
 ) -> u8
-    ensures { IsRefused T.telling why.entry
+    ensures { IsRefused T.telling why.now
         (streams_of streams.old.out streams.old.err) (streams_of streams.new.out streams.new.err) result }
 {
     match why {
         // What is to be shown of them took memory too.
         Unread::Shown(7) => say_no_memory(&mut streams.err),
-        Unread::Shown(status) => show(shown, status, streams),
+        Unread::Shown(status) => show(shown, *status, streams),
         Unread::BadDate(style, word) => {
-            tell_word(alloc, teller, style, word, &Fault::BadDate, streams)
+            tell_word(alloc, teller, *style, *word, &Fault::BadDate, streams)
         }
         Unread::BadTime(style, word) => {
-            tell_word(alloc, teller, style, word, &Fault::BadTime, streams)
+            tell_word(alloc, teller, *style, *word, &Fault::BadTime, streams)
         }
     }
 }
 
-// Does what the words say by what they match of the command line.
-fn run_matched<S: System, I: BufRead, O: Write + Drop, E: Write + Drop>(
+/// Does what the words say, by what they were read as, on the system. The answer goes to standard output, a fault to standard error, with a
+/// line beneath it if there is something to do about it. `shown` is what is to be shown of words that give no job. A command over a store
+/// is left to do, if nothing before it is at fault.
+pub fn run_read<S: System, O: Write + Drop, E: Write + Drop>(
     alloc: Global,
     system: &S,
-    matched: &Result<ArgMatches<'_>, Error>,
-    input: &mut I,
+    read: &Result<Job<'_>, Unread<'_>>,
+    shown: &[u8],
     streams: Streams<O, E>,
-) -> Ended<S::Store, O, E>
-    ensures { (words : List Text) → IsMatched words matched.now
-        → IsProgramRun (view_of (S.world system.now) S.Store.honest S.Store.state S.Store.failures S.Teller.telling)
-        (I.remaining input.old) words (streams_of streams.out streams.err) (streams_of result.streams.out result.streams.err)
-        result.status result.store }
+) -> SoFar<O, E>
+    ensures run { IsReadRun (view_of (S.world system.now) S.Teller.telling) all_left None read.now
+        (streams_of streams.out streams.err) (streams_of result.streams.out result.streams.err) result.status result.left }
+    ensures left { IfSome result.left (λ _. IsStoredRead read.now) }
 {
-    let mut shown = Vec::new(alloc);
-    match read_words(matched, &mut shown) {
-        Ok(job) => run_job(alloc, system, &job, input, streams),
+    match read {
+        Ok(job) => run_job(alloc, system, job, streams),
         Err(why) => {
             let mut streams = streams;
             let teller = system.teller();
-            let status = refuse_words(alloc, &teller, why, shown.as_slice(), &mut streams);
-            Ended {
+            let status = refuse_words(alloc, &teller, why, shown, &mut streams);
+            SoFar {
                 status,
-                store: None,
+                left: None,
                 streams,
             }
         }
     }
-}
-
-/// Reads the program's words, the first of which is its name, and does what they say on the system. The answer goes to standard output, a
-/// fault to standard error, with a line beneath it if there is something to do about it. Questions that are asked line by line stand in
-/// `input`.
-pub fn run_words<'a, S: System, I: BufRead, O: Write + Drop, E: Write + Drop>(
-    alloc: Global,
-    system: &S,
-    words: &'a [&'a str],
-    input: &mut I,
-    streams: Streams<O, E>,
-) -> Ended<S::Store, O, E>
-    ensures { IsProgramRun (view_of (S.world system.now) S.Store.honest S.Store.state S.Store.failures
-        S.Teller.telling)
-        (I.remaining input.old) (map (λ word. word.now) words.entry.now)
-        (streams_of streams.out streams.err) (streams_of result.streams.out result.streams.err) result.status result.store }
-{
-    let matched = matches_of(alloc, words);
-    run_matched(alloc, system, &matched, input, streams)
 }

@@ -1,88 +1,54 @@
 //! Running a plan.
 
-ghost use Rattle.std.specs.Prelude.{◌≡◌};
+ghost use Rattle.std.specs.Prelude.{◌≡◌, ◌↔◌, IfSome, IsTrue, None};
 ghost use Rattle.gtfs_tables.specs.Feed.{Feed, AreReaders};
-ghost use Rattle.commands.specs.Runs.{IsCommandRun, IsFoundRun, IsPlanRun, voice_of};
+ghost use Rattle.commands.specs.Left.{IsStoredCommand, all_left};
+ghost use Rattle.commands.specs.Runs.{IsCommandRun, IsPlanRun};
 ghost use Rattle.program_system.specs.World.{view_of};
 ghost use Rattle.printing.specs.Finished.{streams_of};
 
-use crate::finding::find;
 use crate::idling::say_idle;
-use crate::replying::{Site, run_serve};
-use command_line::{Command, Plan, Search, given_by};
+use crate::searching::{end_found, find};
+use crate::so_far::SoFar;
+use command_line::{Command, Plan, Search};
 use feed_basis::{Basis, basis_of};
-use feed_commands::{Tabling, finish_found, run_matrix};
+use feed_commands::{Tabling, run_matrix};
 use gtfs_tables::Files;
-use printing::{Streams, Voice, tell_fault};
-use program_system::{Ended, StoreFile, System};
+use printing::{Streams, tell_fault, voice_of};
+use program_system::System;
 use std::alloc::Global;
-use std::io::{BufRead, Write};
+use std::io::Write;
 use timetable::Rides;
 
-/// How a plan is reported.
-pub fn voice_of<'a>(plan: &Plan<'a>) -> Voice<'a>
-    ensures { result ≡ voice_of plan.now }
+// Whether a command is one over a store.
+fn is_stored(command: &Command<'_>) -> bool
+    ensures { IsTrue result ↔ IsStoredCommand command.now }
 {
-    Voice {
-        style: plan.style,
-        given: given_by(plan),
+    match command {
+        Command::Find(Search::Stored { .. }) | Command::Serve { .. } => true,
+        Command::Find(_) | Command::Matrix { .. } => false,
     }
 }
 
-// Finds what a command searches for, and prints it.
-fn run_search<S: System, O: Write + Drop, E: Write + Drop>(
+// Does the command of a plan, which is none over a store, over the timetable.
+fn run_here<S: System, O: Write + Drop, E: Write + Drop>(
     alloc: Global,
     system: &S,
     plan: &Plan<'_>,
     basis: &Basis,
-    rides: Rides,
-    search: &Search<'_>,
     streams: Streams<O, E>,
-) -> Ended<S::Store, O, E>
-    ensures { IsFoundRun (view_of (S.world system.now) S.Store.honest S.Store.state S.Store.failures
-        S.Teller.telling)
-        plan.now basis.now rides search.now (streams_of streams.out streams.err) (streams_of result.streams.out result.streams.err)
-        result.status result.store }
-{
-    let mut streams = streams;
-    let style = plan.style;
-    let (found, store) = find(alloc, system, style, basis, rides, search, &mut streams.err);
-    let teller = system.teller();
-    let voice = voice_of(plan);
-    let status = finish_found(alloc, &teller, &voice, plan, basis, found, &mut streams);
-    Ended {
-        status,
-        store,
-        streams,
-    }
-}
-
-// Does the command of a plan over the timetable, and over the disk of the store that it names.
-fn run_command<S: System, I: BufRead, O: Write + Drop, E: Write + Drop>(
-    alloc: Global,
-    system: &S,
-    plan: &Plan<'_>,
-    basis: &Basis,
-    input: &mut I,
-    streams: Streams<O, E>,
-) -> Ended<S::Store, O, E>
-    ensures { IsCommandRun (view_of (S.world system.now) S.Store.honest S.Store.state S.Store.failures S.Teller.telling)
-        (I.remaining input.old) plan.now basis.now plan.now.command (streams_of streams.out streams.err)
-        (streams_of result.streams.out result.streams.err) result.status result.store }
+) -> SoFar<O, E>
+    requires { ¬ IsStoredCommand plan.now.command }
+    ensures run { IsCommandRun (view_of (S.world system.now) S.Teller.telling) all_left None
+        plan.now basis.now plan.now.command (streams_of streams.out streams.err)
+        (streams_of result.streams.out result.streams.err) result.status result.left }
+    ensures none { result.left ≡ None }
 {
     let rides = Rides::new(plan.settings.rides);
     match &plan.command {
-        Command::Find(search) => run_search(alloc, system, plan, basis, rides, search, streams),
-        Command::Serve { store, workers } => {
-            let site = Site {
-                file: StoreFile {
-                    path: store,
-                    basis,
-                    rides,
-                },
-                workers: *workers,
-            };
-            run_serve(alloc, system, plan, &voice_of(plan), &site, input, streams)
+        Command::Find(search) => {
+            let found = find(alloc, plan.style, basis, rides, search);
+            end_found(alloc, &system.teller(), plan, basis, found, streams)
         }
         Command::Matrix {
             question,
@@ -96,43 +62,72 @@ fn run_command<S: System, I: BufRead, O: Write + Drop, E: Write + Drop>(
                 workers: *workers,
                 progress: *progress,
             };
-            run_matrix(alloc, system, &voice_of(plan), &tabling, streams)
+            let mut streams = streams;
+            let status = run_matrix(alloc, system, &voice_of(plan), &tabling, &mut streams);
+            SoFar {
+                status,
+                left: None,
+                streams,
+            }
         }
+        Command::Serve { .. } => unreachable!(),
     }
 }
 
-/// Does the plan over the feed's files, and over the disk of the store that it names. The disk is opened only if the feed and its days are
-/// without fault. Questions that are asked line by line stand in `input`. Standard error says if no trip runs on the covered days.
+// Does the command of a plan over the timetable, or leaves it to do if it is one over a store.
+fn run_command<S: System, O: Write + Drop, E: Write + Drop>(
+    alloc: Global,
+    system: &S,
+    plan: &Plan<'_>,
+    basis: Basis,
+    streams: Streams<O, E>,
+) -> SoFar<O, E>
+    ensures run { IsCommandRun (view_of (S.world system.now) S.Teller.telling) all_left None
+        plan.now basis plan.now.command (streams_of streams.out streams.err)
+        (streams_of result.streams.out result.streams.err) result.status result.left }
+    ensures left { IfSome result.left (λ _. IsStoredCommand plan.now.command) }
+{
+    if is_stored(&plan.command) {
+        return SoFar {
+            status: 0,
+            left: Some(basis),
+            streams,
+        };
+    }
+    run_here(alloc, system, plan, &basis, streams)
+}
+
+/// Does the plan over the feed's files. A command over a store is left to do, if the feed and its days are without fault. Standard error
+/// says if no trip runs on the covered days.
 ///
-/// The status is 0 if it is done; 1 if the feed or its days are at fault, or the system gives no randomness for hash keys. It is 3 if a
-/// stop has no tree, since it would be too large, memory was refused for it, or the questions ended before it was built. It is 4 if the
-/// store is at fault, or its device; 6 if the question is; 7 if memory ran out; 8 if standard output refused a write.
-pub fn run_plan<S: System, I: BufRead, O: Write + Drop, E: Write + Drop>(
+/// The status is 0 if it is done or left; 1 if the feed or its days are at fault, or the system gives no randomness for hash keys; 6 if the
+/// question is; 7 if memory ran out; 8 if standard output refused a write.
+pub fn run_plan<S: System, O: Write + Drop, E: Write + Drop>(
     alloc: Global,
     system: &S,
     plan: &Plan<'_>,
     files: Files<S::Reader>,
-    input: &mut I,
     streams: Streams<O, E>,
-) -> Ended<S::Store, O, E>
-    ensures { (feed : Feed) → AreReaders S.Reader.remaining files feed
-        → IsPlanRun (view_of (S.world system.now) S.Store.honest S.Store.state S.Store.failures S.Teller.telling)
-        (I.remaining input.old) feed plan.now (streams_of streams.out streams.err) (streams_of result.streams.out result.streams.err)
-        result.status result.store }
+) -> SoFar<O, E>
+    ensures run { (feed : Feed) → AreReaders S.Reader.remaining files feed
+        → IsPlanRun (view_of (S.world system.now) S.Teller.telling) all_left None feed plan.now
+        (streams_of streams.out streams.err) (streams_of result.streams.out result.streams.err) result.status result.left }
+    ensures left { IfSome result.left (λ _. IsStoredCommand plan.now.command) }
 {
     let mut streams = streams;
     let hash_keys = system.hash_keys();
     match basis_of(alloc, hash_keys, &plan.settings, plan.first, files) {
         Ok(basis) => {
             say_idle(&basis, &mut streams.err);
-            run_command(alloc, system, plan, &basis, input, streams)
+            run_command(alloc, system, plan, basis, streams)
         }
         Err(fault) => {
             let teller = system.teller();
-            let status = tell_fault(alloc, &teller, &voice_of(plan), &fault, &mut streams.err);
-            Ended {
+            let voice = voice_of(plan);
+            let status = tell_fault(alloc, &teller, &voice, &fault, &mut streams.err);
+            SoFar {
                 status,
-                store: None,
+                left: None,
                 streams,
             }
         }

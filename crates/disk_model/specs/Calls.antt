@@ -19,7 +19,7 @@ CutsAndSyncs len result old new =
 abbrev pub FailsByCalls : {T E : Type 0} → Result T E → ℕ → ℕ → Type 0
 FailsByCalls result before after = MatchResult result (λ _. after ≡ before) (λ _. Grew before after)
 
--- a fault comes only if a call failed, or memory was refused
+-- no call failed, and there is no fault or memory was refused; or one failed, and that is the fault
 abbrev pub FailsByReads : {T : Type 0} → Result T ReadFault → ℕ → ℕ → Type 0
 FailsByReads result before after =
-    MatchResult result (λ _. after ≡ before) (λ fault. (fault ≡ Memory) ⊎ ((fault ≡ Failed) × Grew before after))
+    MatchResult result (λ _. after ≡ before) (λ fault. ((fault ≡ Memory) × (after ≡ before)) ⊎ ((fault ≡ Failed) × Grew before after))

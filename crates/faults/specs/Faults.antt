@@ -7,8 +7,8 @@ use Rattle.service_days.specs.declared.fault.DayFault.{DayFault}
 use Rattle.service_days.specs.declared.fault.DayFault.TheVariants as days
 use Rattle.pattern_tree.specs.declared.fault.TreeFault.{TreeFault}
 use Rattle.pattern_tree.specs.declared.fault.TreeFault.TheVariants as trees
-use Rattle.recovery.specs.declared.fault.RecoverFault.{RecoverFault}
-use Rattle.recovery.specs.declared.fault.RecoverFault.TheVariants as stores
+use Rattle.store_faults.specs.declared.fault.RecoverFault.{RecoverFault}
+use Rattle.store_faults.specs.declared.fault.RecoverFault.TheVariants as stores
 use Rattle.faults.specs.declared.fault.Fault.{Fault}
 use Rattle.faults.specs.declared.fault.Fault.TheVariants as fault
 use Rattle.faults.specs.declared.migrating.Side.{Side}

@@ -7,8 +7,8 @@ use crate::fault::Fault;
 use crate::migrating::{FILE_TOO_LARGE, OTHER_LIST, migration_advice};
 use crate::parting::{OTHER_TREE, part_advice};
 use pattern_query::Refusal;
-use recovery::RecoverFault;
 use service_days::DayFault;
+use store_faults::RecoverFault;
 
 pub const BAD_DATE: &str =
     "--date, --on and --until-on take a day of the calendar, YYYYMMDD, as 20240102.";

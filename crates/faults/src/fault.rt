@@ -11,10 +11,10 @@ use crate::texts::write_fault;
 use gtfs_tables::{FaultKind, FeedFault};
 use pattern_query::Refusal;
 use pattern_tree::TreeFault;
-use recovery::RecoverFault;
 use service_days::DayFault;
 use std::alloc::AllocError;
 use std::fmt;
+use store_faults::RecoverFault;
 
 /// A fault of the words, the feed, its days, the store or the question, shown as the programs print it: its code and name,
 /// and an id so that it stays on its line.

@@ -9,8 +9,8 @@ ghost use Rattle.faults.specs.Texts.{migration_text, store_fault_text};
 use crate::advice::{DAMAGED, DEVICE, GATE_DAMAGED, IN_USE};
 use crate::fault::Fault;
 use crate::texts::write_store;
-use recovery::RecoverFault;
 use std::fmt;
+use store_faults::RecoverFault;
 
 /// One of the two files of a migration.
 #[derive(Clone, Copy, Debug, PartialEq, Eq)]

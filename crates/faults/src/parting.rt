@@ -9,9 +9,9 @@ ghost use Rattle.faults.specs.Texts.{other_tree_text, part_text};
 use crate::advice::{DAMAGED, GATE_DAMAGED, IN_USE, OLD_VERSION};
 use crate::fault::Fault;
 use crate::migrating::{CHANGED, MIGRATED_RIDES, MIGRATED_TIMETABLE, StoreFault, write_cause};
-use recovery::RecoverFault;
 use shown_ids::Shown;
 use std::fmt;
+use store_faults::RecoverFault;
 
 pub const PART_NOT_A_STORE: &str =
     "That file is no store of this program, and was left as it is: give the file that the part's build made.";

@@ -8,9 +8,9 @@ use crate::fault::Fault;
 use crate::migrating::write_migration;
 use crate::parting::{write_other_tree, write_part};
 use gtfs_tables::{FaultKind, FeedFault, FeedFile};
-use recovery::RecoverFault;
 use service_days::DayFault;
 use std::fmt;
+use store_faults::RecoverFault;
 
 // The code and the name of a kind of fault of a feed.
 fn kind_name(kind: FaultKind) -> &'static str

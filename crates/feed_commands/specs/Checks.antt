@@ -71,7 +71,7 @@ IsChecked t lists keyed feed check told =
     ⊎ IsRefusedFeed t keyed feed check told
 
 -- whatever feed its folder holds; memory may run out as the files are opened
-abbrev pub IsFolderChecked : {D : Type 0} → World D → Telling → FeedCheck → Result Told Fault → Type 0
+abbrev pub IsFolderChecked : World → Telling → FeedCheck → Result Told Fault → Type 0
 IsFolderChecked world t check told =
     (told ≡ Err faults.Memory)
     ⊎ ((feed : Feed) → world.holds check.feed.now feed → IsChecked t (world.lists check.feed.now) world.keyed feed check told)

@@ -96,9 +96,8 @@ IsMatrixTold t voice basis k question from to old new status =
     ⊎ (IsList from × IsList to × ((asked : Asked) × AreListed from to asked
     × IsWindow basis question question.within asked.first asked.last × IsTabled t voice basis k question from to asked old new status)))
 
--- so for whatever bytes the files have; and no store is opened
-abbrev pub IsMatrixRun : {D : Type 0} → SystemView D → Voice → BasisData → ℕ → Question → StreamsData → StreamsData → ℕ → Option D → Type 0
-IsMatrixRun v voice basis k question old new status disk =
-    (disk ≡ None)
-    × ((from to : List ℕ) → v.world.has question.from.now from → v.world.has question.to.now to
-    → IsMatrixTold v.telling voice basis k question from to old new status)
+-- so for whatever bytes the files have
+abbrev pub IsMatrixRun : SystemView → Voice → BasisData → ℕ → Question → StreamsData → StreamsData → ℕ → Type 0
+IsMatrixRun v voice basis k question old new status =
+    (from to : List ℕ) → v.world.has question.from.now from → v.world.has question.to.now to
+    → IsMatrixTold v.telling voice basis k question from to old new status

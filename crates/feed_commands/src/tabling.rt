@@ -12,7 +12,7 @@ use feed_basis::Basis;
 use option_words::Workers;
 use pattern_query::Refusal;
 use printing::{Streams, Voice, say_no_memory, say_unwritten, tell_fault};
-use program_system::{Ended, System};
+use program_system::System;
 use question_lines::Question;
 use std::alloc::Global;
 use std::io::{ErrorKind, Write};
@@ -202,17 +202,17 @@ fn print_lists<S: System, O: Write + Drop, E: Write + Drop>(
     print_table(alloc, system, voice, tabling, lists, &asked, streams)
 }
 
-// Reads both files and prints the table between the stops that they list, or says why there is none. Gives the status.
-fn print_all<S: System, O: Write + Drop, E: Write + Drop>(
+/// Reads both files and prints the table of the travel times between the stops that they list, or says why there is none. Gives the
+/// status.
+pub fn run_matrix<S: System, O: Write + Drop, E: Write + Drop>(
     alloc: Global,
     system: &S,
     voice: &Voice<'_>,
     tabling: &Tabling<'_>,
     streams: &mut Streams<O, E>,
 ) -> u8
-    ensures { (from to : List ℕ) → (S.world system.now).has tabling.now.question.now.from.now from
-        → (S.world system.now).has tabling.now.question.now.to.now to
-        → IsMatrixTold S.Teller.telling voice.now tabling.now.basis.now tabling.now.rides tabling.now.question.now from to
+    ensures { IsMatrixRun (view_of (S.world system.now) S.Teller.telling)
+        voice.now tabling.now.basis.now tabling.now.rides tabling.now.question.now
         (streams_of streams.old.out streams.old.err) (streams_of streams.new.out streams.new.err) result }
 {
     let question = tabling.question;
@@ -229,25 +229,4 @@ fn print_all<S: System, O: Write + Drop, E: Write + Drop>(
         to: &to,
     };
     print_lists(alloc, system, voice, tabling, &lists, streams)
-}
-
-/// Prints the table of the travel times between the stops of two files, or says why there is none. No store is opened.
-pub fn run_matrix<S: System, O: Write + Drop, E: Write + Drop>(
-    alloc: Global,
-    system: &S,
-    voice: &Voice<'_>,
-    tabling: &Tabling<'_>,
-    streams: Streams<O, E>,
-) -> Ended<S::Store, O, E>
-    ensures { IsMatrixRun (view_of (S.world system.now) S.Store.honest S.Store.state S.Store.failures S.Teller.telling)
-        voice.now tabling.now.basis.now tabling.now.rides tabling.now.question.now
-        (streams_of streams.out streams.err) (streams_of result.streams.out result.streams.err) result.status result.store }
-{
-    let mut streams = streams;
-    let status = print_all(alloc, system, voice, tabling, &mut streams);
-    Ended {
-        status,
-        store: None,
-        streams,
-    }
 }

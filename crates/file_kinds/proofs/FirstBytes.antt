@@ -1,8 +1,8 @@
 -- What a file is, by its first bytes.
-use Rattle.std.proofs.Common.{◌≡◌, ◌≢◌, ◌⊎◌, ⊎_elim, inl, inr, ℕ, ◌<◌, min, List, [], ◌∷◌, length, take, drop, get_or, sym, ◌∙◌, ap, arith, length-take}
-use Rattle.std.proofs.lemmas.List.{drop-take, get_or-take, take-take}
+use Rattle.std.proofs.Common.{◌≡◌, ◌≢◌, ◌⊎◌, ⊎_elim, inl, inr, ℕ, ◌<◌, List, [], ◌∷◌, length, take, get_or, sym, ◌∙◌, arith}
 use Rattle.section_store.specs.Beginnings.{CanBegin}
 use Rattle.section_store.specs.Sections.{Form, IsFresh, open_gate}
+use Rattle.section_store.proofs.FirstBytes.{head_gate, head_long, head_name}
 use Rattle.file_kinds.specs.Kinds.{CanOpen, IsNamedAfterGate}
 
 fresh_by_length : (read : List ℕ) → length read < 15 → IsFresh read
@@ -14,23 +14,11 @@ fresh_by_gate [] closed = tt
 fresh_by_gate (gate ∷ bytes) closed = inr closed
 
 module _ (read head : List ℕ) (is : head ≡ take 15 read) where
-  head_long : length head ≡ min 15 (length read)
-  head_long = ap length is ∙ length-take 15 read
-
-  head_gate : get_or head 0 0 ≡ get_or read 0 0
-  head_gate = ap (λ (l : List ℕ). get_or l 0 0) is ∙ get_or-take 15 read 0 0 (omega arith)
-
-  head_name : take 7 (drop 1 head) ≡ take 7 (drop 1 read)
-  head_name =
-      ap (λ (l : List ℕ). take 7 (drop 1 l)) is
-      ∙ ap (λ (l : List ℕ). take 7 l) (drop-take 1 14 read)
-      ∙ take-take 7 14 (drop 1 read) (omega arith)
-
   fresh_by : (length head < 15) ⊎ (get_or head 0 0 ≢ open_gate) → IsFresh read
   fresh_by shut =
       ⊎_elim
-      (λ short. fresh_by_length read (omega (arith, short, head_long)))
-      (λ closed. fresh_by_gate read (λ at_open. closed (head_gate ∙ at_open)))
+      (λ short. fresh_by_length read (omega (arith, short, head_long read head is)))
+      (λ closed. fresh_by_gate read (λ at_open. closed (head_gate read head is ∙ at_open)))
       shut
 
   -- a fresh file in which no store may be begun is none in which one may be opened
@@ -39,7 +27,7 @@ module _ (read head : List ℕ) (is : head ≡ take 15 read) where
       ⊎_elim none (λ old. old (fresh_by shut)) can
 
   pub named_read : IsNamedAfterGate head → IsNamedAfterGate read
-  named_read h = (sym head_name ∙ h.0, λ at_open. h.1 (head_gate ∙ at_open))
+  named_read h = (sym (head_name read head is) ∙ h.0, λ at_open. h.1 (head_gate read head is ∙ at_open))
 
   pub named_head : IsNamedAfterGate read → IsNamedAfterGate head
-  named_head h = (head_name ∙ h.0, λ at_open. h.1 (sym head_gate ∙ at_open))
+  named_head h = (head_name read head is ∙ h.0, λ at_open. h.1 (sym (head_gate read head is) ∙ at_open))

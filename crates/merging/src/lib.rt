@@ -4,10 +4,8 @@
 mod fault;
 pub mod laws;
 mod merging;
-mod progress;
 mod shelf;
 
 pub use fault::{MergeFault, ShelfFault};
 pub use merging::merge;
-pub use progress::MergeProgress;
 pub use shelf::Shelf;

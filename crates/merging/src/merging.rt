@@ -10,9 +10,9 @@ ghost use Rattle.merging.specs.Merging.{Goes, Merges, lacked, merged, with_next}
 ghost use Rattle.merging.specs.Reads.{IfOfShelf, IsSteady, OnlyFailing};
 
 use crate::fault::MergeFault;
-use crate::progress::MergeProgress;
 use crate::shelf::Shelf;
 use disk_model::Disk;
+use progress::{Done, Progress};
 use section_store::going_laws::{goes_between, goes_on};
 use section_store::{PutFault, SectionStore, Step};
 use timetable::StopId;
@@ -71,7 +71,7 @@ fn put_next<E: Disk, S: Shelf>(
 ///
 /// Of honest disks: at each moment each outcome of a crash stands for a front of the merged list that begins with the old one. A trusted
 /// disk stays trusted if all given trees are exact.
-pub fn merge<E: Disk, S: Shelf, P: MergeProgress>(
+pub fn merge<E: Disk, S: Shelf, P: Progress>(
     store: &mut SectionStore<E>,
     shelf: &mut S,
     progress: &mut P,
@@ -103,10 +103,10 @@ pub fn merge<E: Disk, S: Shelf, P: MergeProgress>(
     goes_between();
     goes_on();
     let stops = store.form().timetable().stops();
-    progress.merged(store.stored().len(), stops);
+    progress.reached(Done::Stored, store.stored().len(), stops);
     for number in 0..stops {
         put_next(store, shelf, StopId::new(number as u32))?;
-        progress.merged(store.stored().len(), stops);
+        progress.reached(Done::Stored, store.stored().len(), stops);
     }
     Ok(())
 }

@@ -16,18 +16,19 @@ ghost use Rattle.migration.specs.Migration.{IsRead, Migrates, OneIsTooLarge, Sto
 use crate::comparing::begin_with;
 use crate::fault::MigrateFault;
 use crate::migrated::Migrated;
-use crate::progress::MigrationProgress;
 use disk_model::Disk;
 use pattern_tree::PatternTree;
-use recovery::{RecoverFault, read_v1, recover};
+use progress::{Done, Progress};
+use recovery::{read_v1, recover};
 use section_store::going_laws::{goes_between, goes_on};
 use section_store::{PutFault, SectionStore, Step};
 use std::alloc::Global;
 use std::sync::Arc;
+use store_faults::RecoverFault;
 use timetable::{Rides, Timetable};
 
 // Puts the trees from the one of that number on, in order, and reports how many are in the store. Those before it are there.
-fn put_rest<E: Disk, P: MigrationProgress>(
+fn put_rest<E: Disk, P: Progress>(
     store: &mut SectionStore<E>,
     trees: &[PatternTree],
     from: usize,
@@ -58,10 +59,10 @@ fn put_rest<E: Disk, P: MigrationProgress>(
 {
     goes_on();
     goes_between();
-    progress.migrated(from, trees.len());
+    progress.reached(Done::Migrated, from, trees.len());
     for i in from..trees.len() {
         store.put_tree(&trees[i])?;
-        progress.migrated(i + 1, trees.len());
+        progress.reached(Done::Migrated, i + 1, trees.len());
     }
     Ok(())
 }
@@ -69,7 +70,7 @@ fn put_rest<E: Disk, P: MigrationProgress>(
 /// Takes over the trees of a store of the version before into a store of the version that is written now: reads the old file, recovers
 /// the new one, which may be fresh or hold a beginning of the old list, and puts the rest in order. Stopped at any moment, it goes on
 /// when it is run again. The old file is only read. `progress` hears how many trees are taken over, but not that no more come.
-pub fn migrate<D: Disk, E: Disk, P: MigrationProgress>(
+pub fn migrate<D: Disk, E: Disk, P: Progress>(
     alloc: Global,
     source: D,
     target: E,

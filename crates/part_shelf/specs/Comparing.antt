@@ -4,7 +4,7 @@ use Rattle.std.specs.List.{All, Contains}
 use Rattle.disk_model.specs.Disk.{Grew, State, empty_disk}
 use Rattle.pattern_tree.specs.Content.{Content}
 use Rattle.section_store.specs.Sections.{Form}
-use Rattle.recovery.specs.declared.fault.RecoverFault.TheVariants.{Device}
+use Rattle.store_faults.specs.declared.fault.RecoverFault.TheVariants.{Device}
 use Rattle.merging.specs.Merging.{tree_of}
 use Rattle.merging.specs.Reads.{IsSteady, OnlyFailing}
 use Rattle.part_shelf.specs.Spots.{IsTextAt}

@@ -13,7 +13,7 @@ use crate::listing::list_trees;
 use crate::noting::note;
 use crate::shelf::PartShelf;
 use disk_model::Disk;
-use recovery::RecoverFault;
+use store_faults::RecoverFault;
 
 impl<D: Disk> PartShelf<D> {
     /// Adds the part whose store the file of the disk holds. The file is recovered, and not written: a fresh one has no trees. It is read

@@ -4,7 +4,7 @@ ghost use Rattle.std.specs.Prelude.{◌≡◌};
 ghost use Rattle.part_shelf.specs.Reading.{of_text};
 
 use merging::ShelfFault;
-use recovery::RecoverFault;
+use store_faults::RecoverFault;
 use thiserror::Error;
 use timetable::StopId;
 

@@ -20,10 +20,11 @@ use board::{Reader, open_shared};
 use direct_connections::Network;
 use disk_model::Disk;
 use feed_ids::Names;
-use recovery::{Keeper, Nobody, RecoverFault, recover_to};
+use recovery::{Keeper, Nobody, recover_to};
 use section_store::{SectionStore, Step};
 use std::alloc::Global;
 use std::sync::{Arc, Wait};
+use store_faults::RecoverFault;
 use timetable::Rides;
 
 // Opens the store of the network's timetable, and gives each of its trees to the keeper.

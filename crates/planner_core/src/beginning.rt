@@ -21,10 +21,11 @@ use crate::tools::Tools;
 use disk_model::MemDisk;
 use pattern_query::Patterns;
 use pattern_tree::PatternTree;
-use recovery::{RecoverFault, Recovered, recover};
+use recovery::{Recovered, recover};
 use section_store::laws::trust_lasts;
 use section_store::{SectionStore, Step};
 use std::alloc::{AllocError, Global};
+use store_faults::RecoverFault;
 use timetable::StopId;
 use work_ledger::Ledger;
 

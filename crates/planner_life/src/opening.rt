@@ -18,12 +18,13 @@ use crate::desk::Desk;
 use crate::tools::Tools;
 use disk_model::Disk;
 use pattern_tree::PatternTree;
-use recovery::{RecoverFault, Recovered, recover};
+use recovery::{Recovered, recover};
 use section_store::Step;
 use section_store::laws::trust_lasts;
 use std::alloc::{AllocError, Global};
 use std::sync::Arc;
 use store_excerpt::Board;
+use store_faults::RecoverFault;
 use timetable::{Rides, Timetable};
 
 // Makes the tools, and the board of the trees. Each tree is let go as soon as its patterns are made.

@@ -10,5 +10,5 @@ pub use meanwhile::{Meanwhile, precompute_while};
 pub use missing::count_in;
 pub use outcome::Outcome;
 pub use precomputing::{precompute, precompute_telling, precompute_until};
-pub use tree_crew::{Audience, Crew, Progress, Silent};
+pub use tree_crew::{Audience, Crew};
 pub use tree_workers::{Free, Gate, Halt};

@@ -12,6 +12,7 @@ use crate::outcome::Outcome;
 use disk_model::Disk;
 use flusher::FlushEnd;
 use planner::{Desk, Planner};
+use progress::{Done, Progress, Silent};
 use section_store::going_laws::goes_on;
 use section_store::{Step, StopSet};
 use std::alloc::{AllocError, Global};
@@ -20,7 +21,7 @@ use std::sync::Wait;
 use std::thread::Threads;
 use stop_parts::Part;
 use timetable::StopId;
-use tree_crew::{Audience, Counted, Crew, Progress, Silent, run_over};
+use tree_crew::{Audience, Counted, Crew, run_over};
 use tree_workers::{Gate, Halt};
 use work_ledger::Ledger;
 
@@ -158,7 +159,7 @@ pub fn precompute_telling<D: Disk + Drop, R: Threads + Wait + Sync, G: Gate + Sy
         others: before.saturating_sub(of_part),
         of: crew.part.among(stops),
     };
-    progress.stored(before, stops);
+    progress.reached(Done::Stored, before, stops);
     if has_each(&desk, crew.part, stops) {
         return (desk, Outcome::Done);
     }

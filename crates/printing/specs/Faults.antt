@@ -12,7 +12,13 @@ use Rattle.service_days.specs.declared.fault.DayFault.{DayFault}
 use Rattle.service_days.specs.declared.fault.DayFault.TheVariants as days
 use Rattle.streams.specs.Streams.{IsSaid, StreamData}
 use Rattle.printing.specs.Tellings.{Telling}
+use Rattle.command_line.specs.Given.{given_by}
 use Rattle.command_line.specs.declared.given.Given.{Given}
+use Rattle.command_line.specs.declared.job.Plan.{Plan}
+
+-- in the style of a plan, with what its words say
+abbrev pub voice_of : Plan → Voice
+voice_of plan = record { style = plan.style; given = given_by plan }
 
 -- of the faults of the days, lines are added to those of a zone that is none
 abbrev pub days_hint : DayFault → Bool

@@ -2,11 +2,11 @@
 
 ghost use Rattle.std.specs.Prelude.{◌≡◌, ℕ, List, IfSome, string_bytes};
 ghost use Rattle.faults.specs.Faults.{status_of};
-ghost use Rattle.printing.specs.Faults.{AreFaultLines, IsFaultSaid, IsFormatText, IsHint, has_hint};
+ghost use Rattle.printing.specs.Faults.{AreFaultLines, IsFaultSaid, IsFormatText, IsHint, has_hint, voice_of};
 ghost use Rattle.streams.specs.Streams.{IsSaid};
 
 use crate::teller::Teller;
-use command_line::Given;
+use command_line::{Given, Plan, given_by};
 use faults::{Fault, FaultLines};
 use option_words::Style;
 use pattern_query::Refusal;
@@ -20,6 +20,16 @@ use streams::Stream;
 pub struct Voice<'a> {
     pub style: Style,
     pub given: Given<'a>,
+}
+
+/// How a plan is reported.
+pub fn voice_of<'a>(plan: &Plan<'a>) -> Voice<'a>
+    ensures { result ≡ voice_of plan.now }
+{
+    Voice {
+        style: plan.style,
+        given: given_by(plan),
+    }
 }
 
 // The text of a fault in a format; none if it is printed as in lines.

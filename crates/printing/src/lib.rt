@@ -12,7 +12,7 @@ mod teller;
 mod told;
 
 pub use asked::{Asked, copy_of};
-pub use fault::{Voice, tell_fault};
+pub use fault::{Voice, tell_fault, voice_of};
 pub use finishing::{NO_MEMORY, UNWRITTEN, finish, print, say_no_memory, say_unwritten, show};
 pub use listing::fault_report;
 pub use output::Streams;

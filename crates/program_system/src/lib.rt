@@ -1,10 +1,8 @@
-//! The system that the program runs on, and the files of stores on it.
+//! The system that the program runs on, and how a run ends.
 #![tactic(auto)]
 
 mod ended;
-mod opening;
 mod system;
 
 pub use ended::Ended;
-pub use opening::{Access, Ready, StoreFile, open_ready, say_new};
 pub use system::System;

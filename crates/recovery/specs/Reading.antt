@@ -10,17 +10,17 @@ use Rattle.section_store.specs.Store.{Begins}
 use Rattle.section_store.specs.declared.version.Version.{Version}
 use Rattle.recovery.specs.Excerpts.{trees_of}
 use Rattle.recovery.specs.Recovery.{IsTail, IsOutside, CauseOf, StandsForNoList, IsOfVersion, IsOld}
-use Rattle.recovery.specs.declared.fault.RecoverFault.{RecoverFault}
-use Rattle.recovery.specs.declared.fault.RecoverFault.TheVariants.{NotAStore, OldVersion, OtherTimetable, OtherRides, Damaged, Device, Memory}
+use Rattle.store_faults.specs.declared.fault.RecoverFault.{RecoverFault}
+use Rattle.store_faults.specs.declared.fault.RecoverFault.TheVariants.{NotAStore, OldVersion, OtherTimetable, OtherRides, Damaged, Device, Memory}
 use Rattle.recovery.specs.Keeping.{GivenAll}
 use Rattle.recovery.specs.declared.kept.Kept.{Kept}
 use Rattle.recovery.specs.declared.kept.Wanted.{Wanted}
 use Rattle.recovery.specs.declared.kept.Wanted.TheVariants as wanted
 
--- no call of the disk failed; or memory was refused, or a call of the disk failed
+-- no call of the disk failed, and there is no fault or memory was refused; or one failed, and that is the fault
 abbrev pub OnlyOutside : {T : Type 0} → Result T RecoverFault → ℕ → ℕ → Type 0
 OnlyOutside result before after =
-    MatchResult result (λ _. after ≡ before) (λ fault. (fault ≡ Memory) ⊎ ((fault ≡ Device) × Grew before after))
+    MatchResult result (λ _. after ≡ before) (λ fault. ((fault ≡ Memory) × (after ≡ before)) ⊎ ((fault ≡ Device) × Grew before after))
 
 -- no call of the disk failed; or the fault is the device's only if one did
 abbrev pub OnlyCounted : {T : Type 0} → Result T RecoverFault → ℕ → ℕ → Type 0

@@ -13,7 +13,6 @@ ghost use Rattle.recovery.specs.Giving.{IsGiven};
 ghost use Rattle.recovery.specs.Opening.{IsOpening};
 ghost use Rattle.recovery.specs.Recovery.{IsLeftAlone, IsOutside, StandsForNoList, CauseOf};
 
-use crate::fault::RecoverFault;
 use crate::keeper::Keeper;
 use crate::kept::{Kept, Wanted};
 use crate::opening::open;
@@ -23,6 +22,7 @@ use section_store::laws::trusted_trees;
 use section_store::{SectionStore, Step};
 use std::alloc::Global;
 use std::sync::Arc;
+use store_faults::RecoverFault;
 use timetable::{Rides, StopId, Timetable};
 
 /// Opens the store of that timetable, and of journeys of at most `rides` rides, that a file holds. What the disk has is synced first. Then

@@ -3,7 +3,6 @@
 
 mod calls;
 mod canonical;
-mod fault;
 mod found;
 mod header;
 mod keeper;
@@ -17,7 +16,6 @@ mod section;
 mod sections;
 
 pub use calls::{recover, recover_to, recover_trees_of};
-pub use fault::RecoverFault;
 pub use keeper::{Keeper, Nobody};
 pub use old::read_v1;
 pub use recovered::Recovered;

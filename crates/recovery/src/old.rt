@@ -10,7 +10,6 @@ ghost use Rattle.section_store.specs.Lasting.{IsTrusted, IsExact};
 ghost use Rattle.section_store.specs.Sections.{MayStand, Stands, old_form_of};
 ghost use Rattle.recovery.specs.Recovery.{IsOutside, StandsForNoList, CauseOf};
 
-use crate::fault::RecoverFault;
 use crate::kept::{Kept, Wanted};
 use crate::opening::look;
 use disk_model::Disk;
@@ -19,6 +18,7 @@ use section_store::Form;
 use section_store::laws::trusted_trees;
 use std::alloc::Global;
 use std::sync::Arc;
+use store_faults::RecoverFault;
 use timetable::{Rides, Timetable};
 
 /// Reads a store of the first version, of that timetable and of journeys of at most `rides` rides: its trees in storing order, or none if

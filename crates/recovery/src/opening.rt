@@ -12,7 +12,6 @@ ghost use Rattle.recovery.specs.Reading.{OnlyCounted, IsRead, IsSoFar, IsShut, I
 ghost use Rattle.recovery.specs.Opening.{IsOpening};
 ghost use Rattle.recovery.specs.Recovery.{IsLeftAlone, IsOutside, StandsForNoList, CauseOf};
 
-use crate::fault::RecoverFault;
 use crate::found::Found;
 use crate::header::first_gate;
 use crate::keeper::Keeper;
@@ -22,6 +21,7 @@ use section_store::laws::{loses_nothing_in_turn, stands_for_one, syncs_lose_noth
 use section_store::{Form, PutFault, SectionStore, Step, begin};
 use std::alloc::Global;
 use std::sync::Arc;
+use store_faults::RecoverFault;
 use timetable::{Rides, Timetable};
 
 /// Brings to the disk what it has, and reads the store; none if the file is fresh.

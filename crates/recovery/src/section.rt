@@ -7,7 +7,6 @@ ghost use Rattle.section_store.specs.Sources.{IsSetOf};
 ghost use Rattle.recovery.specs.Reading.{OnlyCounted, IsBad, IsShut, IsFound};
 ghost use Rattle.recovery.specs.Recovery.{IsEnd, IsOutside};
 
-use crate::fault::RecoverFault;
 use crate::found::Found;
 use crate::reading::read_text;
 use disk_model::Disk;
@@ -15,6 +14,7 @@ use pattern_tree::PatternTree;
 use section_store::reading_laws::sized_apart;
 use section_store::{Form, StopSet};
 use std::alloc::Allocator;
+use store_faults::RecoverFault;
 use tree_codec::laws::{texts_apart, texts_within};
 use tree_codec::{CodecFault, decode_as};
 

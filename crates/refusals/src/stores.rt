@@ -3,11 +3,12 @@
 use crate::seen::Seen;
 use disk_model::{Disk, MemDisk};
 use pattern_tree::Finished;
-use recovery::{RecoverFault, recover};
+use recovery::recover;
 use sample_store::{Sample, TEXTS, bytes_of, file_of, is_first, new_store};
 use section_store::{PutFault, SectionStore};
 use std::alloc::Global;
 use std::test::Fail;
+use store_faults::RecoverFault;
 use timetable::Rides;
 
 // What a put answers if it has no memory.

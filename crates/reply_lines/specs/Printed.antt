@@ -1,6 +1,6 @@
 -- How replies are shown as lines.
 use Rattle.std.specs.Prelude.{ℕ, List, [], ◌∷◌, ◌++◌, codes}
-use Rattle.planner.specs.AskTexts.{ask_text}
+use Rattle.pattern_query.specs.Refusals.{refusal_text as question_text}
 use Rattle.answer_lines.specs.Printed.{answer_text}
 use Rattle.connection_lines.specs.Printed.{connections_text}
 use Rattle.reply_lines.specs.declared.reply.Refusal.{Refusal}
@@ -11,7 +11,8 @@ use Rattle.reply_lines.specs.declared.reply.Reply.TheVariants as replies
 -- the code and the name of a refusal, and the id that it is about, as far as it has them
 abbrev pub refusal_text : Refusal → List ℕ
 refusal_text refusals.BadLine = codes "BadLine"
-refusal_text (refusals.Ask fault) = ask_text fault
+refusal_text refusals.BoardRefused = codes "Q4 BoardRefused"
+refusal_text (refusals.Question refusal) = question_text refusal
 refusal_text refusals.Memory = codes "Memory"
 
 -- a line with only a dot

@@ -1,8 +1,6 @@
-//! Replies to questions that are asked line by line, and who makes their texts.
+//! Replies to questions that are asked line by line, as lines.
 #![tactic(auto)]
 
 mod reply;
-mod telling;
 
 pub use reply::{Refusal, Reply};
-pub use telling::{Lines, ReplyTeller};

@@ -5,7 +5,7 @@ ghost use Rattle.reply_lines.specs.Printed.{refusal_text, reply_text};
 
 use answer_lines::Answer;
 use connection_lines::Connections;
-use planner::AskFault;
+use pattern_query::Refusal as QuestionRefusal;
 use std::fmt;
 
 /// Why a line has no answer. Shown by its code, if it has one, and its name.
@@ -13,8 +13,10 @@ use std::fmt;
 pub enum Refusal<'a> {
     /// The line is no question.
     BadLine,
-    /// The planner gave no answer to the question.
-    Ask(AskFault<'a>),
+    /// The board of the trees gave no look.
+    BoardRefused,
+    /// The question has no answer from the trees that the board showed.
+    Question(QuestionRefusal<'a>),
     /// Memory was refused for this line.
     Memory,
 }
@@ -34,7 +36,8 @@ impl fmt::Display for Refusal<'_> {
     fn fmt<W: fmt::Write>(&self, f: &mut fmt::Formatter<W>) -> fmt::Result {
         match self {
             Refusal::BadLine => write!(f, "BadLine"),
-            Refusal::Ask(fault) => write!(f, "{fault}"),
+            Refusal::BoardRefused => write!(f, "Q4 BoardRefused"),
+            Refusal::Question(refusal) => write!(f, "{refusal}"),
             Refusal::Memory => write!(f, "Memory"),
         }
     }

@@ -15,7 +15,7 @@ use Rattle.faults.specs.declared.fault.Fault.TheVariants as told
 use Rattle.told_connections.specs.Windows.{IsAskedWithin, IsUnaskedWithin}
 use Rattle.told_connections.specs.declared.times.Times.{Times}
 use Rattle.question_lines.specs.declared.question.Question.{Question}
-use Rattle.serving.specs.Answers.{AsksWithin, IsAsked, IsRefused, IsReply, IsTold, IsUnaskedAt, reply_of}
+use Rattle.serving.specs.Answers.{AsksWithin, IsAsked, IsForCause, IsRefused, IsReply, IsTold, IsUnaskedAt, refused_by, reply_of}
 use Rattle.reply_lines.specs.declared.reply.Refusal.TheVariants as refusals
 use Rattle.reply_lines.specs.declared.reply.Reply.{Reply}
 use Rattle.reply_lines.specs.declared.reply.Reply.TheVariants as replies
@@ -50,6 +50,15 @@ module _ (p : PlannerView) (basis : BasisData) (wanted : Bool) (line : List ℕ)
   looks_unasked times question faults.BoardRefused un = looks_still un
   looks_unasked times question (faults.Question fault) un = un.0
 
+  -- what is replied if the planner gives no answer
+  pub refused_reply : (fault : AskFault) → IsForCause p basis line old new fault → IsRefused p basis line old new (refused_by fault)
+  refused_reply faults.BoardRefused cause = cause
+  refused_reply (faults.Question refusal) cause = cause
+
+  looks_for : (fault : AskFault) → IsForCause p basis line old new fault → IsLook old new
+  looks_for fault (inl is) = looks_unanswered is.question.from.now is.question.to.now is.depart fault is.unanswered
+  looks_for fault (inr is) = looks_unasked is.times is.question fault is.unasked
+
   -- the reply by what was found at one look
   pub found_reply : (question : Question) (times : Times) → AsksWithin basis line question times → IsLook old new
       → (All (IsExact p.form) old.origin.opened.list → (froms : List ℕ) → AreComplete basis.timetable (held_by p new) p.form.rides froms)
@@ -73,6 +82,5 @@ module _ (p : PlannerView) (basis : BasisData) (wanted : Bool) (line : List ℕ)
   looks (replies.Connections shown) is = is.look
   looks (replies.Refused refusals.BadLine) is = looks_still is.1
   looks (replies.Refused refusals.Memory) is = is
-  looks (replies.Refused (refusals.Ask fault)) (inl is) =
-      looks_unanswered is.question.from.now is.question.to.now is.depart fault is.unanswered
-  looks (replies.Refused (refusals.Ask fault)) (inr is) = looks_unasked is.times is.question fault is.unasked
+  looks (replies.Refused refusals.BoardRefused) is = looks_for faults.BoardRefused is
+  looks (replies.Refused (refusals.Question refusal)) is = looks_for (faults.Question refusal) is

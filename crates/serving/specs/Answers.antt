@@ -102,12 +102,21 @@ pub record IsRightRefusalWithin (p : PlannerView) (basis : BasisData) (line : Li
   pub asked : AsksWithin basis line question times
   pub unasked : IsUnaskedAt p basis times question old new fault
 
+-- why a planner gives no answer, as it is replied
+abbrev pub refused_by : AskFault → Refusal
+refused_by asks.BoardRefused = refusals.BoardRefused
+refused_by (asks.Question refusal) = refusals.Question refusal
+
+-- the line is a question, for journeys or for connections, which has no answer from one look of the reader, for this cause
+abbrev pub IsForCause : PlannerView → BasisData → List ℕ → BoardPart → BoardPart → AskFault → Type 0
+IsForCause p basis line old new fault = IsRightRefusal p basis.cover line old new fault ⊎ IsRightRefusalWithin p basis line old new fault
+
 -- only a line that is no question is a bad line; any other has its question's refusal; memory may run out for each
 abbrev pub IsRefused : PlannerView → BasisData → List ℕ → BoardPart → BoardPart → Refusal → Type 0
 IsRefused p basis line old new refusals.BadLine = NotQuestion line × (new ≡ old)
 IsRefused p basis line old new refusals.Memory = IsLook old new
-IsRefused p basis line old new (refusals.Ask fault) =
-    IsRightRefusal p basis.cover line old new fault ⊎ IsRightRefusalWithin p basis line old new fault
+IsRefused p basis line old new refusals.BoardRefused = IsForCause p basis line old new asks.BoardRefused
+IsRefused p basis line old new (refusals.Question refusal) = IsForCause p basis line old new (asks.Question refusal)
 
 -- What is replied to a line by one whose reader knew `old` before it and knows `new` now. The rides and walks of journeys are wanted or
 -- aren't.
@@ -125,5 +134,5 @@ IsTold basis wanted journeys (replies.Refused refusal) = refusal ≡ refusals.Me
 -- the reply to a question for connections, by what was found
 abbrev pub reply_of : Result Connections Fault → Reply
 reply_of (Ok shown) = replies.Connections shown
-reply_of (Err (faults.Question refusal)) = replies.Refused (refusals.Ask (asks.Question refusal))
+reply_of (Err (faults.Question refusal)) = replies.Refused (refusals.Question refusal)
 reply_of (Err fault) = replies.Refused refusals.Memory

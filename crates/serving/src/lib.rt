@@ -5,6 +5,8 @@ mod look;
 mod printing;
 mod replying;
 mod serving;
+mod telling;
 mod windows;
 
 pub use serving::{End, serve_lines};
+pub use telling::{Lines, ReplyTeller};

@@ -5,10 +5,11 @@ ghost use Rattle.std.specs.Io.KnownBytes.{Appends};
 ghost use Rattle.answer_lines.specs.Printing.{AppendsBeginning};
 ghost use Rattle.serving.specs.Tellings.{IsBegun, IsPrinted};
 
+use crate::telling::ReplyTeller;
 use answer_lines::print_bytes;
 use feed_basis::Basis;
 use question_lines::Question;
-use reply_lines::{Reply, ReplyTeller};
+use reply_lines::Reply;
 use std::alloc::Global;
 use std::io::Write;
 

@@ -3,7 +3,7 @@
 ghost use Rattle.std.specs.Prelude.{◌≡◌, ◌≤◌, List, None, ℕ};
 ghost use Rattle.std.specs.List.{All};
 ghost use Rattle.question_lines.specs.Questions.{IsQuestion};
-ghost use Rattle.serving.specs.Answers.{IsOver, IsReply, IsTold};
+ghost use Rattle.serving.specs.Answers.{IsOver, IsReply, IsTold, refused_by};
 ghost use Rattle.serving.specs.Tellings.{IsAsking};
 ghost use Rattle.feed_basis.specs.Points.{IsKnownJourney};
 
@@ -11,7 +11,7 @@ use crate::windows::reply_within;
 use answer_lines::Answer;
 use board::Reader;
 use feed_basis::{Basis, told};
-use planner::Planner;
+use planner::{AskFault, Planner};
 use question_lines::Question;
 use reply_lines::{Refusal, Reply};
 use std::alloc::Global;
@@ -31,6 +31,16 @@ fn answer_of(
     match told(alloc, basis, legs, journeys) {
         Ok(points) => Reply::Answer(Answer::Points(points)),
         Err(_) => Reply::Refused(Refusal::Memory),
+    }
+}
+
+// Why a planner gives no answer, as it is replied.
+fn refused_by(fault: AskFault<'_>) -> Refusal<'_>
+    ensures { result ≡ refused_by fault.entry }
+{
+    match fault {
+        AskFault::BoardRefused => Refusal::BoardRefused,
+        AskFault::Question(refusal) => Refusal::Question(refusal),
     }
 }
 
@@ -57,7 +67,7 @@ fn reply_to<'a>(
     let (reader, answer) = planner.ask(reader, question.from, question.to, depart);
     let reply = match answer {
         Ok(answer) => answer_of(alloc, basis, legs, answer.points()),
-        Err(fault) => Reply::Refused(Refusal::Ask(fault)),
+        Err(fault) => Reply::Refused(refused_by(fault)),
     };
     (reader, reply)
 }

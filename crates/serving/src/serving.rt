@@ -8,11 +8,11 @@ ghost use Rattle.serving.specs.Tellings.{IsReplyText};
 
 use crate::printing::{OutputRefused, print_reply};
 use crate::replying::reply_of;
+use crate::telling::ReplyTeller;
 use board::Reader;
 use feed_basis::Basis;
 use planner::Planner;
 use question_lines::Line;
-use reply_lines::ReplyTeller;
 use std::alloc::Global;
 use std::io::{BufRead, Write};
 

@@ -9,7 +9,7 @@ use board::Reader;
 use connection_lines::Connections;
 use faults::Fault;
 use feed_basis::Basis;
-use planner::{AskFault, Planner};
+use planner::Planner;
 use question_lines::{Question, Within};
 use reply_lines::{Refusal, Reply};
 use std::alloc::Global;
@@ -21,7 +21,7 @@ fn reply_of<'a>(found: Result<Connections, Fault<'a>>) -> Reply<'a>
 {
     match found {
         Ok(connections) => Reply::Connections(connections),
-        Err(Fault::Question(refusal)) => Reply::Refused(Refusal::Ask(AskFault::Question(refusal))),
+        Err(Fault::Question(refusal)) => Reply::Refused(Refusal::Question(refusal)),
         Err(_) => Reply::Refused(Refusal::Memory),
     }
 }
@@ -44,7 +44,7 @@ pub(crate) fn reply_within<'a>(
     let times = times_of(basis, question, within);
     let view = match reader.look() {
         Ok(view) => view,
-        Err(reader) => return (reader, Reply::Refused(Refusal::Ask(AskFault::BoardRefused))),
+        Err(reader) => return (reader, Reply::Refused(Refusal::BoardRefused)),
     };
     // It says that the list goes on from the opened trees with such as are complete.
     let _shown = view.told();

@@ -14,11 +14,12 @@ use disk_model::Disk;
 use faults::Fault;
 use feed_basis::Basis;
 use option_words::Workers;
+use progress::Progress;
 use section_store::going_laws::goes_on;
 use std::alloc::{AllocError, Global};
 use std::slice;
 use std::thread::Threads;
-use store_audit::{AuditProgress, Crew, TreeAudit, audit_store};
+use store_audit::{Crew, TreeAudit, audit_store};
 use timetable::Rides;
 
 // What the audits of trees came to, in their order, with the ids of stops and by the days of the basis. It fails only if memory runs out.
@@ -42,7 +43,7 @@ fn all_told<'a>(
 /// Audits all trees that the file of the disk has, in the order in which they were stored. It finds where the answers of one ride or more
 /// of each differ first from those of the timetable. N workers audit in parallel. The file is recovered, and a fresh one begun. All trees
 /// are in memory then, and are let go as they are audited. `progress` is given how many are audited. The disk comes back.
-pub fn audit_all<'a, D: Disk, R: Threads + Sync, P: AuditProgress>(
+pub fn audit_all<'a, D: Disk, R: Threads + Sync, P: Progress>(
     alloc: Global,
     rt: &R,
     basis: &'a Basis,

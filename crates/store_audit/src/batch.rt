@@ -8,7 +8,7 @@ ghost use Rattle.store_audit.specs.declared.due.Due.{Due as DueData};
 
 use crate::crew::Crew;
 use crate::due::{Due, TreeAudit};
-use crate::progress::AuditProgress;
+use progress::{Done, Progress};
 use std::alloc::AllocError;
 use std::thread;
 use std::thread::Threads;
@@ -67,7 +67,7 @@ fn audit_batch<R: Threads + Sync>(
 
 /// Audits the trees of all batches, and puts their audits after others. Each batch is let go once it is audited. It reports to `progress`
 /// how many audits there are then. It fails only if memory runs out.
-pub(crate) fn audit_batches<R: Threads + Sync, P: AuditProgress>(
+pub(crate) fn audit_batches<R: Threads + Sync, P: Progress>(
     crew: &Crew<'_, R>,
     batches: Vec<Vec<Due>>,
     done: &mut Vec<TreeAudit>,
@@ -80,7 +80,7 @@ pub(crate) fn audit_batches<R: Threads + Sync, P: AuditProgress>(
     for batch in batches {
         let mut batch = batch;
         audit_batch(crew, &mut batch, done)?;
-        progress.audited(done.len(), crew.stops());
+        progress.reached(Done::Audited, done.len(), crew.stops());
     }
     Ok(())
 }

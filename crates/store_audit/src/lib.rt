@@ -4,11 +4,9 @@
 mod batch;
 mod crew;
 mod due;
-mod progress;
 mod store;
 mod waiting;
 
 pub use crew::Crew;
 pub use due::TreeAudit;
-pub use progress::AuditProgress;
 pub use store::audit_store;

@@ -14,15 +14,16 @@ ghost use Rattle.store_audit.specs.TreeAudits.{AreAuditsOf, IsKnown};
 use crate::batch::audit_batches;
 use crate::crew::Crew;
 use crate::due::TreeAudit;
-use crate::progress::AuditProgress;
 use crate::waiting::Waiting;
 use disk_model::Disk;
-use recovery::{RecoverFault, recover_to};
+use progress::{Done, Progress};
+use recovery::recover_to;
 use std::alloc::AllocError;
 use std::thread::Threads;
+use store_faults::RecoverFault;
 
 // The audits of the trees that wait, in their order. It fails only if memory runs out.
-fn audits_of<R: Threads + Sync, P: AuditProgress>(
+fn audits_of<R: Threads + Sync, P: Progress>(
     crew: &Crew<'_, R>,
     waiting: Waiting,
     progress: &mut P,
@@ -42,7 +43,7 @@ fn audits_of<R: Threads + Sync, P: AuditProgress>(
 /// file is recovered, and a fresh one begun; nothing else is written. All trees are in memory then, packed as they are asked. Each batch
 /// is let go once it is audited. It reports to `progress` how many are audited. The disk comes back; want of memory, also for an audit, is
 /// the fault `Memory`.
-pub fn audit_store<D: Disk, R: Threads + Sync, P: AuditProgress>(
+pub fn audit_store<D: Disk, R: Threads + Sync, P: Progress>(
     crew: &Crew<'_, R>,
     disk: D,
     progress: &mut P,
@@ -60,7 +61,7 @@ pub fn audit_store<D: Disk, R: Threads + Sync, P: AuditProgress>(
     ensures alone { D.honest disk → IfErr result.0 (λ why. IsOutside why ⊎ IsLeftAlone (D.state disk) (D.state result.1)) }
     ensures honest { D.honest disk ↔ D.honest result.1 }
 {
-    progress.audited(0, crew.stops());
+    progress.reached(Done::Audited, 0, crew.stops());
     let mut waiting = Waiting {
         alloc: crew.alloc,
         size: crew.batch(),

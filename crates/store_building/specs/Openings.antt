@@ -1,7 +1,7 @@
 -- What a build opens a store with.
 use Rattle.std.specs.Prelude.{ℕ}
-use Rattle.recovery.specs.declared.fault.RecoverFault.{RecoverFault}
-use Rattle.recovery.specs.declared.fault.RecoverFault.TheVariants.{Memory}
+use Rattle.store_faults.specs.declared.fault.RecoverFault.{RecoverFault}
+use Rattle.store_faults.specs.declared.fault.RecoverFault.TheVariants.{Memory}
 use Rattle.planner.specs.PlannerView.{PlannerView}
 use Rattle.planner.specs.declared.fault.OpenFault.{OpenFault}
 use Rattle.planner.specs.declared.fault.OpenFault.TheVariants as opens

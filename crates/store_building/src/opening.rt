@@ -13,11 +13,11 @@ use board::Reader;
 use disk_model::Disk;
 use feed_basis::Basis;
 use planner::{Desk, OpenFault, Opened, Planner};
-use recovery::RecoverFault;
 use section_store::Step;
 use section_store::going_laws::goes_on;
 use std::alloc::Global;
 use std::sync::{Arc, Wait};
+use store_faults::RecoverFault;
 use timetable::Rides;
 
 // Why a planner isn't opened, as a recovery reports it.

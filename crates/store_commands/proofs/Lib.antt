@@ -1,2 +1,3 @@
 pub mod PartFacts
+pub mod ServedFacts
 pub mod TaskFacts

@@ -9,8 +9,8 @@ use Rattle.disk_model.specs.declared.fault.FileFault.{FileFault}
 use Rattle.disk_model.specs.declared.fault.FileFault.TheVariants as opens
 use Rattle.pattern_tree.specs.Content.{Content}
 use Rattle.recovery.specs.Recovery.{IsLeftAlone}
-use Rattle.recovery.specs.declared.fault.RecoverFault.{RecoverFault}
-use Rattle.recovery.specs.declared.fault.RecoverFault.TheVariants as stores
+use Rattle.store_faults.specs.declared.fault.RecoverFault.{RecoverFault}
+use Rattle.store_faults.specs.declared.fault.RecoverFault.TheVariants as stores
 use Rattle.section_store.specs.Lasting.{IsExact, IsTrusted}
 use Rattle.section_store.specs.Sections.{Form, Stands}
 use Rattle.merging.specs.Laws.{Agree}
@@ -29,9 +29,9 @@ use Rattle.feed_basis.specs.Basis.{BasisData}
 use Rattle.store_merging.specs.Telling.{IsOfPart, IsOfRefusal, IsOfShelf}
 use Rattle.store_terms.specs.Stores.{OnlyFailing}
 use Rattle.store_terms.proofs.OpeningFacts.{memory_fails}
-use Rattle.program_system.specs.Files.{IsKeptOut, IsOfFile, of_file}
+use Rattle.store_files.specs.Files.{IsKeptOut, IsOfFile, of_file}
 use Rattle.store_commands.specs.Merged.{AreOpened, AreShelved, IsOpened, IsUnshelved, IsUntaken, joined}
-use Rattle.program_system.specs.World.{SystemView}
+use Rattle.store_files.specs.Disks.{DiskView}
 use denote.Ref.{Bor}
 
 -- a fault of a part's file doesn't say that a call of the disk failed into which the parts are put
@@ -82,17 +82,17 @@ module _ (before after : ℕ) where
   refusal_fails basis paths number (parts.OtherTree stop part) fault is = subst Silent (sym is.told) (other_fails is.id is.path is.before)
   refusal_fails basis paths number (parts.Shelf why) fault is = of_shelf_fails paths why fault is
 
-  module _ {D : Type 0} (v : SystemView D) (form : Form) (path : Bor (List ℕ)) where
+  module _ {D : Type 0} (v : DiskView D) (form : Form) (path : Bor (List ℕ)) where
     kept_out : (fault : Fault) (disk : Option D) → IsKeptOut v form path.now fault disk → Silent (in_part path fault)
     kept_out fault disk (inl refused) = subst (λ f. Silent (in_part path f)) (sym refused.told) (refused_file path refused.why)
     kept_out fault disk (inr unused) = unused_file path fault unused.kind
 
-  untaken_fails : {D : Type 0} (v : SystemView D) (basis : BasisData) (k : ℕ) (paths : List (Bor (List ℕ))) (disks : List D) (number : ℕ) (fault : Fault)
+  untaken_fails : {D : Type 0} (v : DiskView D) (basis : BasisData) (k : ℕ) (paths : List (Bor (List ℕ))) (disks : List D) (number : ℕ) (fault : Fault)
       → IsUntaken v basis k paths disks number fault → Silent fault
   untaken_fails v basis k paths disks number fault (inl kept) = subst Silent (sym kept.told) (kept_out v _ kept.path kept.why kept.disk kept.kept_out)
   untaken_fails v basis k paths disks number fault (inr refused) = refusal_fails basis paths number refused.why fault refused.told
 
-  pub unshelved_fails : {D : Type 0} (v : SystemView D) (basis : BasisData) (k : ℕ) (paths : List (Bor (List ℕ))) (fault : Fault)
+  pub unshelved_fails : {D : Type 0} (v : DiskView D) (basis : BasisData) (k : ℕ) (paths : List (Bor (List ℕ))) (fault : Fault)
       → IsUnshelved v basis k paths fault → OnlyFailing before after fault
   unshelved_fails v basis k paths fault (inl memory) = subst Silent (sym memory) (memory_fails before after)
   unshelved_fails v basis k paths fault (inr at) = untaken_fails v basis k paths at.disks at.number fault at.untaken
@@ -110,7 +110,7 @@ joined_more lists trees =
     flat_map-append (λ (t : List Content). t) lists (trees ∷ []) ∙ ap (λ (l : List Content). joined lists ++ l) (append-nil trees)
 
 -- a part that was added is on the shelf after those before it
-module _ {D : Type 0} (v : SystemView D) (form : Form) (paths : List (Bor (List ℕ))) (number : ℕ) (path : Bor (List ℕ)) (within : number < length paths)
+module _ {D : Type 0} (v : DiskView D) (form : Form) (paths : List (Bor (List ℕ))) (number : ℕ) (path : Bor (List ℕ)) (within : number < length paths)
     (is : get_or paths number path ≡ path) (old new : PartShelf D) (disk : D) where
   pub taken : (before : AreShelved v form (take number paths) old) → IsOpened v form path.now disk → form_for new ≡ form_for old
       → map v.failures new.disks.items ≡ map v.failures old.disks.items ++ v.failures disk ∷ []

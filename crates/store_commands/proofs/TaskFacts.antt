@@ -7,14 +7,14 @@ use Rattle.feed_basis.specs.Basis.{BasisData}
 use Rattle.faults.specs.declared.fault.Fault.{Fault}
 use Rattle.store_terms.specs.Stores.{OnlyFailing, form_over}
 use Rattle.streams.specs.Streams.{StreamData}
-use Rattle.program_system.specs.Files.{IsNoticed, IsReady}
+use Rattle.store_files.specs.Files.{IsNoticed, IsReady}
 use Rattle.store_commands.specs.Tasks.{IsTaskDone}
 use Rattle.store_commands.specs.Stored.{IsOverDisk}
-use Rattle.program_system.specs.World.{SystemView}
+use Rattle.store_files.specs.Disks.{DiskView}
 use Rattle.feed_commands.specs.declared.found.Found.{Found}
 
 -- what is done to a disk that is ready is done to the disk that was opened: between the two it was only looked at
-pub over_disk : {D : Type 0} (v : SystemView D) (style : Style) (basis : BasisData) (k : ℕ) (path : List ℕ) (task : Task) (seen last : D)
+pub over_disk : {D : Type 0} (v : DiskView D) (style : Style) (basis : BasisData) (k : ℕ) (path : List ℕ) (task : Task) (seen last : D)
     (is_new : Bool) (found : Result Found Fault) (old new : StreamData) → IsReady v (form_over basis k) path seen is_new → v.honest seen ↔ v.honest last
     → (v.honest seen → IsTaskDone v style basis k task (v.state seen) (v.state last) found) → IfErr found (OnlyFailing (v.failures seen) (v.failures last))
     → IsNoticed path (only_reads task && is_new) old new → IsOverDisk v style basis k path task found (Some last) old new

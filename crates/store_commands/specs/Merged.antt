@@ -17,16 +17,16 @@ use Rattle.faults.specs.declared.fault.Fault.TheVariants as faults
 use Rattle.feed_basis.specs.Basis.{BasisData}
 use Rattle.store_merging.specs.Telling.{IsOfRefusal, IsPathOf}
 use Rattle.store_terms.specs.Stores.{form_over}
-use Rattle.program_system.specs.Files.{IsKeptOut, IsReady}
-use Rattle.program_system.specs.World.{SystemView}
+use Rattle.store_files.specs.Files.{IsKeptOut, IsReady}
+use Rattle.store_files.specs.Disks.{DiskView}
 use denote.Ref.{Bor}
 
 -- the file of the path was opened as this disk, in which a store stands or may be begun
-abbrev pub IsOpened : {D : Type 0} → SystemView D → Form → List ℕ → D → Type 0
+abbrev pub IsOpened : {D : Type 0} → DiskView D → Form → List ℕ → D → Type 0
 IsOpened v form path disk = (is_new : Bool) × IsReady v form path disk is_new
 
 -- those of all these paths were, in their order
-abbrev pub AreOpened : {D : Type 0} → SystemView D → Form → List (Bor (List ℕ)) → List D → Type 0
+abbrev pub AreOpened : {D : Type 0} → DiskView D → Form → List (Bor (List ℕ)) → List D → Type 0
 AreOpened v form paths disks = AllZip (λ path disk. IsOpened v form path.now disk) paths disks
 
 -- the trees of parts, one part after the other
@@ -35,24 +35,24 @@ joined lists = flat_map (λ trees. trees) lists
 
 -- The file of each disk stood for one of these lists of trees. Nothing was done to a disk since it was opened but at most a sync, and they
 -- are in these states. Of a trusted disk the trees are exact. No two trees of a stop differ.
-pub record AreRead {D : Type 0} (v : SystemView D) (form : Form) (disks : List D) (states : List State) (lists : List (List Content)) : Type 0 where
+pub record AreRead {D : Type 0} (v : DiskView D) (form : Form) (disks : List D) (states : List State) (lists : List (List Content)) : Type 0 where
   pub stand : AllZip (λ disk trees. Stands form (v.state disk).read trees) disks lists
   pub alone : AllZip (λ disk now. IsLeftAlone (v.state disk) now) disks states
   pub exact : AllZip (λ disk trees. IsTrusted form (v.state disk) → All (IsExact form) trees) disks lists
   pub agree : Agree (joined lists)
 
 -- if the calls of all these disks can be believed, their files were read, and this holds of their states and their trees
-pub record AreReadTo {D : Type 0} (v : SystemView D) (form : Form) (disks : List D) (Holds : List State → List Content → Type 0) : Type 0 where
+pub record AreReadTo {D : Type 0} (v : DiskView D) (form : Form) (disks : List D) (Holds : List State → List Content → Type 0) : Type 0 where
   pub states : List State
   pub lists : List (List Content)
   pub read : AreRead v form disks states lists
   pub holds : Holds states (joined lists)
 
-abbrev pub IfHonest : {D : Type 0} → SystemView D → Form → List D → (List State → List Content → Type 0) → Type 0
+abbrev pub IfHonest : {D : Type 0} → DiskView D → Form → List D → (List State → List Content → Type 0) → Type 0
 IfHonest v form disks Holds = All v.honest disks → AreReadTo v form disks Holds
 
 -- the files of these paths were opened, and the shelf has the trees of their stores
-pub record AreShelved {D : Type 0} (v : SystemView D) (form : Form) (paths : List (Bor (List ℕ))) (shelf : PartShelf D) : Type 0 where
+pub record AreShelved {D : Type 0} (v : DiskView D) (form : Form) (paths : List (Bor (List ℕ))) (shelf : PartShelf D) : Type 0 where
   pub disks : List D
   pub opened : AreOpened v form paths disks
   pub form_is : form_for shelf ≡ form
@@ -60,7 +60,7 @@ pub record AreShelved {D : Type 0} (v : SystemView D) (form : Form) (paths : Lis
   pub has : IfHonest v form disks (Has v.honest v.state shelf)
 
 -- the file of the part of that index isn't used, and that is the fault
-pub record IsPartKeptOut {D : Type 0} (v : SystemView D) (form : Form) (paths : List (Bor (List ℕ))) (number : ℕ) (fault : Fault) : Type 0 where
+pub record IsPartKeptOut {D : Type 0} (v : DiskView D) (form : Form) (paths : List (Bor (List ℕ))) (number : ℕ) (fault : Fault) : Type 0 where
   pub path : Bor (List ℕ)
   pub path_is : IsPathOf paths number path
   pub why : Fault
@@ -70,7 +70,7 @@ pub record IsPartKeptOut {D : Type 0} (v : SystemView D) (form : Form) (paths : 
 
 -- It was opened, and its store isn't taken after those on these disks, for this fault. Nothing was done to it but at most a sync. A fault
 -- that says that a call of a disk failed comes only if one more did, of the disk of that part.
-pub record IsPartRefused {D : Type 0} (v : SystemView D) (basis : BasisData) (k : ℕ) (paths : List (Bor (List ℕ))) (disks : List D) (number : ℕ)
+pub record IsPartRefused {D : Type 0} (v : DiskView D) (basis : BasisData) (k : ℕ) (paths : List (Bor (List ℕ))) (disks : List D) (number : ℕ)
     (fault : Fault) : Type 0 where
   pub path : Bor (List ℕ)
   pub path_is : IsPathOf paths number path
@@ -85,12 +85,12 @@ pub record IsPartRefused {D : Type 0} (v : SystemView D) (basis : BasisData) (k 
   pub fails : FailsOnly (map v.failures disks) failed (v.failures first) (v.failures last) why
 
 -- why the part of that index isn't taken after those on these disks
-abbrev pub IsUntaken : {D : Type 0} → SystemView D → BasisData → ℕ → List (Bor (List ℕ)) → List D → ℕ → Fault → Type 0
+abbrev pub IsUntaken : {D : Type 0} → DiskView D → BasisData → ℕ → List (Bor (List ℕ)) → List D → ℕ → Fault → Type 0
 IsUntaken v basis k paths disks number fault =
     IsPartKeptOut v (form_over basis k) paths number fault ⊎ IsPartRefused v basis k paths disks number fault
 
 -- the parts before one were opened and taken, and that one isn't
-pub record IsAtFault {D : Type 0} (v : SystemView D) (basis : BasisData) (k : ℕ) (paths : List (Bor (List ℕ))) (fault : Fault) : Type 0 where
+pub record IsAtFault {D : Type 0} (v : DiskView D) (basis : BasisData) (k : ℕ) (paths : List (Bor (List ℕ))) (fault : Fault) : Type 0 where
   pub number : ℕ
   pub within : number < length paths
   pub disks : List D
@@ -98,5 +98,5 @@ pub record IsAtFault {D : Type 0} (v : SystemView D) (basis : BasisData) (k : �
   pub untaken : IsUntaken v basis k paths disks number fault
 
 -- not all parts are taken, or memory ran out
-abbrev pub IsUnshelved : {D : Type 0} → SystemView D → BasisData → ℕ → List (Bor (List ℕ)) → Fault → Type 0
+abbrev pub IsUnshelved : {D : Type 0} → DiskView D → BasisData → ℕ → List (Bor (List ℕ)) → Fault → Type 0
 IsUnshelved v basis k paths fault = (fault ≡ faults.Memory) ⊎ IsAtFault v basis k paths fault

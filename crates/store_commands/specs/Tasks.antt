@@ -29,9 +29,9 @@ use Rattle.option_words.specs.declared.audited.Audited.TheVariants as audits
 use Rattle.option_words.specs.declared.format.Style.{Style}
 use Rattle.command_line.specs.declared.job.Task.{Task}
 use Rattle.command_line.specs.declared.job.Task.TheVariants as tasks
-use Rattle.program_system.specs.Files.{IsKeptOut, IsReady}
+use Rattle.store_files.specs.Files.{IsKeptOut, IsReady}
 use Rattle.store_commands.specs.Merged.{AreOpened, IfHonest, IsUnshelved}
-use Rattle.program_system.specs.World.{SystemView}
+use Rattle.store_files.specs.Disks.{DiskView}
 use Rattle.feed_commands.specs.declared.found.Found.{Found}
 use denote.Ref.{Bor}
 use Rattle.feed_commands.specs.Finds.{FindsAnswer, FindsConnections, FindsReport}
@@ -44,7 +44,7 @@ IsAuditDone basis k (audits.All workers progress) old new found =
     MatchResult found (FindsReport (IsAllAudited basis k old new)) (IsUntold basis k old new)
 
 -- the file of the version before isn't used, and that is the fault; nothing was done to the new one
-pub record IsOldKeptOut {D : Type 0} (v : SystemView D) (basis : BasisData) (k : ℕ) (path : List ℕ) (old new : State)
+pub record IsOldKeptOut {D : Type 0} (v : DiskView D) (basis : BasisData) (k : ℕ) (path : List ℕ) (old new : State)
     (found : Result Found Fault) : Type 0 where
   pub fault : Fault
   pub disk : Option D
@@ -54,7 +54,7 @@ pub record IsOldKeptOut {D : Type 0} (v : SystemView D) (basis : BasisData) (k :
 
 -- The file of the version before was opened, and its trees taken over, or why not. Whatever a crash leaves of it at each moment since then,
 -- one might have left when it was opened.
-pub record IsTakenFrom {D : Type 0} (v : SystemView D) (basis : BasisData) (k : ℕ) (path : List ℕ) (old new : State)
+pub record IsTakenFrom {D : Type 0} (v : DiskView D) (basis : BasisData) (k : ℕ) (path : List ℕ) (old new : State)
     (found : Result Found Fault) : Type 0 where
   pub first : D
   pub last : D
@@ -67,11 +67,11 @@ pub record IsTakenFrom {D : Type 0} (v : SystemView D) (basis : BasisData) (k : 
   pub device : IfErr found (λ fault. TellsOldDevice fault → Grew (v.failures first) (v.failures last))
 
 -- what a migration from the file of a path may find, by the states of the new disk before and after
-abbrev pub IsMigrated : {D : Type 0} → SystemView D → BasisData → ℕ → List ℕ → State → State → Result Found Fault → Type 0
+abbrev pub IsMigrated : {D : Type 0} → DiskView D → BasisData → ℕ → List ℕ → State → State → Result Found Fault → Type 0
 IsMigrated v basis k path old new found = IsOldKeptOut v basis k path old new found ⊎ IsTakenFrom v basis k path old new found
 
 -- a part isn't taken, and that is the fault; nothing was done to the file into which the parts are put
-pub record IsPartsFault {D : Type 0} (v : SystemView D) (basis : BasisData) (k : ℕ) (paths : List (Bor (List ℕ))) (old new : State)
+pub record IsPartsFault {D : Type 0} (v : DiskView D) (basis : BasisData) (k : ℕ) (paths : List (Bor (List ℕ))) (old new : State)
     (found : Result Found Fault) : Type 0 where
   pub fault : Fault
   pub told : found ≡ Err fault
@@ -80,7 +80,7 @@ pub record IsPartsFault {D : Type 0} (v : SystemView D) (basis : BasisData) (k :
 
 -- All parts were taken, and their trees put together, or why not. A fault that says that a read of a part failed comes only if one more
 -- call of the disk of that part did.
-pub record IsPutFrom {D : Type 0} (v : SystemView D) (basis : BasisData) (k : ℕ) (paths : List (Bor (List ℕ))) (old new : State)
+pub record IsPutFrom {D : Type 0} (v : DiskView D) (basis : BasisData) (k : ℕ) (paths : List (Bor (List ℕ))) (old new : State)
     (found : Result Found Fault) : Type 0 where
   pub disks : List D
   pub opened : AreOpened v (form_over basis k) paths disks
@@ -90,7 +90,7 @@ pub record IsPutFrom {D : Type 0} (v : SystemView D) (basis : BasisData) (k : �
   pub device : IfErr found (λ fault. (why : UnmergedFault) × IsOfMerge paths why fault × PartsOnlyFailing (map v.failures disks) failed why)
 
 -- what a merge of the parts in files of these paths may find, by the states of the disk into which they are put before and after
-abbrev pub IsPutTogether : {D : Type 0} → SystemView D → BasisData → ℕ → List (Bor (List ℕ)) → State → State → Result Found Fault → Type 0
+abbrev pub IsPutTogether : {D : Type 0} → DiskView D → BasisData → ℕ → List (Bor (List ℕ)) → State → State → Result Found Fault → Type 0
 IsPutTogether v basis k paths old new found = IsPartsFault v basis k paths old new found ⊎ IsPutFrom v basis k paths old new found
 
 -- from trees of a store: the best journeys, or the connections if these are asked for
@@ -105,7 +105,7 @@ IsAskDone basis k question wanted (Some within) old new found =
 
 -- What a task may find over the file of a store, by the states of its disk before and after, or which fault. The style says whether rides
 -- and walks are found without being asked for.
-abbrev pub IsTaskDone : {D : Type 0} → SystemView D → Style → BasisData → ℕ → Task → State → State → Result Found Fault → Type 0
+abbrev pub IsTaskDone : {D : Type 0} → DiskView D → Style → BasisData → ℕ → Task → State → State → Result Found Fault → Type 0
 IsTaskDone v style basis k (tasks.Ask question legs) old new found = IsAskDone basis k question (tells_legs style legs) question.within old new found
 IsTaskDone v style basis k tasks.List old new found = MatchResult found (FindsReport (IsListed basis k old new)) (IsUntold basis k old new)
 IsTaskDone v style basis k (tasks.Audit whose) old new found = IsAuditDone basis k whose old new found

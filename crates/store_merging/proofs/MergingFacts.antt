@@ -14,7 +14,7 @@ use Rattle.section_store.specs.Store.{Holds}
 use Rattle.section_store.specs.declared.fault.PutFault.TheVariants as puts
 use Rattle.recovery.specs.Opening.{IsOpening}
 use Rattle.recovery.specs.Recovery.{CauseOf, IsLeftAlone, IsOutside, StandsForNoList}
-use Rattle.recovery.specs.declared.fault.RecoverFault.{RecoverFault}
+use Rattle.store_faults.specs.declared.fault.RecoverFault.{RecoverFault}
 use Rattle.migration.specs.Migration.{OneIsTooLarge}
 use Rattle.merging.specs.Merging.{Merges, merged}
 use Rattle.merging.specs.declared.fault.MergeFault.{MergeFault}

@@ -1,8 +1,8 @@
 -- What a reported fault of a merge says of the calls of the disk into which the parts are put.
 use Rattle.std.proofs.Common.{◌≡◌, ℕ, List, refl, sym, subst, inl, inr}
 use Rattle.disk_model.specs.Disk.{Grew}
-use Rattle.recovery.specs.declared.fault.RecoverFault.{RecoverFault}
-use Rattle.recovery.specs.declared.fault.RecoverFault.TheVariants as stores
+use Rattle.store_faults.specs.declared.fault.RecoverFault.{RecoverFault}
+use Rattle.store_faults.specs.declared.fault.RecoverFault.TheVariants as stores
 use Rattle.section_store.specs.declared.fault.PutFault.{PutFault}
 use Rattle.section_store.specs.declared.fault.PutFault.TheVariants as puts
 use Rattle.merging.specs.declared.fault.MergeFault.TheVariants as merges

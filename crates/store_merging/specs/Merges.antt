@@ -12,8 +12,8 @@ use Rattle.section_store.specs.Sections.{Form, Stands, sources}
 use Rattle.section_store.specs.declared.fault.PutFault.TheVariants as puts
 use Rattle.recovery.specs.Opening.{IsOpening}
 use Rattle.recovery.specs.Recovery.{CauseOf, IsLeftAlone, IsOutside, StandsForNoList}
-use Rattle.recovery.specs.declared.fault.RecoverFault.{RecoverFault}
-use Rattle.recovery.specs.declared.fault.RecoverFault.TheVariants as stores
+use Rattle.store_faults.specs.declared.fault.RecoverFault.{RecoverFault}
+use Rattle.store_faults.specs.declared.fault.RecoverFault.TheVariants as stores
 use Rattle.migration.specs.Migration.{OneIsTooLarge}
 use Rattle.merging.specs.Merging.{merged}
 use Rattle.merging.specs.declared.fault.MergeFault.{MergeFault}

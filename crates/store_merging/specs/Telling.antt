@@ -3,7 +3,7 @@ use Rattle.std.specs.Prelude.{◌≡◌, ◌<◌, ℕ, List, [], get_or, length,
 use Rattle.disk_model.specs.Disk.{State}
 use Rattle.timetable.specs.Table.{stops_of}
 use Rattle.pattern_tree.specs.Content.{Content}
-use Rattle.recovery.specs.declared.fault.RecoverFault.TheVariants.{Device}
+use Rattle.store_faults.specs.declared.fault.RecoverFault.TheVariants.{Device}
 use Rattle.merging.specs.declared.fault.MergeFault.TheVariants as merges
 use Rattle.merging.specs.declared.fault.ShelfFault.{ShelfFault}
 use Rattle.merging.specs.declared.fault.ShelfFault.TheVariants as shelves

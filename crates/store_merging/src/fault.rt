@@ -1,7 +1,7 @@
 //! Why parts aren't put together.
 
 use merging::MergeFault;
-use recovery::RecoverFault;
+use store_faults::RecoverFault;
 use thiserror::Error;
 
 /// Why the trees of parts aren't put together, or not all of them.

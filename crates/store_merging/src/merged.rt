@@ -12,8 +12,9 @@ use crate::fault::UnmergedFault;
 use answer_lines::Built;
 use disk_model::Disk;
 use feed_basis::Basis;
-use merging::{MergeProgress, merge};
+use merging::merge;
 use part_shelf::PartShelf;
+use progress::Progress;
 use recovery::{Nobody, recover_to};
 use section_store::going_laws::{goes_between, goes_on};
 use section_store::laws::loses_nothing_in_turn;
@@ -26,7 +27,7 @@ use timetable::Rides;
 ///
 /// Of honest disks: stopped before, within or after any call, the file stands for a front of the merged list that begins with what it had.
 /// The same command goes on from there.
-pub fn merge_parts<'a, D: Disk, E: Disk, P: MergeProgress>(
+pub fn merge_parts<'a, D: Disk, E: Disk, P: Progress>(
     alloc: Global,
     basis: &'a Basis,
     rides: Rides,

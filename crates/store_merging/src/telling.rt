@@ -17,10 +17,11 @@ use answer_lines::Report;
 use disk_model::Disk;
 use faults::{Fault, StoreFault, of_part};
 use feed_basis::Basis;
-use merging::{MergeFault, MergeProgress, ShelfFault};
+use merging::{MergeFault, ShelfFault};
 use part_shelf::{PartFault, PartShelf};
-use recovery::RecoverFault;
+use progress::Progress;
 use std::alloc::Global;
+use store_faults::RecoverFault;
 use store_migration::of_put;
 use timetable::{Rides, StopId};
 
@@ -94,7 +95,7 @@ fn of_merge<'a>(paths: &'a [&'a str], why: UnmergedFault) -> Fault<'a>
 
 /// Puts the trees of the parts on the shelf together in the file of the disk, as `merge_parts` does, and reports what comes of it, or the
 /// fault by the files of the parts. The paths are those of the parts, in their order.
-pub fn put_together<'a, D: Disk, E: Disk, P: MergeProgress>(
+pub fn put_together<'a, D: Disk, E: Disk, P: Progress>(
     alloc: Global,
     basis: &'a Basis,
     rides: Rides,

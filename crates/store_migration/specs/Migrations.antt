@@ -6,7 +6,7 @@ use Rattle.pattern_tree.specs.Content.{Content}
 use Rattle.section_store.specs.Sections.{Stands}
 use Rattle.section_store.specs.declared.fault.PutFault.{PutFault}
 use Rattle.section_store.specs.declared.fault.PutFault.TheVariants as puts
-use Rattle.recovery.specs.declared.fault.RecoverFault.TheVariants.{Device}
+use Rattle.store_faults.specs.declared.fault.RecoverFault.TheVariants.{Device}
 use Rattle.migration.specs.Migration.{IsRead, Migrates, Stopped}
 use Rattle.migration.specs.declared.fault.MigrateFault.{MigrateFault}
 use Rattle.migration.specs.declared.fault.MigrateFault.TheVariants as migrations

@@ -11,7 +11,8 @@ use answer_lines::Report;
 use disk_model::Disk;
 use faults::{Fault, Side, of_migrated};
 use feed_basis::Basis;
-use migration::{MigrateFault, Migrated, MigrationProgress, migrate};
+use migration::{MigrateFault, Migrated, migrate};
+use progress::Progress;
 use section_store::PutFault;
 use std::alloc::Global;
 use timetable::Rides;
@@ -47,7 +48,7 @@ fn of_migration<'a>(fault: MigrateFault) -> Fault<'a>
 ///
 /// Of honest disks: nothing is done to the old one but a sync. Stopped before, within or after any call, the new file stands for a
 /// beginning of the old list; the same command goes on from there.
-pub fn take_over<'a, D: Disk, E: Disk, P: MigrationProgress>(
+pub fn take_over<'a, D: Disk, E: Disk, P: Progress>(
     alloc: Global,
     basis: &'a Basis,
     rides: Rides,

@@ -4,8 +4,8 @@ use Rattle.disk_model.specs.Disk.{State, Grew}
 use Rattle.timetable.specs.Table.{Table}
 use Rattle.section_store.specs.Sections.{Form, form_of}
 use Rattle.recovery.specs.Recovery.{CauseOf, IsLeftAlone, IsOutside, StandsForNoList}
-use Rattle.recovery.specs.declared.fault.RecoverFault.{RecoverFault}
-use Rattle.recovery.specs.declared.fault.RecoverFault.TheVariants as stores
+use Rattle.store_faults.specs.declared.fault.RecoverFault.{RecoverFault}
+use Rattle.store_faults.specs.declared.fault.RecoverFault.TheVariants as stores
 use Rattle.recovery.specs.Opening.{IsOpening}
 use Rattle.faults.specs.Faults.{of_store}
 use Rattle.faults.specs.declared.fault.Fault.{Fault}

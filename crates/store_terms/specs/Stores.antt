@@ -4,8 +4,8 @@ use Rattle.disk_model.specs.Disk.{State, Grew}
 use Rattle.feed_ids.specs.NameLists.{NameLists}
 use Rattle.section_store.specs.Sections.{Form, form_of, old_form_of}
 use Rattle.recovery.specs.Recovery.{StandsForNoList, IsLeftAlone, IsOutside, CauseOf}
-use Rattle.recovery.specs.declared.fault.RecoverFault.{RecoverFault}
-use Rattle.recovery.specs.declared.fault.RecoverFault.TheVariants.{Device}
+use Rattle.store_faults.specs.declared.fault.RecoverFault.{RecoverFault}
+use Rattle.store_faults.specs.declared.fault.RecoverFault.TheVariants.{Device}
 use Rattle.recovery.specs.Opening.{IsOpening}
 use Rattle.feed_basis.specs.Basis.{BasisData}
 use Rattle.faults.specs.Faults.{of_store}

@@ -11,9 +11,9 @@ ghost use Rattle.told_matrix.specs.Tables.{HasTable, IsBrokenOff, IsCutOff};
 use crate::asking::Matrix;
 use crate::csv_lines::lines_of;
 use crate::place::{Place, stops_of};
-use crate::progress::MatrixProgress;
 use feed_basis::Basis;
 use lines::Lines;
+use progress::{Done, Progress};
 use std::alloc::{AllocError, Global};
 use std::io::Write;
 use std::sync::Arc;
@@ -66,7 +66,7 @@ fn print_batch<T: Threads + Sync, O: Write + Drop>(
 }
 
 // Prints the lines of all stops to leave from, batch by batch.
-fn print_batches<T: Threads + Sync, O: Write + Drop, P: MatrixProgress>(
+fn print_batches<T: Threads + Sync, O: Write + Drop, P: Progress>(
     crew: &Crew<'_, T>,
     window: &Window<'_>,
     origins: &[Place<'_>],
@@ -83,12 +83,12 @@ fn print_batches<T: Threads + Sync, O: Write + Drop, P: MatrixProgress>(
     let stops = stops_of(crew.alloc, goals)?;
     let size = batch_size(crew.workers, goals.len());
     let mut done = 0;
-    progress.printed(0, origins.len());
+    progress.reached(Done::Printed, 0, origins.len());
     'batches: while done < origins.len() {
         let end = origins.len().min(done.saturating_add(size));
         print_batch(crew, window, &origins[done..end], goals, &stops, out)?;
         done = end;
-        progress.printed(done, origins.len());
+        progress.reached(Done::Printed, done, origins.len());
     }
     Ok(())
 }
@@ -106,7 +106,7 @@ fn lines_over(alloc: Global, table: &Timetable) -> Result<Arc<Lines>, AllocError
 /// printed as they come, so memory is taken only for those that are worked out at once. It reports to `progress` how many are printed.
 ///
 /// It fails if the stream refuses a write, or if memory runs out. The lines of the first stops to leave from stand there then.
-pub fn print_matrix<T: Threads + Sync, O: Write + Drop, P: MatrixProgress>(
+pub fn print_matrix<T: Threads + Sync, O: Write + Drop, P: Progress>(
     crew: &Crew<'_, T>,
     basis: &Basis,
     rides: Rides,

@@ -5,9 +5,7 @@ mod asking;
 mod batches;
 mod csv_lines;
 mod place;
-mod progress;
 
 pub use asking::{Asked, Matrix, matrix_of};
 pub use batches::print_matrix;
 pub use place::Place;
-pub use progress::MatrixProgress;

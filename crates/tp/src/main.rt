@@ -1,33 +1,18 @@
 //! The journey planner's program.
 #![tactic(auto)]
 
-mod system;
+mod disks;
 
-use crate::system::HostSystem;
-use commands::run_words;
+use crate::disks::HostDisks;
+use host_system::{HostSystem, stream_places};
 use options::{given_words, out_of_memory, texts, unread};
 use printing::Streams;
-use std::fs::File;
-use std::hash::RandomState;
-use std::io;
 use std::io::BufReader;
 use std::process::ExitCode;
 use std::sync::Wait;
 use std::thread::Threads;
 use streams::Stream;
-
-// A file that holds nothing.
-const NOTHING: &str = "/dev/null";
-
-// Takes the places of those standard streams that are closed: the system gives each file that is opened the lowest place that is free, and
-// what is meant for a stream would be written into the file in its place. As this file is opened to be read, it refuses what is written.
-fn stream_places(rt: &HostRuntime) -> [io::Result<File>; 3] {
-    [
-        File::open(rt, NOTHING),
-        File::open(rt, NOTHING),
-        File::open(rt, NOTHING),
-    ]
-}
+use whole_program::run_words;
 
 // Does what the words say, with workers in such threads, and gives the status.
 fn status<'r, T: Threads + Wait + Sync>(rt: &'r HostRuntime, threads: &'r T) -> u8 {
@@ -47,9 +32,17 @@ fn status<'r, T: Threads + Wait + Sync>(rt: &'r HostRuntime, threads: &'r T) -> 
         out: Stream::new(rt.stdout()),
         err: Stream::new(err),
     };
-    let keys = RandomState::new(rt).ok();
-    let system = HostSystem { rt, threads, keys };
-    run_words(alloc, &system, texts.as_slice(), &mut input, streams).status
+    let system = HostSystem::new(rt, threads);
+    let disks = HostDisks { rt };
+    run_words(
+        alloc,
+        &system,
+        &disks,
+        texts.as_slice(),
+        &mut input,
+        streams,
+    )
+    .status
 }
 
 fn main(rt: HostRuntime) -> ExitCode {

@@ -6,12 +6,12 @@ ghost use Rattle.tree_crew.specs.Flushed.{Flushed, ShowsTo};
 
 use crate::audience::Audience;
 use crate::parted::Parted;
-use crate::progress::Progress;
 use crate::publishing::Publisher;
 use crate::taking::Taker;
 use disk_model::Disk;
 use flusher::{FlushEnd, flush};
 use planner::Desk;
+use progress::Progress;
 use section_store::Step;
 use section_store::going_laws::goes_on;
 use shared_ledger::Basis;

@@ -2,18 +2,18 @@
 #![tactic(auto)]
 
 mod audience;
+mod counting;
 mod crew;
 mod flushing;
 mod held;
 mod parted;
-mod progress;
 mod publishing;
 mod taking;
 mod threads;
 
 pub use audience::Audience;
+pub use counting::Counted;
 pub use crew::Crew;
 pub use held::Held;
 pub use parted::Parted;
-pub use progress::{Counted, Progress, Silent};
 pub use threads::run_over;

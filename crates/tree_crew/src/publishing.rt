@@ -1,10 +1,10 @@
 //! Who shows stored trees, and reports how many there are.
 
 use crate::audience::Audience;
-use crate::progress::Progress;
 use board::{Stored, Writer};
 use flusher::Notice;
 use pattern_tree::Finished;
+use progress::{Done, Progress};
 use section_store::Receipt;
 use std::alloc::Global;
 use std::sync::Wait;
@@ -37,8 +37,8 @@ impl<'a, R: Wait, P: Progress> Notice for Publisher<'a, R, P> {
     ghost goes_in_turn = { λ p q r first second. told_in_turn p.audience q.audience r.audience p.writer q.writer r.writer first second };
 
     fn stored(&mut self, tree: Finished, receipt: Receipt) {
-        self.progress
-            .stored(receipt.number().saturating_add(1), self.stops);
+        let stored = receipt.number().saturating_add(1);
+        self.progress.reached(Done::Stored, stored, self.stops);
         if !self.audience.sees() {
             return;
         }

@@ -9,13 +9,14 @@ ghost use Rattle.section_store.specs.Sections.{form_of};
 use super::events::{Event, Wanted, are_wanted, replies_to, steps_of};
 use disk_model::MemDisk;
 use disk_model::laws::leaves_the_reads;
-use recovery::{RecoverFault, recover};
+use recovery::recover;
 use sample_store::{Sample, old_file};
 use section_store::laws::trust_lasts;
 use std::alloc::Global;
 use std::process::Abort;
 use std::sync::Arc;
 use std::test::Fail;
+use store_faults::RecoverFault;
 use timetable::{Rides, Timetable};
 
 // No tree is stored, and the file has only a header and a closed gate.

@@ -3,9 +3,9 @@
 use super::town::{ask, build, is_front, life_of, town_of};
 use disk_model::MemDisk;
 use planner_life::{End, Life, Reply, run_life};
-use recovery::RecoverFault;
 use section_store::PutFault;
 use std::test::Fail;
+use store_faults::RecoverFault;
 use timetable::Rides;
 
 // What is replied to an order; an answer by the arrivals and rides of its journeys.

@@ -1,57 +1,20 @@
-//! A system in memory.
+//! A system in memory, and files of stores there.
 
 use super::feed::{Failure, Source, feed, list_of};
 use super::teller::Saying;
 use disk_model::{FileFault, MemDisk};
 use gtfs_tables::Files;
-use merging::MergeProgress;
-use migration::MigrationProgress;
-use precomputing::Progress;
 use program_system::System;
+use progress::Silent;
 use std::alloc::Global;
 use std::cell::Cell;
 use std::hash::RandomState;
 use std::io;
 use std::sync::Wait;
 use std::thread::Threads;
-use store_audit::AuditProgress;
-use told_matrix::MatrixProgress;
+use store_files::Disks;
 
-/// Hears how far a build is, the audits, a migration or a merge, and does nothing.
-#[derive(Clone, Copy, Debug)]
-pub struct Deaf;
-
-impl Progress for Deaf {
-    fn stored(&mut self, _stored: usize, _of: usize) {}
-
-    fn ended(&mut self) {}
-}
-
-impl AuditProgress for Deaf {
-    fn audited(&mut self, _audited: usize, _of: usize) {}
-
-    fn ended(&mut self) {}
-}
-
-impl MigrationProgress for Deaf {
-    fn migrated(&mut self, _migrated: usize, _of: usize) {}
-
-    fn ended(&mut self) {}
-}
-
-impl MergeProgress for Deaf {
-    fn merged(&mut self, _stored: usize, _of: usize) {}
-
-    fn ended(&mut self) {}
-}
-
-impl MatrixProgress for Deaf {
-    fn printed(&mut self, _printed: usize, _of: usize) {}
-
-    fn ended(&mut self) {}
-}
-
-/// One feed in each folder, one store, and one file to be read only. The disk of each is handed out once.
+/// One feed in each folder.
 #[derive(Drop)]
 pub struct FakeSystem<'t, T: Threads + Wait + Sync> {
     pub threads: &'t T,
@@ -59,8 +22,6 @@ pub struct FakeSystem<'t, T: Threads + Wait + Sync> {
     pub hash_keys: Option<RandomState>,
     /// The file of the feed whose reader fails, if one does.
     pub failure: Failure,
-    pub store: Cell<Result<MemDisk, FileFault>>,
-    pub old: Cell<Result<MemDisk, FileFault>>,
 }
 
 impl<'t, T: Threads + Wait + Sync> System for FakeSystem<'t, T> {
@@ -68,11 +29,9 @@ impl<'t, T: Threads + Wait + Sync> System for FakeSystem<'t, T> {
 
     type Reader = Source;
 
-    type Store = MemDisk;
-
     type Threads = T;
 
-    type Meter = Deaf;
+    type Meter = Silent;
 
     type Teller = Saying;
 
@@ -81,7 +40,6 @@ impl<'t, T: Threads + Wait + Sync> System for FakeSystem<'t, T> {
       lists = λ _ _. Unit {0};
       has = λ _ _. ⊥;
       keyed = is_some system.hash_keys;
-      opens = λ _ _. Unit {0};
     } };
 
     fn threads(&self) -> &T {
@@ -92,8 +50,8 @@ impl<'t, T: Threads + Wait + Sync> System for FakeSystem<'t, T> {
         self.teller
     }
 
-    fn meter(&self, _shown: bool) -> Deaf {
-        Deaf
+    fn meter(&self, _shown: bool) -> Silent {
+        Silent
     }
 
     fn hash_keys(&self) -> Option<RandomState> {
@@ -111,6 +69,19 @@ impl<'t, T: Threads + Wait + Sync> System for FakeSystem<'t, T> {
     fn list_folder(&self, _folder: &str) -> io::Result<Option<Vec<String>>> {
         Ok(None)
     }
+}
+
+/// One store, and one file to be read only. The disk of each is handed out once.
+#[derive(Drop)]
+pub struct FakeDisks {
+    pub store: Cell<Result<MemDisk, FileFault>>,
+    pub old: Cell<Result<MemDisk, FileFault>>,
+}
+
+impl Disks for FakeDisks {
+    type Store = MemDisk;
+
+    ghost opens = { λ _ _ _. Unit {0} };
 
     fn open_store(&self, _path: &str, _only_reads: bool) -> Result<MemDisk, FileFault> {
         self.store.replace(Err(FileFault::Failed))

@@ -4,12 +4,12 @@ use super::towns::{Town, bytes_of};
 use disk_model::{Disk, MemDisk};
 use part_shelf::PartFault;
 use part_shelf::PartFault::{OtherTree, Store};
-use recovery::RecoverFault::{Damaged, NotAStore, OtherRides, OtherTimetable};
 use section_store::begin;
 use std::alloc::Global;
 use std::process::Abort;
 use std::test::Fail;
 use stop_parts::Part;
+use store_faults::RecoverFault::{Damaged, NotAStore, OtherRides, OtherTimetable};
 use timetable::{Rides, StopId};
 
 // A disk with these bytes, which are synced.

@@ -7,10 +7,11 @@ ghost use Rattle.section_store.specs.Sections.{form_of};
 ghost use Rattle.timetable.specs.Table.{stops_of};
 
 use disk_model::{MemDisk, read_up_to};
-use merging::{MergeFault, MergeProgress, merge};
+use merging::{MergeFault, merge};
 use part_shelf::PartShelf;
 use pattern_building::finish;
 use pattern_tree::{Arena, Finished};
+use progress::{Done, Progress};
 use recovery::{Nobody, recover_to};
 use rounds::Scratch;
 use sample_feed::town;
@@ -132,9 +133,9 @@ pub struct Heard {
     pub of: usize,
 }
 
-impl MergeProgress for Heard {
-    fn merged(&mut self, stored: usize, of: usize) {
-        self.last = stored;
+impl Progress for Heard {
+    fn reached(&mut self, _what: Done, times: usize, of: usize) {
+        self.last = times;
         self.of = of;
     }
 

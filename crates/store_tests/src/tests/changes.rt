@@ -4,12 +4,12 @@
 use super::first;
 use super::opening::Answer::{self, Begun, List, Refused};
 use super::opening::Opening;
-use recovery::RecoverFault::{Damaged, NotAStore, OldVersion, OtherRides, OtherTimetable};
 use sample_feed::demo;
 use sample_store::{TEXTS, file_of};
 use std::alloc::Global;
 use std::process::Abort;
 use std::test::Fail;
+use store_faults::RecoverFault::{Damaged, NotAStore, OldVersion, OtherRides, OtherTimetable};
 use timetable::Rides;
 
 // What the fronts of these lengths are opened as,

@@ -3,11 +3,12 @@
 use super::opening::Opening;
 use disk_model::{Disk, MemDisk};
 use pattern_tree::PatternTree;
-use recovery::{RecoverFault, Recovered, recover_trees_of};
+use recovery::{Recovered, recover_trees_of};
 use sample_feed::demo;
 use sample_store::{B, D, E, file_of};
 use std::alloc::Global;
 use std::test::Fail;
+use store_faults::RecoverFault;
 use timetable::{Rides, StopId};
 
 // The text of B's tree with a byte after it.

@@ -1,9 +1,9 @@
 //! How a refused put is reported, and a refused migration.
 
 use migration::MigrateFault;
-use recovery::RecoverFault;
 use section_store::PutFault;
 use std::test::Fail;
+use store_faults::RecoverFault;
 
 const TEXTS: [(PutFault, &str); 6] = [
     (PutFault::AlreadyStored, "P1 AlreadyStored"),

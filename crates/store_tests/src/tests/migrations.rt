@@ -4,12 +4,13 @@ use super::first;
 use super::first::HEADER;
 use disk_model::{Disk, MemDisk};
 use migration::MigrateFault::{self, New, Old, OtherList};
-use migration::{MigrationProgress, migrate};
-use recovery::RecoverFault::{Damaged, NotAStore, OldVersion};
+use migration::migrate;
+use progress::{Done, Progress};
 use sample_store::{A, B, C, D, E, Sample, TEXTS, bytes_of, file_of};
 use std::alloc::Global;
 use std::process::Abort;
 use std::test::Fail;
+use store_faults::RecoverFault::{Damaged, NotAStore, OldVersion};
 use timetable::Rides;
 
 /// A disk with these bytes, which are synced.
@@ -36,12 +37,12 @@ const NOTHING: Heard = Heard {
     reports: 0,
 };
 
-impl MigrationProgress for Heard {
-    fn migrated(&mut self, migrated: usize, of: usize) {
+impl Progress for Heard {
+    fn reached(&mut self, _what: Done, times: usize, of: usize) {
         if self.first.is_none() {
-            self.first = Some(migrated);
+            self.first = Some(times);
         }
-        self.last = migrated;
+        self.last = times;
         self.of = of;
         self.reports = self.reports.saturating_add(1);
     }

@@ -4,12 +4,12 @@ use super::first::{A, B, D, E, HEADER, TEXTS};
 use super::opening::Answer::{self, List, Refused};
 use super::opening::Opening;
 use super::whole::{check_lists, later};
-use recovery::RecoverFault::{Damaged, NotAStore, OldVersion, OtherRides, OtherTimetable};
 use sample_feed::demo;
 use sample_store::file_of;
 use std::alloc::Global;
 use std::process::Abort;
 use std::test::Fail;
+use store_faults::RecoverFault::{Damaged, NotAStore, OldVersion, OtherRides, OtherTimetable};
 use timetable::{Rides, Timetable};
 
 // What a store of the sample feed for three rides is read as for this timetable and `rides` rides.

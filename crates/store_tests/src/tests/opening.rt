@@ -3,13 +3,14 @@
 use super::first::HEADER;
 use disk_model::{Disk, MemDisk};
 use pattern_tree::PatternTree;
-use recovery::{RecoverFault, Recovered, read_v1, recover};
+use recovery::{Recovered, read_v1, recover};
 use sample_feed::narrowed;
 use sample_store::{bytes_of, header_of, put_section};
 use section_store::Version;
 use std::alloc::Global;
 use std::sync::Arc;
 use std::test::Fail;
+use store_faults::RecoverFault;
 use timetable::{Rides, Timetable};
 use tree_codec::encode;
 

@@ -4,12 +4,12 @@ use super::first::{HEADER, TEXTS};
 use super::migrations::{disk_of, migrated};
 use disk_model::MemDisk;
 use migration::MigrateFault::{New, Put};
-use recovery::RecoverFault;
 use sample_store::{A, Sample, bytes_of, file_of};
 use section_store::PutFault;
 use std::alloc::Global;
 use std::process::Abort;
 use std::test::Fail;
+use store_faults::RecoverFault;
 
 // The new disk of a migration that is stopped at its n-th call; none if there are fewer.
 fn stopped(alloc: Global, sample: &Sample, old: &[u8], n: u64) -> Result<Option<MemDisk>, Fail> {

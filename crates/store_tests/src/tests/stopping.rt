@@ -3,13 +3,14 @@
 use super::opening::Opening;
 use super::refused::store_of_a;
 use disk_model::{Disk, MemDisk};
-use recovery::{RecoverFault, Recovered, recover};
+use recovery::{Recovered, recover};
 use sample_feed::demo;
 use sample_store::{Sample, TEXTS, bytes_of, file_of};
 use section_store::{PutFault, SectionStore};
 use std::alloc::Global;
 use std::process::Abort;
 use std::test::Fail;
+use store_faults::RecoverFault;
 use timetable::Rides;
 
 // At which of its four calls of the disk a put of B's tree fails, how long a crash leaves the file, which byte stands then wherever

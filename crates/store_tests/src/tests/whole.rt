@@ -2,13 +2,13 @@
 
 use super::opening::Answer::{self, Begun, List, Refused};
 use super::opening::Opening;
-use recovery::RecoverFault;
-use recovery::RecoverFault::{Damaged, OtherRides, OtherTimetable};
 use sample_feed::{Feed, Span, demo, table_of};
 use sample_store::{A, B, D, E, TEXTS, file_of};
 use std::alloc::Global;
 use std::process::Abort;
 use std::test::Fail;
+use store_faults::RecoverFault;
+use store_faults::RecoverFault::{Damaged, OtherRides, OtherTimetable};
 use timetable::{Rides, Timetable};
 
 // Trip T2 a second later at both stops.

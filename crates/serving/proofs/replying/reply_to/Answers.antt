@@ -4,9 +4,9 @@ use Rattle.pattern_query.specs.Answer.{PointData}
 use Rattle.planner.specs.Asking.{AreBestBetween, IsAnswered, IsUnanswered, held_by}
 use Rattle.planner.specs.declared.fault.AskFault.{AskFault}
 use Rattle.feed_basis.specs.Points.{IsKnownJourney}
-use Rattle.serving.specs.Answers.{IsAsked, IsReply, IsTold}
+use Rattle.serving.specs.Answers.{IsAsked, IsRefused, IsReply, IsTold}
 use Rattle.serving.proofs.KnownFacts.{early, known}
-use Rattle.serving.proofs.ReplyFacts.{told_reply}
+use Rattle.serving.proofs.ReplyFacts.{refused_reply, told_reply}
 use Rattle.serving.proofs.replying.reply_to.Goals.{in-Ok, in-Err}
 use Rattle.serving.proofs.replying.reply_to.Goals as goal
 
@@ -31,12 +31,14 @@ returns c = λ line is.
           (λ right. subst Exact w.in-Ok.is (c.ask-reader.ensures.exact right)) w.answer_of-reply.result
           (subst (λ (journeys : List PointData). IsTold basis legs journeys w.answer_of-reply.result) w.points.ensures w.answer_of-reply.ensures))
       | in-Err w ↦
-          subst (IsReply p basis legs line old new) (sym w.reply-is) (inl (record {
+          subst (IsReply p basis legs line old new) (sym w.reply-is)
+          (subst (IsRefused p basis line old new) (sym w.refused_by.ensures)
+          (refused_reply p basis legs line old new w.in-Err.fault (inl (record {
             question = question;
             depart = depart;
             asked = asked;
             unanswered = subst Gives w.in-Err.is c.ask-reader.ensures.answer;
-          }))
+          }))))
     ]
 
 pub answer_of-reply-requires-clause-known : goal.answer_of-reply-requires-clause-known

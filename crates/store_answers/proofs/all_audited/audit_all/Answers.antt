@@ -4,7 +4,7 @@ use Rattle.std.specs.List.{AllZip}
 use Rattle.section_store.specs.Sections.{form_of}
 use Rattle.recovery.specs.Recovery.{CauseOf, IsLeftAlone, IsOutside, StandsForNoList}
 use Rattle.recovery.specs.Opening.{IsOpening}
-use Rattle.recovery.specs.declared.fault.RecoverFault.{RecoverFault}
+use Rattle.store_faults.specs.declared.fault.RecoverFault.{RecoverFault}
 use Rattle.store_audit.specs.TreeAudits.{AreAuditsOf}
 use Rattle.store_audit.specs.declared.due.TreeAudit.{TreeAudit}
 use Rattle.store_terms.specs.Stores.{form_over}

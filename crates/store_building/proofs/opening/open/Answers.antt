@@ -1,7 +1,7 @@
 use Rattle.std.proofs.Common.{◌≡◌, ◌⊎◌, All, refl, inl, inr, ap, subst, sym, ◌∙◌}
 use Rattle.section_store.specs.Sections.{form_of}
 use Rattle.recovery.specs.Recovery.{CauseOf, IsLeftAlone, IsOutside, StandsForNoList}
-use Rattle.recovery.specs.declared.fault.RecoverFault.{RecoverFault}
+use Rattle.store_faults.specs.declared.fault.RecoverFault.{RecoverFault}
 use Rattle.recovery.specs.Opening.{IsOpening, StandsForSources}
 use Rattle.std.specs.Arc.{arc_value}
 use Rattle.board.specs.Ties.{BoardPart}

@@ -4,7 +4,7 @@ use Rattle.recovery.specs.Opening.{IsOpening, StandsForSources}
 use Rattle.std.specs.Arc.{arc_value}
 use Rattle.section_store.specs.Sections.{Form}
 use Rattle.recovery.specs.Recovery.{CauseOf, IsLeftAlone, IsOutside, StandsForNoList}
-use Rattle.recovery.specs.declared.fault.RecoverFault.{RecoverFault}
+use Rattle.store_faults.specs.declared.fault.RecoverFault.{RecoverFault}
 use Rattle.store_terms.specs.Stores.{form_over}
 use Rattle.store_building.specs.Openings.{cause_of}
 use Rattle.store_terms.proofs.OpeningFacts.{over_basis}

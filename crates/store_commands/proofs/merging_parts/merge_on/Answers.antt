@@ -5,7 +5,7 @@ use Rattle.store_merging.specs.Merges.{IsMerged, OnlyFailing as PartsOnlyFailing
 use Rattle.store_merging.specs.Telling.{IsOfMerge, IsToldUnmerged}
 use Rattle.store_merging.specs.declared.fault.UnmergedFault.{UnmergedFault}
 use Rattle.store_commands.specs.Merged.{joined}
-use Rattle.program_system.specs.World.{view_of}
+use Rattle.store_files.specs.Disks.{disks_of}
 use Rattle.feed_commands.proofs.FoundFacts.{report_found, report_refused}
 use Rattle.store_commands.proofs.PartFacts.{unshelved_fails}
 use Rattle.store_commands.proofs.merging_parts.merge_on.Goals as goal
@@ -20,9 +20,8 @@ returns-in-Err-clause-found g c = λ honest. inl (record {
 
 pub returns-in-Err-clause-device : goal.returns-in-Err-clause-device
 returns-in-Err-clause-device g c =
-    let v = view_of (g.S.System.world c.args.system.now) g.S.Store.Disk.honest g.S.Store.Disk.state g.S.Store.Disk.failures
-    g.S.Teller.Teller.telling in
-    let failures = g.S.Store.Disk.failures c.args.disk in
+    let v = disks_of (g.D.Disks.opens c.args.on.now.disks.now) g.D.Store.Disk.honest g.D.Store.Disk.state g.D.Store.Disk.failures in
+    let failures = g.D.Store.Disk.failures c.args.disk in
     unshelved_fails failures failures v c.args.file.now.basis.now c.args.file.now.rides c.args.paths.now c.in-Err.fault c.in-Err.ensures
 
 pub returns-in-Ok-clause-found : goal.returns-in-Ok-clause-found
@@ -30,9 +29,9 @@ returns-in-Ok-clause-found g c = λ honest.
     let basis = c.args.file.now.basis.now in
     let k = c.args.file.now.rides in
     let paths = c.args.paths.now in
-    let failures = g.S.Store.Disk.failures in
-    let old = g.S.Store.Disk.state c.args.disk in
-    let new = g.S.Store.Disk.state c.put_together-report.result.1 in
+    let failures = g.D.Store.Disk.failures in
+    let old = g.D.Store.Disk.state c.args.disk in
+    let new = g.D.Store.Disk.state c.put_together-report.result.1 in
     let report = c.put_together-report.result.0 in
     let shelved = c.in-Ok.ensures in
     let after = map failures c.put_together-report.new.shelf.disks.items in

@@ -5,13 +5,13 @@ use Rattle.timetable.specs.Table.{Table}
 use Rattle.section_store.specs.Sections.{form_of}
 use Rattle.store_terms.specs.Stores.{form_over}
 use Rattle.store_commands.specs.Merged.{AreShelved}
-use Rattle.program_system.specs.World.{view_of}
+use Rattle.store_files.specs.Disks.{disks_of}
 use Rattle.store_commands.proofs.merging_parts.shelve.Goals as goal
 use denote.Ref.{Bor}
 
 pub loop-number-init : goal.loop-number-init
 loop-number-init g c =
-    let failures = g.S.Store.Disk.failures in
+    let failures = g.D.Store.Disk.failures in
     let new = c.in_ok-shelf.ensures in
     record {
       disks = [];
@@ -43,8 +43,7 @@ returns-in_err-take_part g c =
 
 pub returns : goal.returns
 returns g c =
-    let v = view_of (g.S.System.world c.args.system.now) g.S.Store.Disk.honest g.S.Store.Disk.state g.S.Store.Disk.failures
-    g.S.Teller.Teller.telling in
+    let v = disks_of (g.D.Disks.opens c.args.on.now.disks.now) g.D.Store.Disk.honest g.D.Store.Disk.state g.D.Store.Disk.failures in
     let form = form_over c.args.file.now.basis.now c.args.file.now.rides in
     let paths = c.args.paths.now in
     let done : length paths ≤ c.loop-number.number = search rules in

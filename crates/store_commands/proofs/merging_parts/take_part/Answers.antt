@@ -4,7 +4,7 @@ use Rattle.part_shelf.specs.Comparing.{FailsOnly}
 use Rattle.part_shelf.specs.Shelves.{WhyNot}
 use Rattle.store_terms.specs.Stores.{form_over}
 use Rattle.store_commands.specs.Merged.{joined}
-use Rattle.program_system.specs.World.{view_of}
+use Rattle.store_files.specs.Disks.{disks_of}
 use Rattle.store_commands.proofs.PartFacts.{taken}
 use Rattle.store_commands.proofs.merging_parts.take_part.Goals as goal
 
@@ -22,9 +22,9 @@ returns-in-Err g c = λ before. inl (record {
 -- its store isn't added
 pub returns : goal.returns
 returns g c = λ before.
-    let honest = g.S.Store.Disk.honest in
-    let state = g.S.Store.Disk.state in
-    let failures = g.S.Store.Disk.failures in
+    let honest = g.D.Store.Disk.honest in
+    let state = g.D.Store.Disk.state in
+    let failures = g.D.Store.Disk.failures in
     let first = c.in-Ok.ready.disk in
     let last = c.in-Err-add.refused.1 in
     let why = c.in-Err-add.refused.0 in
@@ -52,8 +52,7 @@ returns g c = λ before.
 
 pub returns-in-Ok-add : goal.returns-in-Ok-add
 returns-in-Ok-add g c = λ before.
-    let v = view_of (g.S.System.world c.args.system.now) g.S.Store.Disk.honest g.S.Store.Disk.state g.S.Store.Disk.failures
-    g.S.Teller.Teller.telling in
+    let v = disks_of (g.D.Disks.opens c.args.on.now.disks.now) g.D.Store.Disk.honest g.D.Store.Disk.state g.D.Store.Disk.failures in
     taken v (form_over c.args.file.now.basis.now c.args.file.now.rides) c.args.paths.now c.args.number c.path_of-path.result c.requires
     (c.path_of-path.ensures c.requires) c.args.shelf.now c.add.new.self c.in-Ok.ready.disk before (c.in-Ok.ready.is_new, c.in-Ok.ensures.ready)
     c.add.ensures.form c.in-Ok-add.ensures.device c.in-Ok-add.ensures.added

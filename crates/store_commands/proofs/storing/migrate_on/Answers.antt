@@ -2,8 +2,8 @@ use Rattle.std.proofs.Common.{Err, ap, refl, sym, subst, inl, inr}
 use Rattle.disk_model.specs.Disk.{Grew}
 use Rattle.store_migration.specs.Migrations.{IsTakenOver, IsUntaken, TellsOldDevice}
 use Rattle.store_terms.specs.Stores.{OnlyFailing, form_over}
-use Rattle.program_system.specs.World.{view_of}
-use Rattle.program_system.proofs.FileFacts.{kept_out_fails}
+use Rattle.store_files.specs.Disks.{disks_of}
+use Rattle.store_files.proofs.FileFacts.{kept_out_fails}
 use Rattle.feed_commands.proofs.FoundFacts.{report_found, report_refused}
 use Rattle.store_commands.proofs.storing.migrate_on.Goals as goal
 
@@ -18,9 +18,8 @@ returns-in-Err-clause-found g c = λ honest. inl (record {
 
 pub returns-in-Err-clause-device : goal.returns-in-Err-clause-device
 returns-in-Err-clause-device g c =
-    let v = view_of (g.S.System.world c.args.system.now) g.S.Store.Disk.honest g.S.Store.Disk.state g.S.Store.Disk.failures
-    g.S.Teller.Teller.telling in
-    let failures = g.S.Store.Disk.failures c.args.disk in
+    let v = disks_of (g.D.Disks.opens c.args.on.now.disks.now) g.D.Store.Disk.honest g.D.Store.Disk.state g.D.Store.Disk.failures in
+    let failures = g.D.Store.Disk.failures c.args.disk in
     subst (OnlyFailing failures failures) (sym c.in_migration.ensures)
     (kept_out_fails failures failures v (form_over c.args.file.now.basis.now c.args.file.now.rides) c.args.old.now c.in-Err.fault c.in-Err.field-0-1
     c.in-Err.ensures.kept_out)
@@ -29,8 +28,8 @@ pub returns-clause-found : goal.returns-clause-found
 returns-clause-found g c = λ honest.
     let basis = c.args.file.now.basis.now in
     let k = c.args.file.now.rides in
-    let state = g.S.Store.Disk.state in
-    let failures = g.S.Store.Disk.failures in
+    let state = g.D.Store.Disk.state in
+    let failures = g.D.Store.Disk.failures in
     let first = c.in-Ok.ready.disk in
     let last = c.take_over-report.result.1 in
     let report = c.take_over-report.result.0 in

@@ -13,8 +13,8 @@ pub returns-in-List-clause-found : goal.returns-in-List-clause-found
 returns-in-List-clause-found g c = λ honest.
     let basis = c.args.file.now.basis.now in
     let k = c.args.file.now.rides in
-    let old = g.S.Store.Disk.state c.args.disk in
-    let new = g.S.Store.Disk.state c.list-report.result.1 in
+    let old = g.D.Store.Disk.state c.args.disk in
+    let new = g.D.Store.Disk.state c.list-report.result.1 in
     rw c.in-List.is (report_found c.list-report.result.0 c.found_report.result (IsListed basis k old new) (IsUntold basis k old new)
     c.found_report.ensures (c.list-report.ensures.listed honest))
 
@@ -22,8 +22,8 @@ pub returns-in-Build-clause-found : goal.returns-in-Build-clause-found
 returns-in-Build-clause-found g c = λ honest.
     let basis = c.args.file.now.basis.now in
     let k = c.args.file.now.rides in
-    let old = g.S.Store.Disk.state c.args.disk in
-    let new = g.S.Store.Disk.state c.build-report.result.1 in
+    let old = g.D.Store.Disk.state c.args.disk in
+    let new = g.D.Store.Disk.state c.build-report.result.1 in
     let part = c.in-Build.part in
     rw c.in-Build.is (report_found c.build-report.result.0 c.found_report-in-Build.result (ReportsBuilt (IsBuilt basis part k old new)) (IsUnbuilt basis part k old new)
     c.found_report-in-Build.ensures (c.build-report.ensures.built honest))

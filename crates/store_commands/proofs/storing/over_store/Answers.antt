@@ -1,15 +1,14 @@
 use Rattle.std.proofs.Common.{◌≡◌, ◌∙◌, ◌&&◌, Bool, sym, subst, inr}
-use Rattle.program_system.specs.Files.{IsNoticed}
+use Rattle.store_files.specs.Files.{IsNoticed}
 use Rattle.command_line.specs.Jobs.{only_reads}
-use Rattle.program_system.specs.World.{view_of}
+use Rattle.store_files.specs.Disks.{disks_of}
 use Rattle.store_commands.proofs.TaskFacts.{over_disk}
 use Rattle.store_commands.proofs.storing.over_store.Goals.{then-reads, else-reads}
 use Rattle.store_commands.proofs.storing.over_store.Goals as goal
 
 pub returns-after-reads : goal.returns-after-reads
 returns-after-reads g c =
-    let v = view_of (g.S.System.world c.args.system.now) g.S.Store.Disk.honest g.S.Store.Disk.state g.S.Store.Disk.failures
-    g.S.Teller.Teller.telling in
+    let v = disks_of (g.D.Disks.opens c.args.on.now.disks.now) g.D.Store.Disk.honest g.D.Store.Disk.state g.D.Store.Disk.failures in
     let is_new = c.in-Ok.ready.is_new in
     let reads = only_reads c.args.task.now in
     let says : c.if-reads.say_new ≡ reads && is_new = elim c.if-reads.branch [

@@ -1,0 +1,6 @@
+//! Why a file isn't opened as a store.
+#![tactic(auto)]
+
+mod fault;
+
+pub use fault::RecoverFault;
