@@ -4,7 +4,8 @@ ghost use Rattle.std.specs.Prelude.{◌≡◌};
 
 use super::setting::{Setting, basis_over, open};
 use feed_basis::Basis;
-use precomputing::{Audience, Crew, Gate, Halt, Outcome, Progress, precompute_telling};
+use precomputing::{Audience, Crew, Gate, Halt, Outcome, precompute_telling};
+use progress::{Done, Progress};
 use sample_feed::Feed;
 use std::alloc::Global;
 use std::fmt::Write;
@@ -42,8 +43,8 @@ struct Waiting<'a> {
 }
 
 impl Progress for Waiting<'_> {
-    fn stored(&mut self, stored: usize, _of: usize) {
-        if stored != 1 {
+    fn reached(&mut self, _what: Done, times: usize, _of: usize) {
+        if times != 1 {
             return;
         }
         for _ in 0..10_000_000_u32 {
