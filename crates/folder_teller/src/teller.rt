@@ -41,7 +41,7 @@ fn itinerary_text(
 ) -> Result<String, AllocError> {
     let clock = Clock::of(asked.settings.zone);
     let asked = asked_by(asked.command, &asked.question, format);
-    let itinerary = itinerary_of(alloc, basis, clock, sheets, &asked, found)?;
+    let itinerary = itinerary_of(alloc, basis, &clock, sheets, &asked, found)?;
     told_text(alloc, format, itinerary)
 }
 
@@ -107,7 +107,7 @@ impl<'r> FolderTeller<'r> {
     ) -> Result<String, AllocError> {
         let sheets = self.sheets(alloc, settings.feed)?;
         let clock = Clock::of(settings.zone);
-        reach_text(alloc, format, command, clock, &sheets, reach)
+        reach_text(alloc, format, command, &clock, &sheets, reach)
     }
 
     // The text of the travel times to stops, with the names that the folder has.
@@ -121,7 +121,7 @@ impl<'r> FolderTeller<'r> {
     ) -> Result<String, AllocError> {
         let sheets = self.sheets(alloc, settings.feed)?;
         let clock = Clock::of(settings.zone);
-        times_text(alloc, format, command, clock, &sheets, times)
+        times_text(alloc, format, command, &clock, &sheets, times)
     }
 
     // The stops and stations that are searched for, as they are printed: none if there is no sheet of stops.

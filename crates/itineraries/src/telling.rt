@@ -7,10 +7,9 @@ use crate::wanted::names_for;
 use answer_lines::{Answer, DayTime, Point, Stage};
 use connection_lines::{Connection, Connections};
 use feed_basis::Basis;
-use itinerary_texts::{Frequency, Itinerary, Journey, Leg, Stay, Time, Window};
+use itinerary_texts::{Frequency, Itinerary, Journey, Leg, Stay, Time, Window, ZoneClock};
 use std::alloc::{AllocError, Global};
 use told_names::{NameSheets, Names, Place, Trip};
-use zone_clock::Clock;
 
 /// What was asked.
 #[derive(Clone, Copy)]
@@ -36,16 +35,16 @@ pub enum Found<'f> {
 }
 
 // What itineraries are made with.
-#[derive(Clone, Copy)]
-struct Teller<'a> {
+#[derive(Drop)]
+struct Teller<'a, C> {
     basis: &'a Basis,
-    clock: Clock,
+    clock: &'a C,
     names: &'a Names,
     // Whether rides have the stops between, at which they call.
     through: bool,
 }
 
-impl Teller<'_> {
+impl<C: ZoneClock> Teller<'_, C> {
     // A time by the clock.
     fn time(&self, at: DayTime) -> Time {
         self.clock.time(at)
@@ -238,10 +237,10 @@ impl Teller<'_> {
 
 /// The itinerary of what was found for what was asked over the basis. What was found has its rides and walks. Times are by the clock, and
 /// names are those that the sheets have. It fails only if memory runs out.
-pub fn itinerary_of<'a>(
+pub fn itinerary_of<'a, C: ZoneClock>(
     alloc: Global,
     basis: &Basis,
-    clock: Clock,
+    clock: &C,
     sheets: &NameSheets,
     asked: &Asked<'a>,
     found: &Found<'_>,
@@ -251,10 +250,10 @@ pub fn itinerary_of<'a>(
 }
 
 /// The same by names that were looked up before.
-pub fn itinerary_by<'a>(
+pub fn itinerary_by<'a, C: ZoneClock>(
     alloc: Global,
     basis: &Basis,
-    clock: Clock,
+    clock: &C,
     names: &Names,
     asked: &Asked<'a>,
     found: &Found<'_>,

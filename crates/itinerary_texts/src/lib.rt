@@ -11,4 +11,4 @@ pub use geo::{Position, begin_feature, begin_features, end_features, geojson, po
 pub use itinerary::{Frequency, Itinerary, Journey, Kind, Leg, Stay, Window};
 pub use people::people_text;
 pub use plain::{itinerary_json, write_iso, write_place, write_place_members, write_time};
-pub use time::{Shown, Time};
+pub use time::{Shown, Time, ZoneClock};

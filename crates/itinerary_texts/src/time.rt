@@ -17,6 +17,12 @@ pub struct Time {
     pub shown: Option<Shown>,
 }
 
+/// The clock of a zone. Who only shows times knows no more of it: how a zone keeps its rule loads thousands of modules of the toolchain.
+pub trait ZoneClock {
+    /// A time of a service day, which the clock shows too.
+    fn time(&self, told: DayTime) -> Time;
+}
+
 /// A moment, and the zone's offset from UTC at that moment.
 #[derive(Clone, Copy)]
 pub struct Shown {

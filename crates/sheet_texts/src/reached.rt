@@ -3,10 +3,10 @@
 use crate::texts::line;
 use answer_lines::{Reach, ReachedStop};
 use feed_texts::{ReachText, ReachedText, reach_csv, reach_geojson, reach_json};
+use itinerary_texts::ZoneClock;
 use option_words::Format;
 use std::alloc::{AllocError, Global};
 use told_names::{NameSheets, Names};
-use zone_clock::Clock;
 
 // The ids of the stop that one leaves and of those that one reaches.
 fn ids_of<'r>(alloc: Global, reach: &Reach<'r>) -> Result<Vec<&'r str>, AllocError> {
@@ -19,9 +19,9 @@ fn ids_of<'r>(alloc: Global, reach: &Reach<'r>) -> Result<Vec<&'r str>, AllocErr
 }
 
 // A stop that one reaches, as the clock and the names say it.
-fn reached_of(
+fn reached_of<C: ZoneClock>(
     alloc: Global,
-    clock: Clock,
+    clock: &C,
     names: &Names,
     reached: &ReachedStop<'_>,
 ) -> Result<ReachedText, AllocError> {
@@ -34,9 +34,9 @@ fn reached_of(
 }
 
 // All of them.
-fn all_of(
+fn all_of<C: ZoneClock>(
     alloc: Global,
-    clock: Clock,
+    clock: &C,
     names: &Names,
     stops: &[ReachedStop<'_>],
 ) -> Result<Vec<ReachedText>, AllocError> {
@@ -57,11 +57,11 @@ fn text_of(alloc: Global, format: Format, told: &ReachText<'_>) -> Result<String
 }
 
 // The text by these names.
-fn text_by(
+fn text_by<C: ZoneClock>(
     alloc: Global,
     format: Format,
     command: &str,
-    clock: Clock,
+    clock: &C,
     names: &Names,
     reach: &Reach<'_>,
 ) -> Result<String, AllocError> {
@@ -81,11 +81,11 @@ fn names_of(alloc: Global, sheets: &NameSheets, reach: &Reach<'_>) -> Result<Nam
 }
 
 /// The stops that one reaches in a format, with what the sheets have of them.
-pub fn reach_text(
+pub fn reach_text<C: ZoneClock>(
     alloc: Global,
     format: Format,
     command: &str,
-    clock: Clock,
+    clock: &C,
     sheets: &NameSheets,
     reach: &Reach<'_>,
 ) -> Result<String, AllocError> {

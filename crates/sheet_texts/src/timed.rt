@@ -3,10 +3,10 @@
 use crate::texts::line;
 use answer_lines::{TimedStop, TimedStops};
 use feed_texts::{TimedText, TimesText, times_csv, times_geojson, times_json};
+use itinerary_texts::ZoneClock;
 use option_words::Format;
 use std::alloc::{AllocError, Global};
 use told_names::{NameSheets, Names};
-use zone_clock::Clock;
 
 // The ids of the stop that one leaves and of those that one goes to.
 fn ids_of<'r>(alloc: Global, times: &TimedStops<'r>) -> Result<Vec<&'r str>, AllocError> {
@@ -51,11 +51,11 @@ fn text_of(alloc: Global, format: Format, told: &TimesText<'_>) -> Result<String
 }
 
 // The text by these names.
-fn text_by(
+fn text_by<C: ZoneClock>(
     alloc: Global,
     format: Format,
     command: &str,
-    clock: Clock,
+    clock: &C,
     names: &Names,
     times: &TimedStops<'_>,
 ) -> Result<String, AllocError> {
@@ -80,11 +80,11 @@ fn names_of(
 }
 
 /// The travel times to stops in a format, with what the sheets have of these.
-pub fn times_text(
+pub fn times_text<C: ZoneClock>(
     alloc: Global,
     format: Format,
     command: &str,
-    clock: Clock,
+    clock: &C,
     sheets: &NameSheets,
     times: &TimedStops<'_>,
 ) -> Result<String, AllocError> {

@@ -2,7 +2,7 @@
 
 use answer_lines::DayTime;
 use civil_dates::{Date, plain};
-use itinerary_texts::{Shown, Time};
+use itinerary_texts::{Shown, Time, ZoneClock};
 use jiff::tz::TimeZone;
 use jiff::{Error, SignedDuration, civil};
 use jiff_tz::TimeZone as PlainZone;
@@ -28,12 +28,6 @@ impl Clock {
         }
     }
 
-    /// A time of a service day, which the clock shows too.
-    pub fn time(&self, told: DayTime) -> Time {
-        let shown = self.shown(told.date, told.seconds).ok();
-        Time { told, shown }
-    }
-
     // Noon of the service day by the zone's clock, twelve hours back, and the seconds on (GTFS Schedule reference, "Field types", Time).
     fn shown(&self, day: Date, seconds: u32) -> Result<Shown, Error> {
         let zone = TimeZone::from_plain(self.zone);
@@ -45,5 +39,12 @@ impl Clock {
             offset: zone.to_offset(moment).seconds(),
             is_placed: self.is_placed,
         })
+    }
+}
+
+impl ZoneClock for Clock {
+    fn time(&self, told: DayTime) -> Time {
+        let shown = self.shown(told.date, told.seconds).ok();
+        Time { told, shown }
     }
 }
