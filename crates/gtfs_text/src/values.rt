@@ -115,7 +115,7 @@ pub fn time(text: &str) -> Option<u32>
 fn day(year: &[u8], month: &[u8], day: &[u8]) -> Option<Date>
     ensures { option_map ymd result ≡ day_of year.now month.now day.now }
 {
-    if !(is_digits(4, 4, year) && is_digits(2, 2, month) && is_digits(2, 2, day)) {
+    if !is_digits(4, 4, year) || !is_digits(2, 2, month) || !is_digits(2, 2, day) {
         return None;
     }
     let (year, month, day) = (decimal(year), decimal(month), decimal(day));

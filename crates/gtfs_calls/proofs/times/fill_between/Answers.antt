@@ -1,5 +1,5 @@
-use Rattle.std.proofs.Common.{◌+◌, ◌∙◌, arith, drop}
-use Rattle.gtfs_calls.proofs.TimeFacts.{timed-more, untimed-more, behind-timed, behind-untimed, rest-whole, nearer, far, near}
+use Rattle.std.proofs.Common.{◌+◌, ◌∙◌, arith, drop, refl}
+use Rattle.gtfs_calls.proofs.TimeFacts.{timed-more, untimed-more, behind-timed, behind-untimed, rest-whole, filled-whole, nearer, far, near}
 use Rattle.gtfs_calls.proofs.times.fill_between.Goals as goal
 use Rattle.gtfs_calls.proofs.times.fill_between.Goals.{in-Some+in_ok-push, in_default+in_ok-push-2}
 
@@ -30,3 +30,12 @@ loop-position-preserved c =
             after = w.after-is ∙ ahead;
           }
     ]
+
+pub loop-position-init : goal.loop-position-init
+loop-position-init c = record { done = c.clear.ensures.items; before = refl; after = c.nearest-after.ensures }
+
+pub step_back-after-requires : goal.step_back-after-requires
+step_back-after-requires c = far c.loop-position.after (drop c.loop-position.position c.args.calls.now) c.loop-position.invariant.after
+
+pub returns : goal.returns
+returns c = filled-whole c.args.calls.now c.loop-position.position c.loop-position.times.items (omega arith) c.loop-position.invariant.done
