@@ -13,5 +13,6 @@ pub mod CellFacts
 pub mod DigitFacts
 pub mod LawFacts
 pub mod PackedFacts
+pub mod PieceFacts
 pub mod TestFacts
 pub mod PlainBytes

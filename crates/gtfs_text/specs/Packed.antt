@@ -1,5 +1,5 @@
 -- How a sheet keeps a record in one text: for each field its length, and then its bytes.
-use Rattle.std.specs.Prelude.{Bool, ℕ, zero, suc, List, [], ◌∷◌, ◌++◌, length, take, drop, get_or, nat_le, nat_lt, if◌then◌else◌, ◌==◌, ◌&&◌}
+use Rattle.std.specs.Prelude.{◌≡◌, ◌≤◌, ◌-◌, Bool, ℕ, zero, suc, List, [], ◌∷◌, ◌++◌, length, take, drop, get_or, nat_le, nat_lt, if◌then◌else◌, ◌==◌, ◌&&◌}
 use Rattle.std.specs.Int.{w64, to_le_bytes, from_le_bytes}
 
 -- a length: one byte below 255, or 255 and eight bytes, the lowest first
@@ -43,3 +43,13 @@ fields_within (suc most) packed = if length packed == 0 then [] else first_field
 -- the fields of a packed record: each takes a byte at least, so they are no more than its bytes
 abbrev pub unpacked : List ℕ → List (List ℕ)
 unpacked packed = fields_within (length packed) packed
+
+-- a text in pieces from a place on, each up to one of these ends
+unfoldable pub pieces : ℕ → List ℕ → List ℕ → List (List ℕ)
+pieces start text [] = []
+pieces start text (end ∷ ends) = take (end - start) (drop start text) ∷ pieces end text ends
+
+-- from a place on no end is before the one before it, and the last is where the text ends
+unfoldable pub AreEnds : ℕ → List ℕ → ℕ → Type 0
+AreEnds start [] size = start ≡ size
+AreEnds start (end ∷ ends) size = (start ≤ end) × AreEnds end ends size

@@ -13,6 +13,7 @@ mod line_fields;
 mod lines;
 mod marks;
 mod packed;
+mod packed_records;
 mod records;
 mod row;
 mod sheet;

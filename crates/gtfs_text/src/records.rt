@@ -3,7 +3,7 @@
 ghost use Rattle.std.specs.Prelude.{◌≡◌, ◌<◌, ◌≤◌, ◌+◌, ◌^◌, true, [], length, take, map, None, OnOk, IfOk, IfErr};
 ghost use Rattle.std.specs.List.{list_all};
 ghost use Rattle.csv.specs.Reading.{default_config, error_kind, records, strip_bom};
-ghost use Rattle.csv.specs.Records.{fields_of, partial_of};
+ghost use Rattle.csv.specs.Records.{fields_of};
 ghost use Rattle.gtfs_text.specs.Faults.{fault_at, IsPlain};
 ghost use Rattle.gtfs_text.specs.Packed.{unpacked};
 ghost use Rattle.gtfs_text.specs.Reading.{ExplainsAfter, IsAtStart, records_left, text_left};
@@ -15,7 +15,8 @@ use crate::fault::SheetFault;
 use crate::lines::{Place, add_plain_lines};
 use crate::marks::after_marks;
 use crate::packed::pack;
-use csv::{ByteRecord, Error, ErrorKind, Reader, ReaderBuilder, StringRecord};
+use crate::packed_records::PackedRecords;
+use csv::{Error, ErrorKind, Reader, ReaderBuilder, StringRecord};
 use std::alloc::Global;
 use std::cell::Cell;
 
@@ -31,23 +32,22 @@ fn fault_of(error: &Error, row: usize) -> SheetFault
     }
 }
 
-// Adds the records that a reader gives, packed, each as one field, to none. Each is read into `record`, and packed in `packed`. `before` is
-// how many records of the file come before them.
+// Adds the records that a reader gives, packed, to none. Each is read into `record`, and packed in `packed`. `before` is how many records of
+// the file come before them.
 fn add_records(
     reader: &mut Reader<UpToCommas<'_>>,
     left: &Cell<usize>,
     before: usize,
     record: &mut StringRecord,
     packed: &mut Vec<u8>,
-    records: &mut ByteRecord,
+    records: &mut PackedRecords,
 ) -> Result<(), SheetFault>
     requires start { IsAtStart reader.old }
     requires few { before + length (text_left reader.old) < 2 ^ 64 }
-    requires empty { fields_of records.old ≡ [] }
-    requires whole { partial_of records.old ≡ [] }
-    ensures records { OnOk result (map unpacked (fields_of records.new) ≡ table_of (records_left reader.old)) }
-    ensures packed_text { OnOk result (list_all is_text (map unpacked (fields_of records.new)) ≡ true) }
-    ensures few { OnOk result (length (fields_of records.new) ≤ length (text_left reader.old)) }
+    requires empty { records.old ≡ [] }
+    ensures records { OnOk result (map unpacked records.new ≡ table_of (records_left reader.old)) }
+    ensures packed_text { OnOk result (list_all is_text (map unpacked records.new) ≡ true) }
+    ensures few { OnOk result (length records.new ≤ length (text_left reader.old)) }
     ensures text { OnOk result (bad_record (records_left reader.old) ≡ None) }
     ensures fault { IfErr result (ExplainsAfter before (records_left reader.old)) }
 {
@@ -56,7 +56,7 @@ fn add_records(
         match reader.read_record(record) {
             Ok(true) => {
                 pack(record, packed)?;
-                records.push_field(packed)?;
+                records.push(packed)?;
             }
             Ok(false) => return Ok(()),
             Err(error) => return Err(fault_of(&error, before + records.len())),
@@ -64,18 +64,18 @@ fn add_records(
     }
 }
 
-// The records of a text that doesn't begin with a mark, packed, each as one field, as a reader of CSV reads them. `before` is how many
-// records of the file come before them.
-fn packed_records(alloc: Global, text: &[u8], before: usize) -> Result<ByteRecord, SheetFault>
+// The records of a text that doesn't begin with a mark, packed, as a reader of CSV reads them. `before` is how many records of the file
+// come before them.
+fn packed_records(alloc: Global, text: &[u8], before: usize) -> Result<PackedRecords, SheetFault>
     requires no_mark { strip_bom text.now ≡ text.now }
     requires few { before + length text.now < 2 ^ 64 }
-    ensures records { IfOk result (λ packed. map unpacked (fields_of packed) ≡ table_of (records default_config text.now)) }
-    ensures packed_text { IfOk result (λ packed. list_all is_text (map unpacked (fields_of packed)) ≡ true) }
-    ensures few { IfOk result (λ packed. length (fields_of packed) ≤ length text.now) }
+    ensures records { IfOk result (λ packed. map unpacked packed ≡ table_of (records default_config text.now)) }
+    ensures packed_text { IfOk result (λ packed. list_all is_text (map unpacked packed) ≡ true) }
+    ensures few { IfOk result (λ packed. length packed ≤ length text.now) }
     ensures text { OnOk result (bad_record (records default_config text.now) ≡ None) }
     ensures fault { IfErr result (ExplainsAfter before (records default_config text.now)) }
 {
-    let mut records = ByteRecord::with_capacity(alloc, text.len(), 0)?;
+    let mut records = PackedRecords::with_capacity(alloc, text.len())?;
     let mut packed = Vec::new(alloc);
     let left = Cell::new(0);
     let source = UpToCommas {
@@ -103,11 +103,11 @@ fn packed_records(alloc: Global, text: &[u8], before: usize) -> Result<ByteRecor
 pub(crate) fn kept_records(
     alloc: Global,
     file: &[u8],
-) -> Result<(Vec<Place>, usize, ByteRecord), SheetFault>
+) -> Result<(Vec<Place>, usize, PackedRecords), SheetFault>
     ensures records { IfOk result
-        (λ kept. kept_table (take kept.1 file.now) kept.0.items (fields_of kept.2) ≡ table_of (records_of file.now)) }
-    ensures table_text { IfOk result (λ kept. list_all is_text (kept_table (take kept.1 file.now) kept.0.items (fields_of kept.2)) ≡ true) }
-    ensures few { IfOk result (λ kept. length kept.0.items + length (fields_of kept.2) ≤ length file.now) }
+        (λ kept. kept_table (take kept.1 file.now) kept.0.items kept.2 ≡ table_of (records_of file.now)) }
+    ensures table_text { IfOk result (λ kept. list_all is_text (kept_table (take kept.1 file.now) kept.0.items kept.2) ≡ true) }
+    ensures few { IfOk result (λ kept. length kept.0.items + length kept.2 ≤ length file.now) }
     ensures text { OnOk result (bad_record (records_of file.now) ≡ None) }
     ensures fault { IfErr result (Explains (records_of file.now)) }
 {

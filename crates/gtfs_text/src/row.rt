@@ -3,7 +3,6 @@
 ghost use Rattle.std.specs.Prelude.{◌≡◌, ◌<◌, ◌≤◌, ◌+◌, ◌==◌, ◌≢◌, true, [], ◌∷◌, ◌++◌, length, map, take, drop, get_or, MatchOption, IfOk, OnOk, IfSome, IsTrue};
 ghost use Rattle.std.specs.List.{list_all, position_from, position_or_len};
 ghost use Rattle.std.specs.Str.{bytes_eq};
-ghost use Rattle.csv.specs.Records.{fields_of};
 ghost use Rattle.gtfs_text.specs.Commas.{fields_from};
 ghost use Rattle.gtfs_text.specs.Lines.{is_comma, line_at};
 ghost use Rattle.gtfs_text.specs.Rows.{fields_in, kept_table};
@@ -13,8 +12,8 @@ use crate::comma_bits::commas_from;
 use crate::line_fields::add_marked;
 use crate::lines::Place;
 use crate::packed::split_field;
+use crate::packed_records::PackedRecords;
 use crate::spaces::without_spaces;
-use csv::ByteRecord;
 use std::alloc::{AllocError, Global};
 use std::simd::prelude::*;
 use std::str;
@@ -47,18 +46,15 @@ fn text_at(file: &[u8], place: Place) -> &[u8]
 pub(crate) fn row_at<'a>(
     file: &'a [u8],
     lines: &[Place],
-    packed: &'a ByteRecord,
+    packed: &'a PackedRecords,
     number: usize,
 ) -> Row<'a>
-    ensures { fields_in result ≡ get_or (kept_table file.now lines.now (fields_of packed.now)) number [] }
+    ensures { fields_in result ≡ get_or (kept_table file.now lines.now packed.now) number [] }
 {
     if number < lines.len() {
         return Row::Line(text_at(file, lines[number]));
     }
-    match packed.get(number - lines.len()) {
-        Some(packed) => Row::Packed(packed),
-        None => Row::Packed(b""),
-    }
+    Row::Packed(packed.get(number - lines.len()))
 }
 
 // How many of the eight bytes of a line from `at` on come before the first comma among them: eight if none of them is one.
@@ -177,13 +173,13 @@ fn add_line<'a>(text: &'a [u8], size: usize, fields: &mut Vec<&'a str>) -> Resul
 pub(crate) fn put_fields<'a>(
     file: &'a [u8],
     lines: &[Place],
-    packed: &'a ByteRecord,
+    packed: &'a PackedRecords,
     number: usize,
     fields: &mut Vec<&'a str>,
 ) -> Result<(), AllocError>
-    requires { is_text (get_or (kept_table file.now lines.now (fields_of packed.now)) number []) ≡ true }
+    requires { is_text (get_or (kept_table file.now lines.now packed.now) number []) ≡ true }
     ensures { OnOk result (map (λ field. field.now) fields.new.items
-        ≡ get_or (kept_table file.now lines.now (fields_of packed.now)) number []) }
+        ≡ get_or (kept_table file.now lines.now packed.now) number []) }
 {
     fields.clear();
     if number < lines.len() {

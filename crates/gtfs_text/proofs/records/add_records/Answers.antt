@@ -22,13 +22,12 @@ records-init c =
       flexible = start.flexible;
       ready = start.ready;
       config = start.config;
-      partial = c.requires.whole;
       packed_text = ap (λ (packed : List (List ℕ)). list_all is_text (map unpacked packed)) c.requires.empty;
       reached = (text_left c.args.reader.now, [], start.source, (sym start.state, refl), ap (map unpacked) c.requires.empty, refl);
     }
 
 -- the read took one more record
-more : (c : goal.In_ok-push_field-in-Ok-true) → (y : List ℕ) × (source_of (λ (r : UpToCommas). Some r.bytes.now) c.read_record.new.self ≡ Some y)
+more : (c : goal.In_ok-push-in-Ok-true) → (y : List ℕ) × (source_of (λ (r : UpToCommas). Some r.bytes.now) c.read_record.new.self ≡ Some y)
     × Reached default_config st.StartRecord (text_left c.args.reader.now) (c.records.invariant.reached.1 ++ fields_of c.read_record.new.row ∷ []) c.read_record.new.self.state y
 more c =
     let inv = c.records.invariant in
@@ -36,19 +35,19 @@ more c =
     rows-more (λ (r : UpToCommas). Some r.bytes.now) c.records.reader c.read_record.new.self (fields_of c.read_record.new.row) default_config st.StartRecord (text_left c.args.reader.now) inv.reached.0 inv.reached.1 inv.config inv.reached.2 inv.reached.3 s
 
 -- and it was packed
-kept : (c : goal.In_ok-push_field-in-Ok-true) → fields_of c.push_field.new.self ≡ fields_of c.records.records ++ c.pack.new.packed.items ∷ []
-kept c = rw (c.records.invariant.partial, c.deref.ensures.value) at c.in_ok-push_field-in-Ok-true.ensures.fields
+kept : (c : goal.In_ok-push-in-Ok-true) → c.push.new.self ≡ c.records.records ++ c.pack.new.packed.items ∷ []
+kept c = rw c.deref.ensures.value at c.in_ok-push-in-Ok-true.ensures
 
-unpacks : (c : goal.In_ok-push_field-in-Ok-true) → map unpacked (fields_of c.push_field.new.self) ≡ map unpacked (fields_of c.records.records) ++ map without_spaces (fields_of c.read_record.new.row) ∷ []
-unpacks c = ap (map unpacked) (kept c) ∙ map-append unpacked (fields_of c.records.records) (c.pack.new.packed.items ∷ [])
-    ∙ ap (λ (fields : List (List ℕ)). map unpacked (fields_of c.records.records) ++ fields ∷ []) c.in_ok-pack-in-Ok-true.ensures.fields
+unpacks : (c : goal.In_ok-push-in-Ok-true) → map unpacked c.push.new.self ≡ map unpacked c.records.records ++ map without_spaces (fields_of c.read_record.new.row) ∷ []
+unpacks c = ap (map unpacked) (kept c) ∙ map-append unpacked c.records.records (c.pack.new.packed.items ∷ [])
+    ∙ ap (λ (fields : List (List ℕ)). map unpacked c.records.records ++ fields ∷ []) c.in_ok-pack-in-Ok-true.ensures.fields
 
 pub records-smaller : goal.records-smaller
 records-smaller c =
     let inv = c.records.invariant in
     let few = reached_few st.StartRecord (text_left c.args.reader.now) (inv.reached.1 ++ fields_of c.read_record.new.row ∷ []) c.read_record.new.self.state (more c).0 refl (more c).2 in
-    let before = packed_count (fields_of c.records.records) inv.reached.1 inv.reached.4 in
-    let grown = ap length (kept c) ∙ length-append (fields_of c.records.records) (c.pack.new.packed.items ∷ []) in
+    let before = packed_count c.records.records inv.reached.1 inv.reached.4 in
+    let grown = ap length (kept c) ∙ length-append c.records.records (c.pack.new.packed.items ∷ []) in
     let rows = length-append inv.reached.1 (fields_of c.read_record.new.row ∷ []) in
     omega (arith, few, before, grown, rows)
 
@@ -61,8 +60,7 @@ records-preserved c =
       flexible = c.in-Ok-true.ensures.flexible ∙ inv.flexible;
       ready = inl (c.in-Ok-true.ensures.ready inv.trims);
       config = s.2 ∙ inv.config;
-      partial = c.in_ok-push_field-in-Ok-true.ensures.partial;
-      packed_text = rw (kept c, map-append unpacked (fields_of c.records.records) (c.pack.new.packed.items ∷ []), list_all-append is_text (map unpacked (fields_of c.records.records)) (unpacked c.pack.new.packed.items ∷ []), inv.packed_text, c.in_ok-pack-in-Ok-true.ensures.text) refl;
+      packed_text = rw (kept c, map-append unpacked c.records.records (c.pack.new.packed.items ∷ []), list_all-append is_text (map unpacked c.records.records) (unpacked c.pack.new.packed.items ∷ []), inv.packed_text, c.in_ok-pack-in-Ok-true.ensures.text) refl;
       reached = (
         (more c).0,
         inv.reached.1 ++ fields_of c.read_record.new.row ∷ [],
@@ -86,13 +84,13 @@ returns-in-Ok-false-clause-records c =
 pub returns-in-Ok-false-clause-few : goal.returns-in-Ok-false-clause-few
 returns-in-Ok-false-clause-few c =
     let inv = c.records.invariant in
-    packed_few (fields_of c.records.records) inv.reached.1 (text_left c.args.reader.now) c.records.reader.state inv.reached.0 inv.reached.4 inv.reached.3
+    packed_few c.records.records inv.reached.1 (text_left c.args.reader.now) c.records.reader.state inv.reached.0 inv.reached.4 inv.reached.3
 
 pub overflow_add-before : goal.overflow_add-before
 overflow_add-before c =
     let inv = c.records.invariant in
     let few : c.len.result ≤ length (text_left c.args.reader.now) =
-    rw c.len.ensures (packed_few (fields_of c.records.records) inv.reached.1 (text_left c.args.reader.now) c.records.reader.state inv.reached.0 inv.reached.4 inv.reached.3) in
+    rw c.len.ensures (packed_few c.records.records inv.reached.1 (text_left c.args.reader.now) c.records.reader.state inv.reached.0 inv.reached.4 inv.reached.3) in
     sum_fits c.args.before c.len.result (length (text_left c.args.reader.now)) c.requires.few few
 
 pub returns-in-Ok-false-clause-text : goal.returns-in-Ok-false-clause-text
@@ -109,5 +107,5 @@ returns-in-Err-clause-fault c =
     let inv = c.records.invariant in
     let s = c.in-Err.ensures.why inv.trims inv.ready in
     let at_end = fault_explained (λ (r : UpToCommas). Some r.bytes.now) c.records.reader c.read_record.new.self (error_kind c.in-Err.error) (text_left c.args.reader.now) inv.reached.0 inv.reached.1 inv.config inv.reached.2 inv.reached.3 inv.reached.5 s in
-    let row : c.len.result ≡ length inv.reached.1 = c.len.ensures ∙ packed_count (fields_of c.records.records) inv.reached.1 inv.reached.4 in
+    let row : c.len.result ≡ length inv.reached.1 = c.len.ensures ∙ packed_count c.records.records inv.reached.1 inv.reached.4 in
     rw (c.fault_of.ensures, row) (fault_after (error_kind c.in-Err.error) c.args.before (length inv.reached.1) (records_left c.args.reader.now) at_end)

@@ -1,7 +1,6 @@
-use Rattle.std.proofs.Common.{◌≡◌, true, map, [], List, ℕ, Some, ◌-◌, length}
+use Rattle.std.proofs.Common.{◌≡◌, true, map, List, ℕ, Some, ◌-◌, length}
 use Rattle.std.specs.List.{list_all}
 use Rattle.csv.specs.Reading.{Reached, Ready, default_config, source_of}
-use Rattle.csv.specs.Records.{fields_of, partial_of}
 use Rattle.csv.specs.declared.parser.State.TheVariants as st
 use Rattle.csv.specs.declared.reader.Trim.TheVariants as trim
 use Rattle.gtfs_text.specs.Packed.{unpacked}
@@ -16,13 +15,12 @@ invariant-records l = record {
   flexible : l.reader.flexible ≡ true;
   ready : Ready l.reader;
   config : l.reader.config ≡ default_config;
-  partial : partial_of l.records ≡ [];
-  packed_text : list_all is_text (map unpacked (fields_of l.records)) ≡ true;
+  packed_text : list_all is_text (map unpacked l.records) ≡ true;
   reached : (y : List ℕ) × (rows : List (List (List ℕ))) × (source_of (λ (r : UpToCommas). Some r.bytes.now) l.reader ≡ Some y)
       × Reached default_config st.StartRecord (text_left l.fn.reader) rows l.reader.state y
-      × (map unpacked (fields_of l.records) ≡ table_of rows)
+      × (map unpacked l.records ≡ table_of rows)
       × (list_all is_text rows ≡ true);
 }
 
 abbrev pub decreases-records : goal.decreases-records
-decreases-records l = length (text_left l.fn.reader) - length (fields_of l.records)
+decreases-records l = length (text_left l.fn.reader) - length l.records

@@ -5,7 +5,6 @@ use Rattle.std.proofs.lemmas.List.{length-map, map-append}
 use Rattle.std.proofs.lemmas.List.Folds.{list_all-append}
 use Rattle.std.proofs.lemmas.Result.{err_from_is_err_and}
 use Rattle.csv.specs.Reading.{default_config, records}
-use Rattle.csv.specs.Records.{fields_of}
 use Rattle.gtfs_text.specs.Lines.{between_commas, line_at, rows_at}
 use Rattle.gtfs_text.specs.Packed.{unpacked}
 use Rattle.gtfs_text.specs.Reading.{ExplainsAfter}
@@ -39,7 +38,7 @@ returns-clause-table_text c =
     let places = c.add_plain_lines.new.lines.items in
     let rows = rows_at c.args.file.now places in
     let lines : list_all is_text (table_of rows) ≡ true = trimmed_table rows c.in_ok-rest.ensures.utf8 in
-    let packed = map unpacked (fields_of c.in_ok-packed.packed) in
+    let packed = map unpacked c.in_ok-packed.packed in
     rw (same_rows (length c.args.file.now - length c.in_ok-rest.rest.now) c.args.file.now places c.in_ok-rest.ensures.before)
     (rw (list_all-append is_text (table_of rows) packed, lines) c.in_ok-packed.ensures.packed_text)
 
