@@ -5,8 +5,8 @@ ghost use Rattle.std.specs.Prelude.{◌≡◌, ◌≤◌, ◌-◌, [], ◌∷◌
 use std::alloc::{AllocError, Global};
 use std::marker::Model;
 
-/// Packed records, one after the other, so that all of their text stands in one piece. A record of a reader of CSV could hold them too, but
-/// whoever has a sheet would then load what that type reaches, which is thousands of modules of the toolchain.
+/// Packed records, one after the other, so that all of their text stands in one piece. A `ByteRecord` of `csv` could hold them too, but
+/// whoever has a sheet would then load what that type reaches.
 #[derive(Drop)]
 pub(crate) struct PackedRecords {
     text: Vec<u8>,

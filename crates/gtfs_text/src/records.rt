@@ -32,8 +32,8 @@ fn fault_of(error: &Error, row: usize) -> SheetFault
     }
 }
 
-// Adds the records that a reader gives, packed, to none. Each is read into `record`, and packed in `packed`. `before` is how many records of
-// the file come before them.
+// Adds the records that a reader gives, packed, to none. Each is read into `record`, and packed in `packed`. `before` is how many records
+// of the file come before them.
 fn add_records(
     reader: &mut Reader<UpToCommas<'_>>,
     left: &Cell<usize>,

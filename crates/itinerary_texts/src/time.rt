@@ -17,7 +17,7 @@ pub struct Time {
     pub shown: Option<Shown>,
 }
 
-/// The clock of a zone. Who only shows times knows no more of it: how a zone keeps its rule loads thousands of modules of the toolchain.
+/// The clock of a zone, for those who show times. They needn't know how it keeps the zone's rule, nor load what that takes.
 pub trait ZoneClock {
     /// A time of a service day, which the clock shows too.
     fn time(&self, told: DayTime) -> Time;
