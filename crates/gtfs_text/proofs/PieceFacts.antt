@@ -1,6 +1,6 @@
 -- Packed records as pieces of one text.
 use Rattle.std.proofs.Common.{◌≡◌, ℕ, zero, suc, ◌+◌, ◌-◌, ◌<◌, ◌≤◌, List, [], ◌∷◌, ◌++◌, length, get_or, take, drop, refl, sym, ◌∙◌, ap, arith, length-append}
-use Rattle.std.proofs.lemmas.List.{drop_at, take_all}
+use Rattle.std.proofs.lemmas.List.{drop_at, drop-append-le, length-drop, take-append-le, take_all}
 use Rattle.gtfs_text.specs.Packed.{pieces, AreEnds}
 
 -- the last end is where the text ends, so none is past it
@@ -10,15 +10,9 @@ ends_within start size [] is = omega (arith, is)
 ends_within start size (end ∷ ends) is = (let rest = ends_within end size ends is.1 in let low = is.0 in omega (arith, rest, low))
 
 -- a piece of a text is one of the same text with more after it
-take_in : (n : ℕ) (text more : List ℕ) → n ≤ length text → take n (text ++ more) ≡ take n text
-take_in zero text more h = refl
-take_in (suc n) [] more h = absurd (omega arith)
-take_in (suc n) (x ∷ text) more h = ap (λ xs. x ∷ xs) (take_in n text more (omega arith))
-
 piece_in : (start n : ℕ) (text more : List ℕ) → start + n ≤ length text → take n (drop start (text ++ more)) ≡ take n (drop start text)
-piece_in zero n text more h = take_in n text more (omega arith)
-piece_in (suc start) n [] more h = absurd (omega arith)
-piece_in (suc start) n (x ∷ text) more h = piece_in start n text more (omega arith)
+piece_in start n text more h =
+    ap (take n) (drop-append-le start text more (omega arith)) ∙ take-append-le n (drop start text) more (omega (arith, length-drop start text))
 
 -- one more record
 pub pieces_more : (start : ℕ) (text added ends : List ℕ) → AreEnds start ends (length text)

@@ -1,12 +1,12 @@
 //! Packed records, one after the other.
 
-ghost use Rattle.std.specs.Prelude.{◌≡◌, ◌≤◌, ◌-◌, [], ◌∷◌, ◌++◌, drop, get_or, length, take, IfOk, OnOk};
+ghost use Rattle.std.specs.Prelude.{◌≡◌, ◌≤◌, ◌-◌, [], ◌∷◌, ◌++◌, drop, get_or, length, take, IfOk, OnErr, OnOk};
 
 use std::alloc::{AllocError, Global};
 use std::marker::Model;
 
-/// Packed records, one after the other, so that all of their text stands in one piece. A `ByteRecord` of `csv` could hold them too, but
-/// whoever has a sheet would then load what that type reaches.
+/// Packed records, one after the other, so that all of their text stands in one piece. A `ByteRecord` of `csv` has the same, but each crate
+/// that names a sheet would load the modules of `csv` and `serde` for it.
 #[derive(Drop)]
 pub(crate) struct PackedRecords {
     text: Vec<u8>,
@@ -45,9 +45,10 @@ impl PackedRecords {
         })
     }
 
-    /// Adds a record. If memory is refused, there are those that there were.
+    /// Adds a record. If memory is refused, the records stay as they were.
     pub fn push(&mut self, record: &[u8]) -> Result<(), AllocError>
-        ensures { OnOk result (self.new ≡ self.old ++ record.now ∷ []) }
+        ensures added { OnOk result (self.new ≡ self.old ++ record.now ∷ []) }
+        ensures kept { OnErr result (self.new ≡ self.old) }
     {
         let end = self.text.len() + record.len();
         self.ends.push(end)?;

@@ -36,7 +36,7 @@ more c =
 
 -- and it was packed
 kept : (c : goal.In_ok-push-in-Ok-true) → c.push.new.self ≡ c.records.records ++ c.pack.new.packed.items ∷ []
-kept c = rw c.deref.ensures.value at c.in_ok-push-in-Ok-true.ensures
+kept c = rw c.deref.ensures.value at c.in_ok-push-in-Ok-true.ensures.added
 
 unpacks : (c : goal.In_ok-push-in-Ok-true) → map unpacked c.push.new.self ≡ map unpacked c.records.records ++ map without_spaces (fields_of c.read_record.new.row) ∷ []
 unpacks c = ap (map unpacked) (kept c) ∙ map-append unpacked c.records.records (c.pack.new.packed.items ∷ [])

@@ -14,8 +14,8 @@ invariant_of-self-in-Ok c =
     let ends = at_end i.ends.items c.push.new.self.items c.len.result (length c.args.record.now) (length i.text.items) size c.in_ok-push.ensures.items in
     rw (c.in-Ok.ensures.items, ends) (ends_more 0 i.text.items c.args.record.now i.ends.items c.self.invariant)
 
-pub returns-in-Ok : goal.returns-in-Ok
-returns-in-Ok c =
+pub returns-in-Ok-clause-added : goal.returns-in-Ok-clause-added
+returns-in-Ok-clause-added c =
     let i = c.self.inside in
     let held = i.text.ok.0 in
     let size : c.len.result ≡ length i.text.items = omega (arith, held, c.len.ensures) in
