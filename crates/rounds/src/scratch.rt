@@ -29,7 +29,7 @@ use stop_labels::Row;
 use timetable::{LATEST_MOMENT, Numbers, Rides, StopId, Timetable};
 
 /// Runs of the rounds over one timetable, one after the other. It keeps what the last run found, for the view of it.
-#[derive(Debug, Drop)]
+#[derive(Debug)]
 pub struct Scratch {
     rides: Rides,
     lines: Arc<Lines>,
@@ -38,6 +38,20 @@ pub struct Scratch {
     noted: Noted,
     source: StopId,
     rounds: Vec<Row>,
+}
+
+// By hand, so that a value goes by one call. A derived drop is taken apart at each exit of whoever holds one, and checks take longer.
+impl Drop for Scratch {
+    fn drop(self) {
+        let Scratch {
+            rides: _,
+            lines: _,
+            layers: _,
+            noted: _,
+            source: _,
+            rounds: _,
+        } = self;
+    }
 }
 
 // As many rounds as rides, with no labels.
