@@ -1,6 +1,6 @@
 //! frequencies.txt.
 
-ghost use Rattle.std.specs.Prelude.{◌≡◌, ◌<◌, ◌≤◌, length, Option, List, ℕ, IfOk, IfSome};
+ghost use Rattle.std.specs.Prelude.{◌≡◌, ◌<◌, ◌≤◌, [], length, Option, List, ℕ, IfOk, IfSome};
 ghost use Rattle.std.specs.List.{All, flat_map};
 ghost use Rattle.gtfs_rows.specs.declared.fault.FeedFile.TheVariants as files;
 ghost use Rattle.gtfs_rows.specs.Faults.{Answers};
@@ -109,6 +109,34 @@ pub fn read_row(
     })
 }
 
+// The rows, if each passes its tests. Their keys join `seen`.
+fn keep_rows(
+    alloc: Global,
+    sheet: &Sheet,
+    columns: FrequencyColumns,
+    trips: &Texts<'_>,
+    seen: &mut FrequencyKeys,
+) -> Result<Vec<Frequency>, FeedFault>
+    requires columns { AreFrequencyColumns sheet.now columns }
+    requires trips { length trips.now.keys ≤ 999_999_999 }
+    requires empty { seen.old.keys ≡ [] }
+    ensures rows { Answers (λ rows. rows.items) result
+        (flat_map (frequency_tests (texts_in trips.now.keys) sheet.now) (rows_of sheet.now))
+        (frequency_values (texts_in trips.now.keys) sheet.now) }
+    ensures known { IfOk result (λ rows. All (IsFrequency (length trips.now.keys)) rows.items) }
+{
+    let mut rows = Vec::new(alloc);
+    for row in filled_rows(sheet) {
+        let value = read_row(sheet, columns, trips, row)?;
+        let is_new = seen.insert((value.trip, value.start))?;
+        if !is_new {
+            return Err(FeedFault::new(FaultKind::DuplicateKey, FeedFile::Frequencies, row));
+        }
+        rows.push(value)?;
+    }
+    Ok(rows)
+}
+
 // The rows, if each passes its tests.
 fn read_rows(
     alloc: Global,
@@ -124,17 +152,8 @@ fn read_rows(
         (frequency_values (texts_in trips.now.keys) sheet.now) }
     ensures known { IfOk result (λ rows. All (IsFrequency (length trips.now.keys)) rows.items) }
 {
-    let mut seen: FrequencyKeys = IndexSet::with_hasher(alloc, hash_keys);
-    let mut rows = Vec::new(alloc);
-    for row in filled_rows(sheet) {
-        let value = read_row(sheet, columns, trips, row)?;
-        let is_new = seen.insert((value.trip, value.start))?;
-        if !is_new {
-            return Err(FeedFault::new(FaultKind::DuplicateKey, FeedFile::Frequencies, row));
-        }
-        rows.push(value)?;
-    }
-    Ok(rows)
+    let mut seen = IndexSet::with_hasher(alloc, hash_keys);
+    keep_rows(alloc, sheet, columns, trips, &mut seen)
 }
 
 // The rows of the file, if each of its tests holds.

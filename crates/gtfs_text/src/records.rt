@@ -64,6 +64,37 @@ fn add_records(
     }
 }
 
+// Adds the records of a text that doesn't begin with a mark, packed, to none, as a reader of CSV reads them. `before` is how many records
+// of the file come before them.
+fn add_text(
+    alloc: Global,
+    text: &[u8],
+    before: usize,
+    packed: &mut PackedRecords,
+) -> Result<(), SheetFault>
+    requires no_mark { strip_bom text.now ≡ text.now }
+    requires few { before + length text.now < 2 ^ 64 }
+    requires empty { packed.old ≡ [] }
+    ensures records { OnOk result (map unpacked packed.new ≡ table_of (records default_config text.now)) }
+    ensures packed_text { OnOk result (list_all is_text (map unpacked packed.new) ≡ true) }
+    ensures few { OnOk result (length packed.new ≤ length text.now) }
+    ensures text { OnOk result (bad_record (records default_config text.now) ≡ None) }
+    ensures fault { IfErr result (ExplainsAfter before (records default_config text.now)) }
+{
+    let mut fields = Vec::new(alloc);
+    let left = Cell::new(0);
+    let source = UpToCommas {
+        bytes: text,
+        left: &left,
+    };
+    let mut reader = ReaderBuilder::new()
+        .has_headers(false)
+        .flexible(true)
+        .from_reader(alloc, source);
+    let mut record = StringRecord::new(alloc);
+    add_records(&mut reader, &left, before, &mut record, &mut fields, packed)
+}
+
 // The records of a text that doesn't begin with a mark, packed, as a reader of CSV reads them. `before` is how many records of the file
 // come before them.
 fn packed_records(alloc: Global, text: &[u8], before: usize) -> Result<PackedRecords, SheetFault>
@@ -75,27 +106,9 @@ fn packed_records(alloc: Global, text: &[u8], before: usize) -> Result<PackedRec
     ensures text { OnOk result (bad_record (records default_config text.now) ≡ None) }
     ensures fault { IfErr result (ExplainsAfter before (records default_config text.now)) }
 {
-    let mut records = PackedRecords::with_capacity(alloc, text.len())?;
-    let mut packed = Vec::new(alloc);
-    let left = Cell::new(0);
-    let source = UpToCommas {
-        bytes: text,
-        left: &left,
-    };
-    let mut reader = ReaderBuilder::new()
-        .has_headers(false)
-        .flexible(true)
-        .from_reader(alloc, source);
-    let mut record = StringRecord::new(alloc);
-    add_records(
-        &mut reader,
-        &left,
-        before,
-        &mut record,
-        &mut packed,
-        &mut records,
-    )?;
-    Ok(records)
+    let mut packed = PackedRecords::with_capacity(alloc, text.len())?;
+    add_text(alloc, text, before, &mut packed)?;
+    Ok(packed)
 }
 
 /// The records of a file: the places of its plain lines, how many bytes these lines take with all that stands before and between them, and
