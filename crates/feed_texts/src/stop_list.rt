@@ -1,9 +1,9 @@
 //! Lists of stops as JSON.
 
+use feed_names::Place;
 use itinerary_texts::write_place_members;
 use json_writer::JsonWriter;
 use std::alloc::{AllocError, Global};
-use told_names::Place;
 
 /// A stop or a station of a list.
 #[derive(Drop)]

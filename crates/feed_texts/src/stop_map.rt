@@ -1,10 +1,10 @@
 //! Stops on a map: GeoJSON (RFC 7946).
 
 use crate::stop_list::{ListedStop, StopList};
+use feed_names::Place;
 use itinerary_texts::{begin_feature, begin_features, end_features, position_of};
 use json_writer::JsonWriter;
 use std::alloc::{AllocError, Global};
-use told_names::Place;
 
 // Writes where a stop is (RFC 7946, section 3.1.2): nowhere if the feed has no position of it.
 fn write_spot(out: &mut JsonWriter, place: &Place) {

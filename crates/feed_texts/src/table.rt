@@ -1,10 +1,11 @@
 //! The stops that one reaches, and how long one is on the way, as tables: CSV (RFC 4180), with a header.
 
-use crate::reach::ReachText;
-use crate::timed::TimesText;
+use crate::reach::{ReachText, ReachedText};
+use crate::timed::{TimedText, TimesText};
 use csv::{Terminator, Writer, WriterBuilder};
+use feed_names::Place;
 use std::alloc::{AllocError, Global};
-use told_names::Place;
+use std::fmt::Display;
 
 // The columns of a stop, by their names in GTFS Schedule, and three numbers.
 const REACH: [&str; 8] = [
@@ -37,65 +38,118 @@ fn text_of(text: &Option<String>) -> &str {
     }
 }
 
-// A number of degrees, if there is one.
-fn degrees(alloc: Global, number: Option<f64>) -> Result<String, AllocError> {
-    match number {
-        Some(number) => format!(in alloc; "{number}"),
-        None => Ok(String::new(alloc)),
+// Writes a field. Only memory may be refused to it.
+fn put(out: &mut Writer<Vec<u8>>, field: &str) -> Result<(), AllocError> {
+    match out.write_field(field.as_bytes()) {
+        Ok(()) => Ok(()),
+        Err(_) => Err(AllocError),
     }
 }
 
-// A number of seconds, if there is one.
-fn seconds(alloc: Global, number: Option<u32>) -> Result<String, AllocError> {
+// Writes what is shown as a field.
+fn put_shown<T: Display + Drop>(
+    alloc: Global,
+    out: &mut Writer<Vec<u8>>,
+    shown: T,
+) -> Result<(), AllocError> {
+    let text = format!(in alloc; "{shown}")?;
+    put(out, text.as_str())
+}
+
+// Writes a number as a field, which is empty if there is none.
+fn put_number<T: Display + Drop>(
+    alloc: Global,
+    out: &mut Writer<Vec<u8>>,
+    number: Option<T>,
+) -> Result<(), AllocError> {
     match number {
-        Some(number) => format!(in alloc; "{number}"),
-        None => Ok(String::new(alloc)),
+        Some(number) => put_shown(alloc, out, number),
+        None => put(out, ""),
     }
 }
 
-// Writes a row. Only memory may be refused to it.
-fn put_row(out: &mut Writer<Vec<u8>>, fields: &[&str; 8]) -> Result<(), AllocError> {
-    for field in fields {
-        if out.write_field(field.as_bytes()).is_err() {
-            return Err(AllocError);
-        }
-    }
+// Ends a row. Only memory may be refused to it.
+fn end_row(out: &mut Writer<Vec<u8>>) -> Result<(), AllocError> {
     match out.end_record() {
         Ok(()) => Ok(()),
         Err(_) => Err(AllocError),
     }
 }
 
-// Writes the row of a stop, with three numbers.
-fn put_stop(
-    alloc: Global,
-    out: &mut Writer<Vec<u8>>,
-    place: &Place,
-    numbers: [&str; 3],
-) -> Result<(), AllocError> {
-    let latitude = degrees(alloc, place.latitude)?;
-    let longitude = degrees(alloc, place.longitude)?;
-    let [first, second, third] = numbers;
-    let fields = [
-        place.id.as_str(),
-        text_of(&place.name),
-        text_of(&place.platform),
-        latitude.as_str(),
-        longitude.as_str(),
-        first,
-        second,
-        third,
-    ];
-    put_row(out, &fields)
+// Writes the header.
+fn put_header(out: &mut Writer<Vec<u8>>, columns: &[&str; 8]) -> Result<(), AllocError> {
+    for column in columns {
+        put(out, column)?;
+    }
+    end_row(out)
 }
 
-// Begins a table.
-fn begin(alloc: Global, header: &[&str; 8]) -> Result<Writer<Vec<u8>>, AllocError> {
-    let mut out = WriterBuilder::new()
+// Writes the fields of a stop, with which its row begins.
+fn put_place(alloc: Global, out: &mut Writer<Vec<u8>>, place: &Place) -> Result<(), AllocError> {
+    put(out, place.id.as_str())?;
+    put(out, text_of(&place.name))?;
+    put(out, text_of(&place.platform))?;
+    put_number(alloc, out, place.latitude)?;
+    put_number(alloc, out, place.longitude)
+}
+
+// Writes the row of a stop that one reaches.
+fn put_reached(
+    alloc: Global,
+    out: &mut Writer<Vec<u8>>,
+    reached: &ReachedText,
+) -> Result<(), AllocError> {
+    put_place(alloc, out, &reached.place)?;
+    put_shown(alloc, out, reached.arrival.told)?;
+    put_shown(alloc, out, reached.rides)?;
+    put_shown(alloc, out, reached.seconds)?;
+    end_row(out)
+}
+
+// Writes the row of a stop with its travel times.
+fn put_timed(
+    alloc: Global,
+    out: &mut Writer<Vec<u8>>,
+    timed: &TimedText,
+) -> Result<(), AllocError> {
+    put_place(alloc, out, &timed.place)?;
+    put_shown(alloc, out, timed.least)?;
+    put_number(alloc, out, timed.median)?;
+    put_number(alloc, out, timed.greatest)?;
+    end_row(out)
+}
+
+// Writes the stops that one reaches.
+fn put_reach(
+    alloc: Global,
+    out: &mut Writer<Vec<u8>>,
+    stops: &[ReachedText],
+) -> Result<(), AllocError> {
+    put_header(out, &REACH)?;
+    for reached in stops {
+        put_reached(alloc, out, reached)?;
+    }
+    Ok(())
+}
+
+// Writes the travel times to stops.
+fn put_times(
+    alloc: Global,
+    out: &mut Writer<Vec<u8>>,
+    stops: &[TimedText],
+) -> Result<(), AllocError> {
+    put_header(out, &TIMES)?;
+    for timed in stops {
+        put_timed(alloc, out, timed)?;
+    }
+    Ok(())
+}
+
+// A table without a row.
+fn empty_table(alloc: Global) -> Writer<Vec<u8>> {
+    WriterBuilder::new()
         .terminator(Terminator::CRLF)
-        .from_writer(Vec::new(alloc));
-    put_row(&mut out, header)?;
-    Ok(out)
+        .from_writer(Vec::new(alloc))
 }
 
 // The text of a table.
@@ -112,27 +166,15 @@ fn end(out: Writer<Vec<u8>>) -> Result<String, AllocError> {
 
 /// The stops that one reaches as CSV: the header and a row for each, in their order, each with its end. It fails only if memory runs out.
 pub fn reach_csv(alloc: Global, reach: &ReachText<'_>) -> Result<String, AllocError> {
-    let mut out = begin(alloc, &REACH)?;
-    for reached in &reach.stops {
-        let arrival = format!(in alloc; "{}", reached.arrival.told)?;
-        let rides = format!(in alloc; "{}", reached.rides)?;
-        let seconds = format!(in alloc; "{}", reached.seconds)?;
-        let numbers = [arrival.as_str(), rides.as_str(), seconds.as_str()];
-        put_stop(alloc, &mut out, &reached.place, numbers)?;
-    }
+    let mut out = empty_table(alloc);
+    put_reach(alloc, &mut out, &reach.stops)?;
     end(out)
 }
 
 /// The travel times to stops as CSV: the header and a row for each, in their order, each with its end. A number that isn't there is empty.
 /// It fails only if memory runs out.
 pub fn times_csv(alloc: Global, times: &TimesText<'_>) -> Result<String, AllocError> {
-    let mut out = begin(alloc, &TIMES)?;
-    for timed in &times.stops {
-        let least = seconds(alloc, Some(timed.least))?;
-        let median = seconds(alloc, timed.median)?;
-        let greatest = seconds(alloc, timed.greatest)?;
-        let numbers = [least.as_str(), median.as_str(), greatest.as_str()];
-        put_stop(alloc, &mut out, &timed.place, numbers)?;
-    }
+    let mut out = empty_table(alloc);
+    put_times(alloc, &mut out, &times.stops)?;
     end(out)
 }

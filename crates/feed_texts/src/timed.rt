@@ -1,10 +1,10 @@
 //! How long one is on the way, as JSON and as GeoJSON (RFC 7946).
 
 use crate::stop_map::{begin_stop, end_stop};
+use feed_names::Place;
 use itinerary_texts::{Time, begin_features, end_features, write_place, write_time};
 use json_writer::JsonWriter;
 use std::alloc::{AllocError, Global};
-use told_names::Place;
 
 /// How many seconds one is on the way to a stop, over the seconds of a window.
 #[derive(Drop)]

@@ -2,9 +2,9 @@
 
 use crate::folder::folder_hint;
 use crate::parts::{Part, PartsLine, add_fields, add_missing, opened};
+use crate::reading::{Field, fields_of_all};
 use crate::shown::text_of;
 use faults::{Fault, file_name};
-use faulty_fields::{Field, fields_of_all};
 use feed_texts::{FaultListWriter, FaultText, GivenText};
 use file_faults::FaultList;
 use gtfs_tables::{FaultKind, FeedFault};

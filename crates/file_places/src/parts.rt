@@ -1,7 +1,7 @@
 //! What a file has at the place of a fault.
 
+use crate::reading::{Field, fields_at, missing_columns};
 use faults::file_name;
-use faulty_fields::{Field, fields_at, missing_columns};
 use feed_texts::GivenText;
 use gtfs_tables::{FaultKind, FeedFault, FeedFile};
 use shown_ids::Shown;

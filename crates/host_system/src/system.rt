@@ -1,8 +1,8 @@
 //! The system that a program is started on.
 
-use build_meter::Meter;
+use crate::meter::Meter;
+use crate::teller::FolderTeller;
 use feed_files::{FeedReader, list_folder, open_feed};
-use folder_teller::FolderTeller;
 use gtfs_tables::Files;
 use program_system::System;
 use std::alloc::Global;

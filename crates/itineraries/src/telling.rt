@@ -7,9 +7,9 @@ use crate::wanted::names_for;
 use answer_lines::{Answer, DayTime, Point, Stage};
 use connection_lines::{Connection, Connections};
 use feed_basis::Basis;
+use feed_names::{NameSheets, Names, Place, Trip};
 use itinerary_texts::{Frequency, Itinerary, Journey, Leg, Stay, Time, Window, ZoneClock};
 use std::alloc::{AllocError, Global};
-use told_names::{NameSheets, Names, Place, Trip};
 
 /// What was asked.
 #[derive(Clone, Copy)]

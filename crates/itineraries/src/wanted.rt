@@ -5,8 +5,8 @@ use crate::telling::{Asked, Found};
 use crate::through::stops_between;
 use answer_lines::{Answer, Point, Stage};
 use feed_basis::Basis;
+use feed_names::{NameSheets, Names};
 use std::alloc::{AllocError, Global};
-use told_names::{NameSheets, Names};
 
 // The stops and trips whose names are wanted.
 #[derive(Drop)]

@@ -2,9 +2,9 @@
 
 use crate::itinerary::{Itinerary, Journey, Leg};
 use crate::plain::{write_iso, write_kind};
+use feed_names::{Place, Trip};
 use json_writer::JsonWriter;
 use std::alloc::{AllocError, Global};
-use told_names::{Place, Trip};
 
 /// A position: its longitude and its latitude, in degrees (RFC 7946, section 3.1.1).
 pub type Position = (f64, f64);

@@ -1,7 +1,7 @@
 //! What is reported of an answer.
 
 use crate::time::Time;
-use told_names::{Place, Trip};
+use feed_names::{Place, Trip};
 
 /// A place and a time there.
 #[derive(Drop)]

@@ -1,14 +1,27 @@
 //! Journeys for people.
 
 use crate::itinerary::{Itinerary, Journey, Kind, Leg, Window};
+use feed_names::{Place, Trip};
 use shown_ids::Shown;
 use std::alloc::{AllocError, Global};
 use std::{fmt, format};
-use told_names::{Place, Trip};
 
 // So many seconds in minutes, rounded up.
 fn minutes(seconds: u32) -> u32 {
     seconds.div_ceil(60)
+}
+
+// A text behind these words; nothing if there is no text.
+#[derive(Clone, Copy)]
+struct Behind<'a>(&'static str, &'a Option<String>);
+
+impl fmt::Display for Behind<'_> {
+    fn fmt<W: fmt::Write>(&self, f: &mut fmt::Formatter<W>) -> fmt::Result {
+        match self.1 {
+            Some(text) => write!(f, "{}{}", self.0, Shown(text.as_str())),
+            None => Ok(()),
+        }
+    }
 }
 
 // A place by its name, with its id and its platform.
@@ -17,14 +30,11 @@ struct PlaceText<'a>(&'a Place);
 
 impl fmt::Display for PlaceText<'_> {
     fn fmt<W: fmt::Write>(&self, f: &mut fmt::Formatter<W>) -> fmt::Result {
-        let place = self.0;
-        match &place.name {
-            Some(name) => write!(f, "{} ({})", Shown(name.as_str()), Shown(place.id.as_str()))?,
-            None => write!(f, "{}", Shown(place.id.as_str()))?,
-        }
-        match &place.platform {
-            Some(platform) => write!(f, ", platform {}", Shown(platform.as_str())),
-            None => Ok(()),
+        let id = Shown(self.0.id.as_str());
+        let platform = Behind(", platform ", &self.0.platform);
+        match &self.0.name {
+            Some(name) => write!(f, "{} ({id}){platform}", Shown(name.as_str())),
+            None => write!(f, "{id}{platform}"),
         }
     }
 }
@@ -46,16 +56,11 @@ fn route_name(trip: &Trip) -> Option<&str> {
 impl fmt::Display for TripText<'_> {
     fn fmt<W: fmt::Write>(&self, f: &mut fmt::Formatter<W>) -> fmt::Result {
         let trip = self.0;
+        let name = Behind(" ", &trip.short_name);
+        let headsign = Behind(" towards ", &trip.headsign);
         match route_name(trip) {
-            Some(route) => write!(f, "{}", Shown(route))?,
-            None => write!(f, "trip {}", Shown(trip.id.as_str()))?,
-        }
-        if let Some(name) = &trip.short_name {
-            write!(f, " {}", Shown(name.as_str()))?;
-        }
-        match &trip.headsign {
-            Some(headsign) => write!(f, " towards {}", Shown(headsign.as_str())),
-            None => Ok(()),
+            Some(route) => write!(f, "{}{name}{headsign}", Shown(route)),
+            None => write!(f, "trip {}{name}{headsign}", Shown(trip.id.as_str())),
         }
     }
 }
@@ -64,15 +69,13 @@ impl fmt::Display for Leg {
     fn fmt<W: fmt::Write>(&self, f: &mut fmt::Formatter<W>) -> fmt::Result {
         let (departure, arrival) = (&self.from.time, &self.to.time);
         match (self.kind, &self.trip) {
-            (Kind::Ride, Some(trip)) => {
-                writeln!(
-                    f,
-                    "  {departure} board {} at {}",
-                    TripText(trip),
-                    PlaceText(&self.from.place)
-                )?;
-                writeln!(f, "  {arrival} alight at {}", PlaceText(&self.to.place))
-            }
+            (Kind::Ride, Some(trip)) => writeln!(
+                f,
+                "  {departure} board {} at {}\n  {arrival} alight at {}",
+                TripText(trip),
+                PlaceText(&self.from.place),
+                PlaceText(&self.to.place)
+            ),
             _ => writeln!(
                 f,
                 "  {departure} walk {} min to {}",
@@ -105,19 +108,22 @@ impl fmt::Display for Journey {
     }
 }
 
-// Writes the way on foot, if one may walk. Gives whether it did.
+// Writes the way on foot, if one may walk, or else that there is no journey, if there is none.
 fn write_walk<W: fmt::Write>(
     f: &mut fmt::Formatter<W>,
     window: &Option<Window>,
-) -> Result<bool, fmt::Error> {
-    let Some(window) = window else {
-        return Ok(false);
-    };
-    let Some(seconds) = window.walk_seconds else {
-        return Ok(false);
-    };
-    writeln!(f, "on foot {} min", minutes(seconds))?;
-    Ok(true)
+    journeys: &[Journey],
+) -> fmt::Result {
+    match window {
+        Some(
+            Window {
+                walk_seconds: Some(seconds),
+                ..
+            },
+        ) => { writeln!(f, "on foot {} min", minutes(*seconds)) }
+        _ if journeys.is_empty() => writeln!(f, "no journey"),
+        _ => Ok(()),
+    }
 }
 
 // Writes from when on connections aren't reported.
@@ -138,10 +144,7 @@ impl fmt::Display for Itinerary<'_> {
             PlaceText(&self.from),
             PlaceText(&self.to)
         )?;
-        let walks = write_walk(f, &self.window)?;
-        if self.journeys.is_empty() && !walks {
-            writeln!(f, "no journey")?;
-        }
+        write_walk(f, &self.window, &self.journeys)?;
         for journey in &self.journeys {
             write!(f, "\n{journey}")?;
         }

@@ -2,9 +2,9 @@
 
 use crate::itinerary::{Frequency, Itinerary, Journey, Kind, Leg, Stay, Window};
 use crate::time::Time;
+use feed_names::{Place, Route, Trip};
 use json_writer::JsonWriter;
 use std::alloc::{AllocError, Global};
-use told_names::{Place, Route, Trip};
 
 /// Writes how one gets on.
 pub(crate) fn write_kind(out: &mut JsonWriter, kind: Kind) {

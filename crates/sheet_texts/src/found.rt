@@ -1,6 +1,7 @@
 //! Stops that are searched for, and what a feed has.
 
 use crate::texts::{line, stops_text};
+use feed_names::{NameSheets, Place};
 use feed_report::{FeedReport, is_feed_file};
 use feed_texts::{FeedText, ListedStop, StopList, feed_json};
 use gtfs_text::Sheet;
@@ -9,7 +10,6 @@ use option_words::{Format, StopSearch, Style};
 use std::alloc::{AllocError, Global};
 use std::format;
 use stop_search::{FIELDS, Listing, StopRow, list_stops};
-use told_names::{NameSheets, Place};
 
 // The listed stops as lines, perhaps with the names of the fields first.
 fn listing_lines(alloc: Global, listing: &Listing<'_>, header: bool) -> Result<String, AllocError> {

@@ -3,6 +3,7 @@
 #![tactic(auto)]
 
 mod found;
+mod names;
 mod reached;
 mod texts;
 mod timed;

@@ -1,21 +1,22 @@
 //! The stops that one reaches, in formats. Each call fails only if memory runs out.
 
+use crate::names::names_of;
 use crate::texts::line;
 use answer_lines::{Reach, ReachedStop};
+use feed_names::{NameSheets, Names};
 use feed_texts::{ReachText, ReachedText, reach_csv, reach_geojson, reach_json};
 use itinerary_texts::ZoneClock;
 use option_words::Format;
 use std::alloc::{AllocError, Global};
-use told_names::{NameSheets, Names};
 
-// The ids of the stop that one leaves and of those that one reaches.
+// The id of a stop.
+fn id_of<'r>(reached: &ReachedStop<'r>) -> &'r str {
+    reached.stop
+}
+
+// The ids of the stops that one reaches.
 fn ids_of<'r>(alloc: Global, reach: &Reach<'r>) -> Result<Vec<&'r str>, AllocError> {
-    let mut ids = Vec::with_capacity(alloc, reach.stops.len())?;
-    ids.push(reach.from)?;
-    for reached in &reach.stops {
-        ids.push(reached.stop)?;
-    }
-    Ok(ids)
+    reach.stops.iter().map(id_of).collect(alloc)
 }
 
 // A stop that one reaches, as the clock and the names say it.
@@ -74,12 +75,6 @@ fn text_by<C: ZoneClock>(
     text_of(alloc, format, &told)
 }
 
-// The names of the stop that one leaves and of those that one reaches.
-fn names_of(alloc: Global, sheets: &NameSheets, reach: &Reach<'_>) -> Result<Names, AllocError> {
-    let ids = ids_of(alloc, reach)?;
-    Names::of(alloc, sheets, &ids, &[])
-}
-
 /// The stops that one reaches in a format, with what the sheets have of them.
 pub fn reach_text<C: ZoneClock>(
     alloc: Global,
@@ -89,6 +84,6 @@ pub fn reach_text<C: ZoneClock>(
     sheets: &NameSheets,
     reach: &Reach<'_>,
 ) -> Result<String, AllocError> {
-    let names = names_of(alloc, sheets, reach)?;
+    let names = names_of(alloc, sheets, reach.from, ids_of(alloc, reach)?)?;
     text_by(alloc, format, command, clock, &names, reach)
 }

@@ -1,21 +1,22 @@
 //! How long one is on the way, in formats. Each call fails only if memory runs out.
 
+use crate::names::names_of;
 use crate::texts::line;
 use answer_lines::{TimedStop, TimedStops};
+use feed_names::{NameSheets, Names};
 use feed_texts::{TimedText, TimesText, times_csv, times_geojson, times_json};
 use itinerary_texts::ZoneClock;
 use option_words::Format;
 use std::alloc::{AllocError, Global};
-use told_names::{NameSheets, Names};
 
-// The ids of the stop that one leaves and of those that one goes to.
+// The id of a stop.
+fn id_of<'r>(timed: &TimedStop<'r>) -> &'r str {
+    timed.stop
+}
+
+// The ids of the stops that one goes to.
 fn ids_of<'r>(alloc: Global, times: &TimedStops<'r>) -> Result<Vec<&'r str>, AllocError> {
-    let mut ids = Vec::with_capacity(alloc, times.stops.len())?;
-    ids.push(times.from)?;
-    for timed in &times.stops {
-        ids.push(timed.stop)?;
-    }
-    Ok(ids)
+    times.stops.iter().map(id_of).collect(alloc)
 }
 
 // A stop with its names.
@@ -69,16 +70,6 @@ fn text_by<C: ZoneClock>(
     text_of(alloc, format, &told)
 }
 
-// The names of the stop that one leaves and of those that one goes to.
-fn names_of(
-    alloc: Global,
-    sheets: &NameSheets,
-    times: &TimedStops<'_>,
-) -> Result<Names, AllocError> {
-    let ids = ids_of(alloc, times)?;
-    Names::of(alloc, sheets, &ids, &[])
-}
-
 /// The travel times to stops in a format, with what the sheets have of these.
 pub fn times_text<C: ZoneClock>(
     alloc: Global,
@@ -88,6 +79,6 @@ pub fn times_text<C: ZoneClock>(
     sheets: &NameSheets,
     times: &TimedStops<'_>,
 ) -> Result<String, AllocError> {
-    let names = names_of(alloc, sheets, times)?;
+    let names = names_of(alloc, sheets, times.from, ids_of(alloc, times)?)?;
     text_by(alloc, format, command, clock, &names, times)
 }

@@ -2,6 +2,7 @@
 
 ghost use Rattle.printing.specs.Tellings.{any_text};
 
+use crate::clock::Clock;
 use crate::replies::{Lookup, MEMORY_REFUSED, reply_text};
 use answer_lines::{Answer, Reach, Report, TimedStops};
 use command_line::{Given, Plan};
@@ -9,7 +10,7 @@ use connection_lines::Connections;
 use fault_places::{fault_json, hint};
 use faults::Fault;
 use feed_basis::Basis;
-use feed_names::open_names;
+use feed_names::{NameSheets, Names, open_names};
 use feed_report::FeedReport;
 use feed_texts::{BuildCount, ListedStop, StopList};
 use file_faults::FaultList;
@@ -27,8 +28,6 @@ use sheet_texts::{
 };
 use std::alloc::{AllocError, Global};
 use std::slice;
-use told_names::{NameSheets, Names};
-use zone_clock::Clock;
 
 // The text of what was found, with the names that the sheets have.
 fn itinerary_text(
@@ -68,8 +67,7 @@ impl<'r> FolderTeller<'r> {
 
     // The names of the whole feed.
     fn names(&self, alloc: Global, folder: &str) -> Result<Names, AllocError> {
-        let sheets = self.sheets(alloc, folder)?;
-        Names::all(alloc, &sheets)
+        Names::all(alloc, &self.sheets(alloc, folder)?)
     }
 
     // The text of what was found, with the names that the folder has.
@@ -246,10 +244,9 @@ impl Teller for FolderTeller<'_> {
     }
 
     fn lookup(&self, alloc: Global, plan: &Plan<'_>) -> Result<Lookup, AllocError> {
-        Ok(Lookup {
-            names: self.names(alloc, plan.settings.feed)?,
-            clock: Clock::of(plan.settings.zone),
-        })
+        let zone = String::from_str(alloc, plan.settings.zone)?;
+        let names = self.names(alloc, plan.settings.feed)?;
+        Ok(Lookup { names, zone })
     }
 
     fn reply(

@@ -25,6 +25,43 @@ fn unread(error: &Error) -> Result<bool, AllocError> {
     }
 }
 
+/// The records of a file, of which the header and one more are held.
+#[derive(Drop)]
+struct Records<R: Read> {
+    reader: Reader<R>,
+    header: StringRecord,
+    row: StringRecord,
+}
+
+impl<R: Read + Drop> Records<R> {
+    /// The records of a file by its bytes: none is read yet. A header is a record as any other.
+    fn new(alloc: Global, source: R) -> Records<R> {
+        Records {
+            reader: ReaderBuilder::new()
+                .has_headers(false)
+                .flexible(true)
+                .from_reader(alloc, source),
+            header: StringRecord::new(alloc),
+            row: StringRecord::new(alloc),
+        }
+    }
+
+    /// Reads the first record as the header. False if there is none, or it can't be read.
+    fn read_header(&mut self) -> Result<bool, AllocError> {
+        next(&mut self.reader, &mut self.header)
+    }
+
+    /// Reads on by so many records, and holds the last of them. False if there are fewer, or one can't be read.
+    fn read_on(&mut self, records: usize) -> Result<bool, AllocError> {
+        for _ in 0..records {
+            if !next(&mut self.reader, &mut self.row)? {
+                return Ok(false);
+            }
+        }
+        Ok(true)
+    }
+}
+
 // Reads the next record. False if there is none, or it can't be read.
 fn next<R: Read + Drop>(
     reader: &mut Reader<R>,
@@ -34,14 +71,6 @@ fn next<R: Read + Drop>(
         Ok(found) => Ok(found),
         Err(error) => unread(&error),
     }
-}
-
-// A reader of a file's records, in which a header is a record as any other.
-fn records<R: Read + Drop>(alloc: Global, source: R) -> Reader<R> {
-    ReaderBuilder::new()
-        .has_headers(false)
-        .flexible(true)
-        .from_reader(alloc, source)
 }
 
 // The place of a column in a header: of several the first.
@@ -101,6 +130,18 @@ fn fields_of(
     Ok(fields)
 }
 
+// The fields that a fault is about: none if it is of no row, or there is no such row.
+fn fields_in<R: Read + Drop>(
+    alloc: Global,
+    records: &mut Records<R>,
+    fault: &FeedFault,
+) -> Result<Vec<Field>, AllocError> {
+    if fault.row == 0 || !records.read_header()? || !records.read_on(fault.row)? {
+        return Ok(Vec::new(alloc));
+    }
+    fields_of(alloc, fault, &records.header, &records.row)
+}
+
 /// The fields of the file that a fault of the feed is about, by the file's bytes. For a text that its column doesn't take they are the
 /// first such; for other faults of a row all that the fault may be about. There are none for a fault of no row, and if the file no
 /// longer has the row. It holds one record at a time, and fails only if memory runs out.
@@ -109,18 +150,8 @@ pub fn fields_at<R: Read + Drop>(
     source: R,
     fault: &FeedFault,
 ) -> Result<Vec<Field>, AllocError> {
-    let mut reader = records(alloc, source);
-    let mut header = StringRecord::new(alloc);
-    let mut row = StringRecord::new(alloc);
-    if fault.row == 0 || !next(&mut reader, &mut header)? {
-        return Ok(Vec::new(alloc));
-    }
-    for _ in 0..fault.row {
-        if !next(&mut reader, &mut row)? {
-            return Ok(Vec::new(alloc));
-        }
-    }
-    fields_of(alloc, fault, &header, &row)
+    let mut records = Records::new(alloc, source);
+    fields_in(alloc, &mut records, fault)
 }
 
 // The rows of faults, each with its fault's place among them, in the order of rows.
@@ -133,21 +164,6 @@ fn rows_in_order(alloc: Global, faults: &[FeedFault]) -> Result<Vec<(usize, usiz
     Ok(rows)
 }
 
-// Reads on from a row to another. False if there is no such row.
-fn read_on<R: Read + Drop>(
-    reader: &mut Reader<R>,
-    record: &mut StringRecord,
-    from: usize,
-    to: usize,
-) -> Result<bool, AllocError> {
-    for _ in from..to {
-        if !next(reader, record)? {
-            return Ok(false);
-        }
-    }
-    Ok(true)
-}
-
 // An empty list of fields for each fault.
 fn none_yet(alloc: Global, faults: &[FeedFault]) -> Result<Vec<Vec<Field>>, AllocError> {
     let mut found = Vec::new(alloc);
@@ -157,19 +173,54 @@ fn none_yet(alloc: Global, faults: &[FeedFault]) -> Result<Vec<Vec<Field>>, Allo
     Ok(found)
 }
 
-// Puts the fields of the fault at a place.
-fn put_fields(
+// Puts the fields of the fault at a place, if it is of a row.
+fn put_fields<R: Read + Drop>(
     alloc: Global,
     found: &mut Vec<Vec<Field>>,
     faults: &[FeedFault],
     place: usize,
-    header: &StringRecord,
-    row: &StringRecord,
+    records: &Records<R>,
 ) -> Result<(), AllocError> {
     if let (Some(slot), Some(fault)) = (found.get_mut(place), faults.get(place)) {
-        *slot = fields_of(alloc, fault, header, row)?;
+        if fault.row > 0 {
+            *slot = fields_of(alloc, fault, &records.header, &records.row)?;
+        }
     }
     Ok(())
+}
+
+// Puts the fields of each of these faults, whose rows are in order, as far as the file has the rows.
+fn put_all<R: Read + Drop>(
+    alloc: Global,
+    records: &mut Records<R>,
+    faults: &[FeedFault],
+    rows: &[(usize, usize)],
+    found: &mut Vec<Vec<Field>>,
+) -> Result<(), AllocError> {
+    if !records.read_header()? {
+        return Ok(());
+    }
+    let mut passed = 0;
+    for (row, place) in rows {
+        if !records.read_on(row.saturating_sub(passed))? {
+            return Ok(());
+        }
+        passed = *row;
+        put_fields(alloc, found, faults, *place, records)?;
+    }
+    Ok(())
+}
+
+// The fields that each of these faults is about.
+fn all_fields<R: Read + Drop>(
+    alloc: Global,
+    records: &mut Records<R>,
+    faults: &[FeedFault],
+) -> Result<Vec<Vec<Field>>, AllocError> {
+    let rows = rows_in_order(alloc, faults)?;
+    let mut found = none_yet(alloc, faults)?;
+    put_all(alloc, records, faults, rows.as_slice(), &mut found)?;
+    Ok(found)
 }
 
 /// The fields of a file that each of these faults of it is about, in the order of the faults, each as `fields_at` gives them. The file is
@@ -179,24 +230,24 @@ pub fn fields_of_all<R: Read + Drop>(
     source: R,
     faults: &[FeedFault],
 ) -> Result<Vec<Vec<Field>>, AllocError> {
-    let mut found = none_yet(alloc, faults)?;
-    let mut reader = records(alloc, source);
-    let mut header = StringRecord::new(alloc);
-    let mut record = StringRecord::new(alloc);
-    if !next(&mut reader, &mut header)? {
-        return Ok(found);
-    }
-    let mut passed = 0;
-    for (row, place) in rows_in_order(alloc, faults)? {
-        if !read_on(&mut reader, &mut record, passed, row)? {
-            return Ok(found);
+    let mut records = Records::new(alloc, source);
+    all_fields(alloc, &mut records, faults)
+}
+
+// The columns that a file must have and its header lacks.
+fn lacking<R: Read + Drop>(
+    alloc: Global,
+    records: &mut Records<R>,
+    file: FeedFile,
+) -> Result<Vec<&'static str>, AllocError> {
+    let mut missing = Vec::new(alloc);
+    records.read_header()?;
+    for column in required(file) {
+        if place_of(&records.header, column).is_none() {
+            missing.push(*column)?;
         }
-        passed = row;
-        if row > 0 {
-            put_fields(alloc, &mut found, faults, place, &header, &record)?;
-        }
     }
-    Ok(found)
+    Ok(missing)
 }
 
 /// The columns that a file must have and its header lacks, by the file's bytes. It fails only if memory runs out.
@@ -205,14 +256,6 @@ pub fn missing_columns<R: Read + Drop>(
     source: R,
     file: FeedFile,
 ) -> Result<Vec<&'static str>, AllocError> {
-    let mut reader = records(alloc, source);
-    let mut header = StringRecord::new(alloc);
-    let mut missing = Vec::new(alloc);
-    next(&mut reader, &mut header)?;
-    for column in required(file) {
-        if place_of(&header, column).is_none() {
-            missing.push(*column)?;
-        }
-    }
-    Ok(missing)
+    let mut records = Records::new(alloc, source);
+    lacking(alloc, &mut records, file)
 }

@@ -2,17 +2,27 @@
 
 use crate::named::{Place, Route, Trip};
 use crate::tables::{ids_of, route_table, table_of};
-use feed_names::{RouteName, StopName, TripName};
+use crate::texts::{RouteName, StopName, TripName};
 use gtfs_text::Sheet;
 use std::alloc::{AllocError, Global};
 use std::collections::BTreeMap;
 
 /// The sheets of a feed that names are read from, if they are there.
-#[derive(Drop)]
 pub struct NameSheets {
     pub stops: Option<Sheet>,
     pub trips: Option<Sheet>,
     pub routes: Option<Sheet>,
+}
+
+// By hand, so that a value goes by one call. A derived drop is taken apart at each exit of whoever holds one, and checks take longer.
+impl Drop for NameSheets {
+    fn drop(self) {
+        let NameSheets {
+            stops: _,
+            trips: _,
+            routes: _,
+        } = self;
+    }
 }
 
 // A copy of a text, if there is one.
@@ -54,11 +64,21 @@ fn named_route(alloc: Global, id: &str, route: &RouteName) -> Result<Route, Allo
 }
 
 /// Names of stops, trips and routes, by their ids.
-#[derive(Drop)]
 pub struct Names {
     stops: BTreeMap<String, StopName>,
     trips: BTreeMap<String, TripName>,
     routes: BTreeMap<String, RouteName>,
+}
+
+// By hand, so that a value goes by one call. A derived drop is taken apart at each exit of whoever holds one, and checks take longer.
+impl Drop for Names {
+    fn drop(self) {
+        let Names {
+            stops: _,
+            trips: _,
+            routes: _,
+        } = self;
+    }
 }
 
 impl Names {

@@ -1,6 +1,6 @@
 //! What the files of names say of ids.
 
-use feed_names::{NamedRow, RouteName, TripName, names_of};
+use crate::texts::{NamedRow, RouteName, TripName, names_of};
 use gtfs_text::Sheet;
 use std::alloc::{AllocError, Global};
 use std::collections::{BTreeMap, BTreeSet};
