@@ -70,6 +70,17 @@ pub fn between<'a>(
     Ok(Asked { from, to, depart })
 }
 
+// The least arrival of one ride between the stops, over the basis's network.
+fn earliest_between(basis: &Basis, network: &Network, asked: Asked) -> Answer
+    requires network { network.now ≡ basis.now.timetable }
+    ensures { IsDirect basis.now (asked.from ∷ []) (asked.to ∷ []) asked.depart result }
+{
+    match network.earliest(asked.from, asked.to, asked.depart) {
+        None => Answer::NoRide,
+        Some(leg) => Answer::Arrive(basis.day_time(basis.timetable().arrival_of(leg))),
+    }
+}
+
 /// The least arrival of one ride from the question's stop to its other one, without walks, for one who is there at the moment.
 pub fn direct<'a>(
     alloc: Global,
@@ -82,11 +93,7 @@ pub fn direct<'a>(
 {
     let asked = between(basis, question, moment)?;
     let network = basis.network(alloc)?;
-    let answer = match network.earliest(asked.from, asked.to, asked.depart) {
-        None => Answer::NoRide,
-        Some(leg) => Answer::Arrive(basis.day_time(basis.timetable().arrival_of(leg))),
-    };
-    Ok(answer)
+    Ok(earliest_between(basis, &network, asked))
 }
 
 // The best numbers between the stops, over journeys of at most `rides` rides. No lines are made for them.

@@ -1,12 +1,15 @@
 //! What questions are asked of.
 
-ghost use Rattle.std.specs.Prelude.{◌≡◌, ◌∷◌, ◌<◌, [], true, IfOk, IfErr, IfSome, OnOk, is_some, option_map};
+ghost use Rattle.std.specs.Prelude.{◌≡◌, ◌∷◌, ◌<◌, ◌≤◌, [], true, IfOk, IfErr, IfSome, OnOk, is_some, option_map};
 ghost use Rattle.std.specs.Arc.{arc_value};
 ghost use Rattle.answer_lines.specs.Moments.{TellsMoment};
 ghost use Rattle.feed_basis.specs.Basis.{AreTablesOf, IsBasis, IsSound, IsTold};
 ghost use Rattle.feed_basis.specs.BasisFaults.{IsBasisFault, IsKeyedFault};
 ghost use Rattle.feed_basis.specs.Ids.{stop_alone};
 ghost use Rattle.feed_ids.specs.Groups.{group};
+ghost use Rattle.feed_ids.specs.Names.{KnowsStops};
+ghost use Rattle.feed_timetable.specs.Answers.{IsFault, IsTimetable};
+ghost use Rattle.feed_timetable.specs.Names.{AreNamesOf};
 ghost use Rattle.gtfs_tables.specs.Feed.{Feed, AreReaders};
 ghost use Rattle.service_days.specs.Answers.{IsMoment};
 ghost use Rattle.timetable.specs.Table.{IsTable, stops_of};
@@ -17,7 +20,7 @@ use direct_connections::Network;
 use faults::Fault;
 use feed_ids::{Groups, Names};
 use feed_timetable::{assemble, names_of, repeats_of};
-use gtfs_tables::{Files, Frequency, Tables, read_tables};
+use gtfs_tables::{FeedFault, Files, Frequency, Tables, read_tables};
 use options::Settings;
 use service_days::Cover;
 use service_span::{Idle, idle_of};
@@ -156,6 +159,36 @@ impl Basis {
     }
 }
 
+// The timetable of a feed's tables on the covered days, which others may hold too.
+fn shared_timetable(
+    alloc: Global,
+    tables: &Tables,
+    cover: &Cover,
+    default_walk: u32,
+) -> Result<Arc<Timetable>, FeedFault>
+    requires { default_walk ≤ 86_400 }
+    ensures valid { IfOk result (λ timetable. IsTable (arc_value timetable)) }
+    ensures ok { IfOk result (λ timetable. IsTimetable tables.now cover.now default_walk (arc_value timetable)) }
+    ensures fault { IfErr result (IsFault tables.now cover.now default_walk) }
+{
+    let timetable = assemble(alloc, tables, cover, default_walk)?;
+    Ok(Arc::new(alloc, timetable)?)
+}
+
+// The ids of a feed's tables, which others may hold too.
+fn shared_names(
+    alloc: Global,
+    hash_keys: RandomState,
+    tables: &Tables,
+) -> Result<Arc<Names>, AllocError>
+    ensures known { IfOk result (λ names. KnowsStops (arc_value names)) }
+    ensures named { IfOk result (λ names. AreNamesOf tables.now (arc_value names)) }
+{
+    let names = names_of(alloc, hash_keys, tables)?;
+    names.know_their_stops();
+    Ok(Arc::new(alloc, names)?)
+}
+
 // The timetable of a feed's tables on the days from the first one on.
 fn basis_over<'a>(
     alloc: Global,
@@ -168,17 +201,10 @@ fn basis_over<'a>(
     ensures fault { (feed : Feed) → AreTablesOf feed tables.now → IfErr result (IsKeyedFault feed settings.now first) }
 {
     let cover = Cover::new(first, settings.days, settings.zone)?;
-    let timetable = assemble(alloc, tables, &cover, settings.default_walk)?;
-    let names = names_of(alloc, hash_keys, tables)?;
-    names.know_their_stops();
-    let repeats = repeats_of(alloc, tables)?;
+    let timetable = shared_timetable(alloc, tables, &cover, settings.default_walk)?;
     let idle = idle_of(alloc, tables, &cover)?;
-    let Ok(timetable) = Arc::new(alloc, timetable) else {
-        return Err(Fault::Memory);
-    };
-    let Ok(names) = Arc::new(alloc, names) else {
-        return Err(Fault::Memory);
-    };
+    let names = shared_names(alloc, hash_keys, tables)?;
+    let repeats = repeats_of(alloc, tables)?;
     Ok(Basis {
         timetable,
         names,

@@ -9,7 +9,7 @@ ghost use Rattle.rounds.specs.Events.{AreEvents};
 ghost use Rattle.rounds.specs.Scratch.{IsMadeFor, IsAlike, rides_of};
 ghost use Rattle.scanned_journeys.specs.Latest.{IsLastLike};
 
-use crate::scanning::journeys_of;
+use crate::scanning::best_at;
 use direct_connections::Network;
 use pattern_query::Point;
 use rounds::Scratch;
@@ -48,9 +48,7 @@ fn like_at(
     ensures none { IfOk result (λ like. IfNone like
         (¬ Unbeaten (Reaches network.now 0 (rides_of scratch.old) from to event) (numbers point.now))) }
 {
-    let rides = scratch.rides();
-    let view = scratch.run(network.timetable(), from, event)?;
-    let answer = journeys_of(alloc, network, &view, from, to, event, rides)?;
+    let answer = best_at(alloc, network, scratch, from, to, event)?;
     Ok(with_numbers(answer.points(), point))
 }
 

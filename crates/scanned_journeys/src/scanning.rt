@@ -8,7 +8,7 @@ ghost use Rattle.timetable.specs.Front.{AreFront};
 ghost use Rattle.timetable.specs.Journeys.{Reaches};
 ghost use Rattle.timetable.specs.Table.{stops_of};
 ghost use Rattle.rounds.specs.Answers.{AreRounds};
-ghost use Rattle.rounds.specs.Scratch.{rounds_of};
+ghost use Rattle.rounds.specs.Scratch.{IsAlike, IsMadeFor, rides_of, rounds_of};
 
 use crate::latest::latest_like;
 use crate::patterns::patterns_to;
@@ -41,6 +41,57 @@ pub fn journeys_of(
     Ok(ask(network, &patterns, to, depart))
 }
 
+/// The best journeys from a stop to a stop at a moment, as `journeys_of` has them, by rounds of the scratch.
+pub(crate) fn best_at(
+    alloc: Global,
+    network: &Network,
+    scratch: &mut Scratch,
+    from: StopId,
+    to: StopId,
+    depart: u32,
+) -> Result<Answer, AllocError>
+    requires made { IsMadeFor scratch.old network.now }
+    requires from { from < stops_of network.now }
+    requires to { to < stops_of network.now }
+    requires early { depart ≤ LATEST_MOMENT }
+    ensures same { IsAlike scratch.old scratch.new }
+    ensures journeys { IfOk result (λ answer. All (IsJourney network.now from to depart) answer) }
+    ensures best { IfOk result (λ answer. AreFront network.now (rides_of scratch.old) from to depart (map numbers answer)) }
+{
+    let rides = scratch.rides();
+    let view = scratch.run(network.timetable(), from, depart)?;
+    journeys_of(alloc, network, &view, from, to, depart, rides)
+}
+
+// The best journeys as `scan_journeys` has them, by a scratch of as many rides.
+fn last_journeys(
+    alloc: Global,
+    network: &Network,
+    scratch: &mut Scratch,
+    from: StopId,
+    to: StopId,
+    depart: u32,
+) -> Result<Answer, AllocError>
+    requires made { IsMadeFor scratch.old network.now }
+    requires from { from < stops_of network.now }
+    requires to { to < stops_of network.now }
+    requires early { depart ≤ LATEST_MOMENT }
+    ensures journeys { IfOk result (λ answer. All (IsJourney network.now from to depart) answer) }
+    ensures best { IfOk result (λ answer. AreFront network.now (rides_of scratch.old) from to depart (map numbers answer)) }
+    ensures latest { IfOk result (λ answer. All (IsLatest (Reaches network.now 0 (rides_of scratch.old) from to)) answer) }
+    ensures last { IfOk result (λ answer. All (LeavesLast network.now (IsJourney network.now from to depart)) answer) }
+{
+    let mut answer = best_at(alloc, network, scratch, from, to, depart)?;
+    let events = scratch.departures(alloc, network.timetable(), from)?;
+    for index in 0..answer.points().len() {
+        let point = &answer.points()[index];
+        let last = latest_like(alloc, network, scratch, &events, from, to, point)?;
+        let least = least_walk(alloc, network, scratch, &last)?;
+        answer.put(index, least);
+    }
+    Ok(answer)
+}
+
 /// The best journeys from a stop to a stop at a moment of at most `LATEST_MOMENT`, by rising rides: one for each of the best
 /// numbers over all journeys of at most `rides` rides, the way on foot among them, with its rides. No journey with the same numbers leaves
 /// later, and none that leaves as late walks less.
@@ -65,17 +116,7 @@ pub fn scan_journeys(
     ensures latest { IfOk result (λ answer. All (IsLatest (Reaches network.now 0 rides from to)) answer) }
     ensures last { IfOk result (λ answer. All (LeavesLast network.now (IsJourney network.now from to depart)) answer) }
 {
-    let table = network.timetable();
     let lines = Arc::try_clone(network.shared_lines())?;
-    let mut scratch = Scratch::over(alloc, table, lines, rides)?;
-    let view = scratch.run(table, from, depart)?;
-    let mut answer = journeys_of(alloc, network, &view, from, to, depart, rides)?;
-    let events = scratch.departures(alloc, table, from)?;
-    for index in 0..answer.points().len() {
-        let point = &answer.points()[index];
-        let last = latest_like(alloc, network, &mut scratch, &events, from, to, point)?;
-        let least = least_walk(alloc, network, &mut scratch, &last)?;
-        answer.put(index, least);
-    }
-    Ok(answer)
+    let mut scratch = Scratch::over(alloc, network.timetable(), lines, rides)?;
+    last_journeys(alloc, network, &mut scratch, from, to, depart)
 }

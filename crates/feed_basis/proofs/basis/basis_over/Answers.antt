@@ -1,13 +1,10 @@
-use Rattle.std.proofs.Common.{subst, subst₂, sym, inr}
+use Rattle.std.proofs.Common.{subst, inr}
+use Rattle.std.specs.Arc.{arc_value}
 use Rattle.std.proofs.lemmas.Result.{err_from_is_err_and}
-use Rattle.gtfs_tables.specs.Feed.{values_of}
 use Rattle.gtfs_tables.specs.Tables.{TableValues}
 use Rattle.feed_timetable.specs.Answers.{IsFault, IsTimetable}
 use Rattle.feed_timetable.specs.Departures.{AreRepeats}
-use Rattle.feed_ids.specs.NameLists.{NameLists}
-use Rattle.feed_ids.specs.Names.{KnowsStops}
 use Rattle.feed_timetable.specs.Names.{AreNamesOf}
-use Rattle.timetable.specs.Table.{Table, IsTable}
 use Rattle.service_span.specs.Idle.{IsIdle}
 use Rattle.feed_basis.specs.Basis.{AreDays}
 use Rattle.feed_basis.proofs.FaultFacts.{of_cover, of_rows}
@@ -51,22 +48,15 @@ returns-clause-basis c = λ feed h.
     let covered = c.in_ok-cover.ensures in
     record {
       days = record { zone = covered.1; faultless = h.0; rule = covered.2; covered = covered.3 };
-      timetable = subst₂ (λ (t : TableValues) (table : Table). IsTimetable t cover c.args.settings.now.default_walk table) h.1 (sym c.in-Ok.ensures.ok)
+      timetable = subst (λ (t : TableValues). IsTimetable t cover c.args.settings.now.default_walk (arc_value c.in_ok-timetable.timetable)) h.1
           c.in_ok-timetable.ensures.ok;
-      named = subst (λ (names : NameLists). AreNamesOf (values_of feed) names) (sym c.in-Ok-new.ensures.ok)
-          (subst (λ (t : TableValues). AreNamesOf t c.in_ok-names.names) h.1 c.in_ok-names.ensures);
+      named = subst (λ (t : TableValues). AreNamesOf t (arc_value c.in_ok-names.names)) h.1 c.in_ok-names.ensures.named;
       repeated = subst (λ (t : TableValues). AreRepeats t c.in_ok-repeats.repeats) h.1 c.in_ok-repeats.ensures;
       idle = subst (λ (t : TableValues). IsIdle t cover c.in_ok-idle.idle) h.1 c.in_ok-idle.ensures;
     }
 
 pub invariant_of-result : goal.invariant_of-result
 invariant_of-result c =
-    let cover = c.in_ok-cover.cover in
-    let walk = c.args.settings.now.default_walk in
-    let is = c.in-Ok.ensures.ok in
-    let valid : IsTable c.in_ok-timetable.timetable = subst IsTable c.timetable.view_is c.timetable.invariant in
     let covered = c.in_ok-cover.ensures in
-    is_sound c.args.tables.now c.args.first c.args.settings.now.days covered.1 cover walk _ covered.3 (subst IsTable (sym is) valid)
-    (subst (λ (table : Table). IsTimetable c.args.tables.now cover walk table) (sym is) c.in_ok-timetable.ensures.ok)
-    (subst (λ (names : NameLists). AreNamesOf c.args.tables.now names) (sym c.in-Ok-new.ensures.ok) c.in_ok-names.ensures)
-    (subst (λ (names : NameLists). KnowsStops names) (sym c.in-Ok-new.ensures.ok) c.know_their_stops.ensures)
+    is_sound c.args.tables.now c.args.first c.args.settings.now.days covered.1 c.in_ok-cover.cover c.args.settings.now.default_walk _ covered.3
+    c.in_ok-timetable.ensures.valid c.in_ok-timetable.ensures.ok c.in_ok-names.ensures.named c.in_ok-names.ensures.known

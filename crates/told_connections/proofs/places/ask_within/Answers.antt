@@ -1,4 +1,5 @@
-use Rattle.std.proofs.Common.{◌≡◌, ◌∙◌, ℕ, ◌≤◌, List, Some, All, sym, subst}
+use Rattle.std.proofs.Common.{◌≡◌, ◌∙◌, ℕ, ◌≤◌, List, Some, All, inl, inr, sym, subst}
+use Rattle.std.proofs.lemmas.Result.{err_from_is_err_and}
 use Rattle.std.specs.List.{AllZip}
 use Rattle.timetable.specs.Journeys.{IsLeast}
 use Rattle.timetable.specs.declared.parts.TheConstants.{LATEST_MOMENT}
@@ -104,3 +105,23 @@ returns-clause-answer g c =
             c.timetable.result.now basis.timetable fs asked.froms ts asked.tos c.timetable.ensures.value froms tos c.least_walk.ensures;
       };
     }
+
+pub returns-in_err-first-clause-refusal : goal.returns-in_err-first-clause-refusal
+returns-in_err-first-clause-refusal g c =
+    let p = err_from_is_err_and c.from_residual.result c.from_residual.ensures.1 in
+    rw (p.1, p.2) (inl c.in_err-first.ensures.refusal)
+
+pub returns-in_default-clause-refusal : goal.returns-in_default-clause-refusal
+returns-in_default-clause-refusal g c =
+    let asked = c.in_ok-first.ensures.found in
+    inr (((asked.froms, asked.leaves), (asked.tos, asked.reaches)), c.in_default.ensures.none)
+
+pub returns-in_err-found-clause-refusal : goal.returns-in_err-found-clause-refusal
+returns-in_err-found-clause-refusal g c =
+    let p = err_from_is_err_and c.from_residual-in_err-found.result c.from_residual-in_err-found.ensures.1 in
+    rw (p.1, p.2) (inl tt)
+
+pub returns-in_err-tell_connections-clause-refusal : goal.returns-in_err-tell_connections-clause-refusal
+returns-in_err-tell_connections-clause-refusal g c =
+    let p = err_from_is_err_and c.from_residual-in_err-tell_connections.result c.from_residual-in_err-tell_connections.ensures.1 in
+    rw (p.1, p.2) (inl tt)
