@@ -1,2 +1,3 @@
+pub mod LineFacts
 pub mod PrintedFacts
 pub mod PrintingFacts

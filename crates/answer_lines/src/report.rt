@@ -90,15 +90,9 @@ impl fmt::Display for Report<'_> {
     fn fmt<W: fmt::Write>(&self, f: &mut fmt::Formatter<W>) -> fmt::Result {
         match self {
             Report::Stored(ids) => write_ids(f, "", ids),
-            Report::Built(
-                Built {
-                    stored,
-                    of,
-                    missing,
-                },
-            ) => {
-                writeln!(f, "stored {stored} of {of}")?;
-                write_ids(f, "missing ", missing)
+            Report::Built(built) => {
+                writeln!(f, "stored {} of {}", built.stored, built.of)?;
+                write_ids(f, "missing ", &built.missing)
             }
             Report::Audited(audit) => writeln!(f, "{audit}"),
             Report::AuditedAll(audits) => write_audits(f, audits),

@@ -36,13 +36,13 @@ pub fn style_of(name: &str, found: &ArgMatches<'_>) -> Option<Style>
     ensures style { IfSome result (IsStyle name.now (rows_of (found_of found.now))) }
     ensures none { IfNone result (NamesNoStyle name.now (rows_of (found_of found.now))) }
 {
-    match text_of(found, "format") {
-        None | Some("lines") if flag_of(found, "names") => Some(Style::Told(Format::Names)),
-        None | Some("lines") => Some(Style::Lines),
-        Some("json") => Some(Style::Told(Format::Json)),
-        Some("geojson") => Some(Style::Told(Format::GeoJson)),
-        Some("csv") if name == "reach" => Some(Style::Told(Format::Csv)),
-        Some(_) => None,
+    match text_of(found, "format").unwrap_or("lines") {
+        "lines" if flag_of(found, "names") => Some(Style::Told(Format::Names)),
+        "lines" => Some(Style::Lines),
+        "json" => Some(Style::Told(Format::Json)),
+        "geojson" => Some(Style::Told(Format::GeoJson)),
+        "csv" if name == "reach" => Some(Style::Told(Format::Csv)),
+        _ => None,
     }
 }
 
@@ -51,9 +51,9 @@ pub fn plain_style_of(found: &ArgMatches<'_>) -> Option<Style>
     ensures style { IfSome result (IsPlainStyle (rows_of (found_of found.now))) }
     ensures none { IfNone result ((style : StyleData) → ¬ IsPlainStyle (rows_of (found_of found.now)) style) }
 {
-    match text_of(found, "format") {
-        None | Some("lines") => Some(Style::Lines),
-        Some("json") => Some(Style::Told(Format::Json)),
-        Some(_) => None,
+    match text_of(found, "format").unwrap_or("lines") {
+        "lines" => Some(Style::Lines),
+        "json" => Some(Style::Told(Format::Json)),
+        _ => None,
     }
 }

@@ -1,11 +1,11 @@
 use Rattle.std.proofs.Common.{ℕ, ◌<◌, ◌≤◌, List, length, map, get_or, true≢false, arith, sym, ◌∙◌, subst}
 use Rattle.std.proofs.lemmas.Result.{on_ok_weaker}
 use Rattle.std.proofs.lemmas.List.Elements.{Contains-get_or}
-use Rattle.timetable.specs.Table.{Table}
+use Rattle.timetable.specs.Table.{Table, stops_of}
 use Rattle.timetable.specs.Front.{AreFront}
 use Rattle.timetable.specs.Journeys.{Reaches}
 use Rattle.rounds.specs.Answers.{AreRounds}
-use Rattle.rounds.specs.Scratch.{rides_of, rounds_of, before_of, kept_of}
+use Rattle.rounds.specs.Scratch.{GoesOn, IsMadeFor, MayGoOn, rides_of, rounds_of, source_of, before_of, kept_of}
 use Rattle.pattern_query.specs.Answer.{PointData, numbers, IsJourney}
 use Rattle.connections.specs.Found.{AddsSome, IsLowered, IsLoweredWithin}
 use Rattle.connections.proofs.EventFacts.{event_early}
@@ -78,3 +78,49 @@ returns-then-not-is_lowered-clause-found c = λ last within found.
     (none_lowered T k s c.args.to e rounds (kept_of c.args.scratch.now) before c.requires.to are c.requires.later c.in_ok-view.ensures.before
     (λ low. true≢false (sym (c.is_lowered.ensures.1 (subst (λ (x : ℕ). IsLoweredWithin rounds before c.args.to x) (sym c.rides-rides.ensures) low)) ∙ c.if-not-is_lowered.true)))
     found
+
+pub run_kept-requires-clause-table : goal.run_kept-requires-clause-table
+run_kept-requires-clause-table c = subst (λ (t : Table). IsMadeFor c.args.scratch.now t) (sym c.timetable.ensures.value) c.requires.table
+
+pub run_kept-requires-clause-source : goal.run_kept-requires-clause-source
+run_kept-requires-clause-source c =
+    subst (λ (t : Table). source_of c.args.scratch.now < stops_of t) (sym c.timetable.ensures.value)
+    (subst (λ (x : ℕ). x < stops_of c.args.network.now) (sym c.requires.source) c.requires.from)
+
+pub run_kept-requires-clause-early : goal.run_kept-requires-clause-early
+run_kept-requires-clause-early c = event_early c.args.network.now c.args.from c.args.event c.timetable.ensures.valid c.requires.event
+
+pub run_kept-requires-clause-kept : goal.run_kept-requires-clause-kept
+run_kept-requires-clause-kept c =
+    subst (λ (t : Table). MayGoOn t c.args.event c.args.scratch.now) (sym c.timetable.ensures.value) c.requires.kept
+
+pub is_lowered-requires : goal.is_lowered-requires
+is_lowered-requires c = c.in_ok-view.ensures.right.count ∙ sym c.rides-rides.ensures
+
+pub journeys_of-requires-clause-rounds : goal.journeys_of-requires-clause-rounds
+journeys_of-requires-clause-rounds c =
+    let rounds = rounds_of c.in_ok-view.view in
+    subst (λ (t : Table). AreRounds t c.args.from c.args.event c.rides-rides.result rounds) c.timetable.ensures.value
+    (subst (λ (x : ℕ). AreRounds c.timetable.result.now x c.args.event c.rides-rides.result rounds) c.requires.source
+    (subst (λ (k : ℕ). AreRounds c.timetable.result.now (source_of c.args.scratch.now) c.args.event k rounds) (sym c.rides-rides.ensures)
+    c.in_ok-view.ensures.right))
+
+pub returns-clause-on : goal.returns-clause-on
+returns-clause-on c =
+    subst (λ (t : Table). GoesOn t c.args.event c.args.scratch.now c.run_kept.follows.lender-at-none) c.timetable.ensures.value
+    c.run_kept.follows.holds-at-none
+
+pub returns-then-not-is_lowered-clause-on : goal.returns-then-not-is_lowered-clause-on
+returns-then-not-is_lowered-clause-on c =
+    subst (λ (t : Table). GoesOn t c.args.event c.args.scratch.now c.run_kept.follows.lender-at-none) c.timetable.ensures.value
+    c.run_kept.follows.holds-at-none
+
+pub returns-in_err-view-clause-on : goal.returns-in_err-view-clause-on
+returns-in_err-view-clause-on c =
+    subst (λ (t : Table). GoesOn t c.args.event c.args.scratch.now c.run_kept.follows.lender-at-none) c.timetable.ensures.value
+    c.run_kept.follows.holds-at-none
+
+pub returns-in_err-answer-clause-on : goal.returns-in_err-answer-clause-on
+returns-in_err-answer-clause-on c =
+    subst (λ (t : Table). GoesOn t c.args.event c.args.scratch.now c.run_kept.follows.lender-at-none) c.timetable.ensures.value
+    c.run_kept.follows.holds-at-none

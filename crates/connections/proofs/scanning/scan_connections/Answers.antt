@@ -161,3 +161,13 @@ returns-clause-journeys c =
 pub returns-clause-departures : goal.returns-clause-departures
 returns-clause-departures c =
     scanned_then c.args.network.now (rides_of c.args.scratch.now) c.args.from c.args.to c.args.window c.reverse.new.self.items (returns-clause-right c).each (returns-clause-journeys c)
+
+pub returns-in_err-add_event-clause-same : goal.returns-in_err-add_event-clause-same
+returns-in_err-add_event-clause-same c =
+    let inv = c.loop-index.invariant.same in
+    let on = c.add_event.ensures.on.same in
+    record { rides = on.rides ∙ inv.rides; made = λ t is. on.made t (inv.made t is) }
+
+pub index-requires : goal.index-requires
+index-requires c =
+    omega (arith, c.loop-index-test.true, c.loop-index.auto.index, c.count_up_to-end.ensures.within, c.deref.ensures.len)

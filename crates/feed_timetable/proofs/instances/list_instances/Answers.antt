@@ -1,8 +1,8 @@
-use Rattle.std.proofs.Common.{◌≡◌, ◌+◌, ◌++◌, List, length, arith, sym, ◌∙◌, ap}
+use Rattle.std.proofs.Common.{◌≡◌, ◌+◌, ◌++◌, ℕ, List, length, arith, sym, ◌∙◌, ap, subst}
 use Rattle.gtfs_rows.specs.declared.values.Trip.{Trip}
 use Rattle.timetable.specs.Table.{Run}
 use Rattle.feed_timetable.specs.Instances.{instances_from}
-use Rattle.feed_timetable.specs.Running.{listed}
+use Rattle.feed_timetable.specs.Running.{listed, listed_before}
 use Rattle.feed_timetable.proofs.Listing.{due_several, listed_due, listed_not, listed_day}
 use Rattle.feed_timetable.proofs.instances.list_instances.Goals as goal
 use Rattle.feed_timetable.proofs.instances.list_instances.Goals.{then-is_due+in_ok-list_trip, else-is_due}
@@ -44,3 +44,22 @@ loop-number-preserved c =
           ∙ sym (listed_day c.args.tables.now c.args.cover.now c.args.running.now c.loop-number.number));
       runs = c.loop-trip.invariant.runs;
     }
+
+pub list_trip-requires-clause-trip : goal.list_trip-requires-clause-trip
+list_trip-requires-clause-trip c = omega (arith, c.loop-trip-test.true, ap (length {A = Trip}) c.trips-trip-end.ensures.value)
+
+pub list_trip-requires-clause-rows : goal.list_trip-requires-clause-rows
+list_trip-requires-clause-rows c = c.of-rows.ensures ∙ c.requires.repeats c.loop-trip.trip
+
+pub loop-number-init : goal.loop-number-init
+loop-number-init c = record { listed = c.requires.before; runs = c.requires.runs }
+
+pub loop-trip-init : goal.loop-trip-init
+loop-trip-init c = c.loop-number.invariant
+
+pub returns-clause-listed : goal.returns-clause-listed
+returns-clause-listed c =
+    let t = c.args.tables.now in
+    let d = c.args.cover.now in
+    let end : c.loop-number.number ≡ length d.starts = omega (arith, c.loop-number-test.false, c.loop-number.auto.number-end, c.days-number-end.ensures.count) in
+    subst (λ (n : ℕ). c.loop-number.instances.items ≡ listed_before t d c.args.running.now n) end c.loop-number.invariant.listed

@@ -137,3 +137,13 @@ returns-clause-right c = λ t known.
     covers T k c.args.from t c.args.last moments c.in_ok-events.ensures c.loop-index.index c.args.first
     (arrival_in (kept_of c.loop-index.scratch) k t) (steps_at c.loop-index.all.items t) c.requires.some
     (subst (λ (n : ℕ). LiesAt moments n c.args.first) at lies) (inv.each t known)
+
+pub returns-in_err-add_event-clause-same : goal.returns-in_err-add_event-clause-same
+returns-in_err-add_event-clause-same c =
+    let inv = c.loop-index.invariant.same in
+    let on = c.add_event.ensures.on.same in
+    record { rides = on.rides ∙ inv.rides; made = λ t is. on.made t (inv.made t is) }
+
+pub index-event-requires : goal.index-event-requires
+index-event-requires c =
+    omega (arith, c.loop-index-test.true, c.loop-index.auto.index, c.min-end.ensures, c.len.ensures)
