@@ -22,12 +22,23 @@ pub enum Place<'a> {
 }
 
 /// The ids of a feed's stops, stations and trips.
-#[derive(Drop)]
 pub struct Names {
     stops: Ids,
     stations: Ids,
     trips: Vec<String>,
     children: Groups<StopId>,
+}
+
+// By hand, so that a value goes by one call. A derived drop is taken apart at each exit of whoever holds one, and checks take longer.
+impl Drop for Names {
+    fn drop(self) {
+        let Names {
+            stops: _,
+            stations: _,
+            trips: _,
+            children: _,
+        } = self;
+    }
 }
 
 impl Model for Names {
