@@ -29,7 +29,7 @@ pub struct Names {
     children: Groups<StopId>,
 }
 
-// By hand, so that a value goes by one call. A derived drop is taken apart at each exit of whoever holds one, and checks take longer.
+// A drop by hand is one call at each exit of a function that holds the value. A derived one is many (docs/CHECKING.md).
 impl Drop for Names {
     fn drop(self) {
         let Names {

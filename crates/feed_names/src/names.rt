@@ -14,7 +14,7 @@ pub struct NameSheets {
     pub routes: Option<Sheet>,
 }
 
-// By hand, so that a value goes by one call. A derived drop is taken apart at each exit of whoever holds one, and checks take longer.
+// A drop by hand is one call at each exit of a function that holds the value. A derived one is many (docs/CHECKING.md).
 impl Drop for NameSheets {
     fn drop(self) {
         let NameSheets {
@@ -70,7 +70,7 @@ pub struct Names {
     routes: BTreeMap<String, RouteName>,
 }
 
-// By hand, so that a value goes by one call. A derived drop is taken apart at each exit of whoever holds one, and checks take longer.
+// A drop by hand is one call at each exit of a function that holds the value. A derived one is many (docs/CHECKING.md).
 impl Drop for Names {
     fn drop(self) {
         let Names {

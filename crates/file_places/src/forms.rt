@@ -7,7 +7,7 @@ const LONGEST_WALK: u32 = 86_400;
 
 /// Which texts a column takes (docs/FORMATS.md, "the tests of a row").
 #[derive(Clone, Copy, Debug, PartialEq, Eq)]
-pub enum Form {
+pub(crate) enum Form {
     /// Any but an empty one.
     Filled,
     /// A day of the calendar.
@@ -46,7 +46,7 @@ fn is_number(text: &str, least: u32, most: u32) -> bool {
 
 impl Form {
     /// Whether the column takes the text.
-    pub fn takes(&self, text: &str) -> bool {
+    pub(crate) fn takes(&self, text: &str) -> bool {
         match *self {
             Form::Filled => !text.is_empty(),
             Form::Day => date(text).is_some(),

@@ -11,7 +11,7 @@ const MARK: char = '\u{feff}';
 
 /// A column and what a row has there.
 #[derive(Debug, Drop, PartialEq, Eq)]
-pub struct Field {
+pub(crate) struct Field {
     pub column: &'static str,
     /// Empty if the row or the file doesn't have the column.
     pub text: String,
@@ -51,7 +51,7 @@ impl<R: Read + Drop> Records<R> {
         next(&mut self.reader, &mut self.header)
     }
 
-    /// Reads on by so many records, and holds the last of them. False if there are fewer, or one can't be read.
+    /// Reads the next records, `records` of them, and holds the last. False if there are fewer, or one can't be read.
     fn read_on(&mut self, records: usize) -> Result<bool, AllocError> {
         for _ in 0..records {
             if !next(&mut self.reader, &mut self.row)? {
@@ -145,7 +145,7 @@ fn fields_in<R: Read + Drop>(
 /// The fields of the file that a fault of the feed is about, by the file's bytes. For a text that its column doesn't take they are the
 /// first such; for other faults of a row all that the fault may be about. There are none for a fault of no row, and if the file no
 /// longer has the row. It holds one record at a time, and fails only if memory runs out.
-pub fn fields_at<R: Read + Drop>(
+pub(crate) fn fields_at<R: Read + Drop>(
     alloc: Global,
     source: R,
     fault: &FeedFault,
@@ -225,7 +225,7 @@ fn all_fields<R: Read + Drop>(
 
 /// The fields of a file that each of these faults of it is about, in the order of the faults, each as `fields_at` gives them. The file is
 /// read once. It holds one record at a time, and fails only if memory runs out.
-pub fn fields_of_all<R: Read + Drop>(
+pub(crate) fn fields_of_all<R: Read + Drop>(
     alloc: Global,
     source: R,
     faults: &[FeedFault],
@@ -251,7 +251,7 @@ fn lacking<R: Read + Drop>(
 }
 
 /// The columns that a file must have and its header lacks, by the file's bytes. It fails only if memory runs out.
-pub fn missing_columns<R: Read + Drop>(
+pub(crate) fn missing_columns<R: Read + Drop>(
     alloc: Global,
     source: R,
     file: FeedFile,

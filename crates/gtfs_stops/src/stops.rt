@@ -35,7 +35,7 @@ pub struct StopIds<'a> {
     pub stations: Texts<'a>,
 }
 
-// By hand, so that a value goes by one call. A derived drop is taken apart at each exit of whoever holds one, and checks take longer.
+// A drop by hand is one call at each exit of a function that holds the value. A derived one is many (docs/CHECKING.md).
 impl Drop for StopIds<'_> {
     fn drop(self) {
         let StopIds {

@@ -12,7 +12,7 @@ const UNPLACED: &str = "<-00>0";
 
 /// The clock of a zone.
 #[derive(Clone, Copy)]
-pub struct Clock {
+pub(crate) struct Clock {
     zone: PlainZone<'static>,
     // Whether it is known how far the zone is from UTC.
     is_placed: bool,
@@ -21,7 +21,7 @@ pub struct Clock {
 impl Clock {
     /// The clock of a zone's POSIX rule, as `CET-1CEST,M3.5.0,M10.5.0/3`; that of UTC if the text is none. Of the rule `<-00>0` it isn't
     /// known how far local time is from UTC.
-    pub fn of(rule: &str) -> Clock {
+    pub(crate) fn of(rule: &str) -> Clock {
         Clock {
             zone: TimeZone::posix(rule).unwrap_or(TimeZone::UTC).to_plain(),
             is_placed: rule != UNPLACED,

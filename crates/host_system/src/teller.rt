@@ -52,7 +52,7 @@ pub struct FolderTeller<'r> {
 
 impl<'r> FolderTeller<'r> {
     /// Reads the files by this runtime.
-    pub fn new(rt: &'r HostRuntime) -> FolderTeller<'r> {
+    pub(crate) fn new(rt: &'r HostRuntime) -> FolderTeller<'r> {
         FolderTeller { rt }
     }
 

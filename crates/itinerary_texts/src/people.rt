@@ -6,16 +6,16 @@ use shown_ids::Shown;
 use std::alloc::{AllocError, Global};
 use std::{fmt, format};
 
-// So many seconds in minutes, rounded up.
+// A number of seconds in minutes, rounded up.
 fn minutes(seconds: u32) -> u32 {
     seconds.div_ceil(60)
 }
 
-// A text behind these words; nothing if there is no text.
+// A text after these words; nothing if there is no text.
 #[derive(Clone, Copy)]
-struct Behind<'a>(&'static str, &'a Option<String>);
+struct After<'a>(&'static str, &'a Option<String>);
 
-impl fmt::Display for Behind<'_> {
+impl fmt::Display for After<'_> {
     fn fmt<W: fmt::Write>(&self, f: &mut fmt::Formatter<W>) -> fmt::Result {
         match self.1 {
             Some(text) => write!(f, "{}{}", self.0, Shown(text.as_str())),
@@ -31,7 +31,7 @@ struct PlaceText<'a>(&'a Place);
 impl fmt::Display for PlaceText<'_> {
     fn fmt<W: fmt::Write>(&self, f: &mut fmt::Formatter<W>) -> fmt::Result {
         let id = Shown(self.0.id.as_str());
-        let platform = Behind(", platform ", &self.0.platform);
+        let platform = After(", platform ", &self.0.platform);
         match &self.0.name {
             Some(name) => write!(f, "{} ({id}){platform}", Shown(name.as_str())),
             None => write!(f, "{id}{platform}"),
@@ -56,8 +56,8 @@ fn route_name(trip: &Trip) -> Option<&str> {
 impl fmt::Display for TripText<'_> {
     fn fmt<W: fmt::Write>(&self, f: &mut fmt::Formatter<W>) -> fmt::Result {
         let trip = self.0;
-        let name = Behind(" ", &trip.short_name);
-        let headsign = Behind(" towards ", &trip.headsign);
+        let name = After(" ", &trip.short_name);
+        let headsign = After(" towards ", &trip.headsign);
         match route_name(trip) {
             Some(route) => write!(f, "{}{name}{headsign}", Shown(route)),
             None => write!(f, "trip {}{name}{headsign}", Shown(trip.id.as_str())),

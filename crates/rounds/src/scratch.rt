@@ -40,7 +40,7 @@ pub struct Scratch {
     rounds: Vec<Row>,
 }
 
-// By hand, so that a value goes by one call. A derived drop is taken apart at each exit of whoever holds one, and checks take longer.
+// A drop by hand is one call at each exit of a function that holds the value. A derived one is many (docs/CHECKING.md).
 impl Drop for Scratch {
     fn drop(self) {
         let Scratch {
