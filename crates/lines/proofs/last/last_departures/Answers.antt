@@ -1,6 +1,5 @@
-use Rattle.std.proofs.Common.{ℕ, List, sym, ◌∙◌, subst}
+use Rattle.std.proofs.Common.{ℕ, sym, ◌∙◌, subst}
 use Rattle.std.specs.List.{All}
-use Rattle.lines.specs.declared.lines.LinePosition.{LinePosition}
 use Rattle.lines.specs.Lines.{CallsAt}
 use Rattle.lines.proofs.last.last_departures.Goals as goal
 

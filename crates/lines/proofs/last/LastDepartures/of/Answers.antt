@@ -1,9 +1,9 @@
-use Rattle.std.proofs.Common.{◌≡◌, ◌<◌, ◌+◌, ◌++◌, ◌∷◌, ℕ, [], List, length, get_or, slice_get, map, take, sym, ◌∙◌, ap, subst, arith}
+use Rattle.std.proofs.Common.{◌≡◌, ◌<◌, ◌++◌, ◌∷◌, ℕ, [], length, get_or, map, take, sym, ◌∙◌, ap, subst}
 use Rattle.std.proofs.lemmas.List.{get_or_default, map_more}
 use Rattle.std.proofs.lemmas.Option.{slice_get_within, get_or_from_slice_get}
 use Rattle.lines.specs.declared.last.LastDeparture.{LastDeparture}
 use Rattle.lines.specs.declared.lines.LinePosition.{LinePosition}
-use Rattle.lines.specs.Lines.{LineData, CallsAt, last_at, last_departure, last_departure_at, no_line}
+use Rattle.lines.specs.Lines.{LineData, last_at, last_departure, last_departure_at, no_line}
 use Rattle.lines.proofs.PositionFacts.{called}
 use Rattle.lines.proofs.last.LastDepartures.of.Goals as goal
 
