@@ -10,7 +10,7 @@ use std::fmt;
 
 /// A best journey: how many rides it takes, when it arrives, and its rides and walks if they are wanted. Shown as
 /// `rides N arrive DATE TIME`, with a line below for each ride and walk.
-#[derive(Debug, Drop)]
+#[derive(Drop)]
 pub struct Point {
     pub rides: u8,
     pub at: DayTime,
@@ -18,7 +18,7 @@ pub struct Point {
 }
 
 /// An answer, shown as the program prints it.
-#[derive(Debug, Drop)]
+#[derive(Drop)]
 pub enum Answer {
     NoRide,
     Arrive(DayTime),

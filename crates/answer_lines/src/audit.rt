@@ -8,7 +8,7 @@ use shown_ids::Shown;
 use std::fmt;
 
 /// Where the answers from a stored tree differ first from those of the timetable.
-#[derive(Clone, Copy, Debug)]
+#[derive(Clone, Copy)]
 pub struct Differing<'a> {
     /// The id of the stop to go to.
     pub to: &'a str,
@@ -17,7 +17,7 @@ pub struct Differing<'a> {
 }
 
 /// What an audit of a stop's tree came to. Shown as `audit ID ok`, or `audit ID differs TARGET DATE TIME`, without a line's end.
-#[derive(Clone, Copy, Debug)]
+#[derive(Clone, Copy)]
 pub struct Audit<'a> {
     /// The id of the stop.
     pub from: &'a str,

@@ -8,7 +8,7 @@ use service_days::Cover;
 use std::fmt;
 
 /// A date, shown as `YYYYMMDD`.
-#[derive(Clone, Copy, Debug, PartialEq, Eq)]
+#[derive(Clone, Copy)]
 pub struct ShownDate(pub Date);
 
 impl fmt::Display for ShownDate {
@@ -22,7 +22,7 @@ impl fmt::Display for ShownDate {
 }
 
 /// A time of a service day, shown as `YYYYMMDD HH:MM:SS`. Hours of 24 and more belong to the night after the date.
-#[derive(Clone, Copy, Debug, PartialEq, Eq)]
+#[derive(Clone, Copy)]
 pub struct DayTime {
     pub date: Date,
     /// Seconds from the start of the service day.

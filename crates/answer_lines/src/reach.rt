@@ -8,7 +8,7 @@ use shown_ids::Shown;
 use std::fmt;
 
 /// A stop that one reaches, shown as `ID arrive DATE TIME rides N`.
-#[derive(Clone, Copy, Debug)]
+#[derive(Clone, Copy)]
 pub struct ReachedStop<'a> {
     /// The id of the stop.
     pub stop: &'a str,
@@ -21,7 +21,7 @@ pub struct ReachedStop<'a> {
 }
 
 /// The stops that one reaches who leaves a stop, shown as a line for each, with its end.
-#[derive(Debug, Drop)]
+#[derive(Drop)]
 pub struct Reach<'a> {
     /// The id of the stop that one leaves.
     pub from: &'a str,

@@ -13,7 +13,7 @@ use shown_ids::Shown;
 use std::fmt;
 
 /// What a build came to.
-#[derive(Debug, Drop)]
+#[derive(Drop)]
 pub struct Built<'a> {
     /// How many stops have their tree in the store.
     pub stored: usize,
@@ -24,7 +24,7 @@ pub struct Built<'a> {
 }
 
 /// A report, shown as the program prints it: lines, each with its end. A list of no stops has no line.
-#[derive(Debug, Drop)]
+#[derive(Drop)]
 pub enum Report<'a> {
     /// The ids of the stops whose trees are stored, in the order in which they were: one a line.
     Stored(Vec<&'a str>),

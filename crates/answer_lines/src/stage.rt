@@ -11,7 +11,7 @@ use timetable::Leg;
 
 /// A ride or a walk of a journey, with the ids of its stops. Shown as the program prints it: `  ride TRIP FROM DATE TIME TO DATE
 /// TIME` or `  walk FROM TO DATE TIME`.
-#[derive(Debug, Drop)]
+#[derive(Drop)]
 pub enum Stage {
     Ride {
         /// Which ride of the timetable it is. It isn't shown.

@@ -13,7 +13,7 @@ struct Seconds(Option<u32>);
 
 /// The seconds from leaving until one is at a stop, over the seconds of a window at which one may leave. Shown as
 /// `ID least S median S greatest S`, with `none` for a number that isn't there.
-#[derive(Clone, Copy, Debug)]
+#[derive(Clone, Copy)]
 pub struct TimedStop<'a> {
     /// The id of the stop.
     pub stop: &'a str,
@@ -26,7 +26,7 @@ pub struct TimedStop<'a> {
 }
 
 /// How long one is on the way who leaves a stop within a window, shown as a line for each stop, with its end.
-#[derive(Debug, Drop)]
+#[derive(Drop)]
 pub struct TimedStops<'a> {
     /// The id of the stop that one leaves.
     pub from: &'a str,

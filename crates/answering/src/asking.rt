@@ -36,7 +36,7 @@ pub fn covered_moment(basis: &Basis, moment: Option<u32>) -> Option<u32>
 }
 
 /// The stops of a question between two stops, and its moment.
-#[derive(Clone, Copy, Debug)]
+#[derive(Clone, Copy)]
 pub struct Asked {
     pub from: StopId,
     pub to: StopId,

@@ -10,7 +10,7 @@ use jiff_core::civil;
 use std::marker::Model;
 
 /// A day of the calendar, from -9999-01-01 to 9999-12-31, by the rules of the Gregorian calendar throughout (ISO 8601).
-#[derive(Clone, Copy, Debug)]
+#[derive(Clone, Copy)]
 pub struct Date {
     pub(crate) year: i16,
     pub(crate) month: u8,

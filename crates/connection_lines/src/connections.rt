@@ -10,7 +10,7 @@ use std::fmt;
 
 /// A connection: the last moment to leave for it, and its journey. Shown as `depart DATE TIME arrive DATE TIME rides N`, with a line below
 /// for each ride and walk.
-#[derive(Debug, Drop)]
+#[derive(Drop)]
 pub struct Connection {
     pub departs: DayTime,
     pub journey: Point,
@@ -18,7 +18,7 @@ pub struct Connection {
 
 /// The connections of a window, shown as lines, each with its end: `walk seconds N` for the way on foot, a line for each connection, and
 /// `more from DATE TIME`. Without a way on foot and a connection, the first line is `no journey`.
-#[derive(Debug, Drop)]
+#[derive(Drop)]
 pub struct Connections {
     /// The seconds of the way on foot, if there is one.
     pub walk: Option<u32>,

@@ -4,7 +4,7 @@ use pattern_query::Point;
 
 /// When one may leave: from the first of these moments to the last, in seconds from the start of the first covered day. If the last is
 /// before the first, there is no such moment.
-#[derive(Clone, Copy, Debug)]
+#[derive(Clone, Copy)]
 pub struct Window {
     pub first: u32,
     pub last: u32,
@@ -12,7 +12,7 @@ pub struct Window {
 
 /// A journey with a ride, and the last moment at which one can leave for it, in seconds from the start of the first covered day. One who
 /// leaves then walks to where the journey boards, and is just in time.
-#[derive(Debug, Drop)]
+#[derive(Drop)]
 pub struct Connection {
     pub departure: u32,
     pub journey: Point,

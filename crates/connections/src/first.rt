@@ -19,7 +19,7 @@ use timetable::{LATEST_MOMENT, StopId};
 const STEP: u32 = 3_600;
 
 /// The connections of a window that depart before a moment.
-#[derive(Debug, Drop)]
+#[derive(Drop)]
 pub struct First {
     /// By departure, then by arrival.
     pub connections: Vec<Connection>,

@@ -16,7 +16,7 @@ use lines::{LinePosition, Lines, Times};
 use timetable::{Leg, StopId, Timetable};
 
 /// A ride, and when it departs.
-#[derive(Clone, Copy, Debug, PartialEq, Eq)]
+#[derive(Clone, Copy)]
 pub struct LastRide {
     pub leg: Leg,
     pub departure: u32,

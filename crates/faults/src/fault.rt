@@ -18,7 +18,7 @@ use store_faults::RecoverFault;
 
 /// A fault of the words, the feed, its days, the store or the question, shown as the programs print it: its code and name,
 /// and an id so that it stays on its line.
-#[derive(Clone, Copy, Debug, PartialEq, Eq)]
+#[derive(Clone, Copy)]
 pub enum Fault<'a> {
     BadDate,
     BadTime,

@@ -13,7 +13,7 @@ use std::fmt;
 use store_faults::RecoverFault;
 
 /// One of the two files of a migration.
-#[derive(Clone, Copy, Debug, PartialEq, Eq)]
+#[derive(Clone, Copy)]
 pub enum Side {
     /// The file of the version before.
     Old,
@@ -22,7 +22,7 @@ pub enum Side {
 }
 
 /// Why a file isn't used as a store.
-#[derive(Clone, Copy, Debug, PartialEq, Eq)]
+#[derive(Clone, Copy)]
 pub enum StoreFault {
     /// It isn't the store of this timetable and these rides, or is damaged, or the system refused it.
     Recover(RecoverFault),

@@ -8,7 +8,7 @@ use std::fmt;
 
 /// A fault as `tp` prints it on standard error: a line with the program's name and the fault, and a line beneath it that says what to do,
 /// if the fault has one.
-#[derive(Clone, Copy, Debug)]
+#[derive(Clone, Copy)]
 pub struct FaultLines<'a>(pub &'a Fault<'a>);
 
 impl fmt::Display for FaultLines<'_> {

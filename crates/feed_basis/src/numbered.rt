@@ -8,7 +8,7 @@ use std::alloc::{AllocError, Global};
 use timetable::{LATEST_MOMENT, Leg, StopId, Timetable};
 
 /// A stage of a journey by its numbers: a ride, or a walk to another stop with the moments at which it begins and ends.
-#[derive(Clone, Copy, Debug, PartialEq, Eq)]
+#[derive(Clone, Copy)]
 pub enum NumberedStage {
     Ride(Leg),
     Walk {

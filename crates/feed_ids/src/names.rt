@@ -14,7 +14,7 @@ use std::marker::Model;
 use timetable::StopId;
 
 /// What an id names.
-#[derive(Clone, Copy, Debug, PartialEq, Eq)]
+#[derive(Clone, Copy)]
 pub enum Place<'a> {
     Stop(StopId),
     /// A station, by its stops in the order of their numbers.

@@ -38,7 +38,7 @@ pub trait NamedRow: Sized + Drop {
 }
 
 /// What stops.txt says to people of a stop or a station: each text is empty if the feed has none.
-#[derive(Debug, Drop, PartialEq, Eq)]
+#[derive(Drop)]
 pub struct StopName {
     /// `stop_name`.
     pub name: String,
@@ -73,7 +73,7 @@ impl NamedRow for StopName {
 }
 
 /// What trips.txt says to people of a trip: each text is empty if the feed has none.
-#[derive(Debug, Drop, PartialEq, Eq)]
+#[derive(Drop)]
 pub struct TripName {
     /// `route_id`.
     pub route: String,
@@ -105,7 +105,7 @@ impl NamedRow for TripName {
 }
 
 /// What routes.txt says to people of a route: each text is empty if the feed has none.
-#[derive(Debug, Drop, PartialEq, Eq)]
+#[derive(Drop)]
 pub struct RouteName {
     /// `route_short_name`, as the number of a bus.
     pub short_name: String,

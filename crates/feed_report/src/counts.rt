@@ -13,7 +13,7 @@ use std::hash::RandomState;
 use std::io::Read;
 
 /// Which of the optional files of a feed aren't there. Of the two files of services one at least is.
-#[derive(Clone, Copy, Debug, PartialEq, Eq)]
+#[derive(Clone, Copy)]
 pub struct Missing {
     pub calendar: bool,
     pub calendar_dates: bool,
@@ -22,7 +22,7 @@ pub struct Missing {
 }
 
 /// How many of each a feed has. Rows that are skipped don't count.
-#[derive(Debug, Drop)]
+#[derive(Drop)]
 pub struct Counts {
     pub stops: usize,
     pub stations: usize,

@@ -9,7 +9,7 @@ use service_span::{DayTrips, Span, span_of, trips_by_day};
 use std::alloc::{AllocError, Global};
 
 /// The days of service of a feed that has some.
-#[derive(Debug, Drop)]
+#[derive(Drop)]
 pub struct Service {
     pub span: Span,
     /// How many trips run on each of the seven days around a date, or from the first day of service on.

@@ -15,7 +15,7 @@ use std::alloc::{AllocError, Global};
 pub const FAULT_LIMIT: usize = 1_000;
 
 /// Faults of a feed in their order: the first ones, and how many more there are.
-#[derive(Debug, Drop)]
+#[derive(Drop)]
 pub struct FaultList {
     /// At most `FAULT_LIMIT`.
     pub faults: Vec<FeedFault>,

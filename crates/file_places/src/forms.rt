@@ -6,7 +6,7 @@ use gtfs_text::{date, time, whole};
 const LONGEST_WALK: u32 = 86_400;
 
 /// Which texts a column takes (docs/FORMATS.md, "the tests of a row").
-#[derive(Clone, Copy, Debug, PartialEq, Eq)]
+#[derive(Clone, Copy)]
 pub(crate) enum Form {
     /// Any but an empty one.
     Filled,

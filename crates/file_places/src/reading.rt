@@ -10,7 +10,7 @@ use std::io::Read;
 const MARK: char = '\u{feff}';
 
 /// A column and what a row has there.
-#[derive(Debug, Drop, PartialEq, Eq)]
+#[derive(Drop)]
 pub(crate) struct Field {
     pub column: &'static str,
     /// Empty if the row or the file doesn't have the column.

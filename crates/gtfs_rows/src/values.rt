@@ -4,7 +4,7 @@ use crate::id::Id;
 use civil_dates::Date;
 
 /// A row of stops.txt that is a stop. Stops are numbered from 0 in file order.
-#[derive(Debug, Drop)]
+#[derive(Drop)]
 pub struct Stop {
     pub id: Id,
     /// The number of the station that it belongs to.
@@ -12,13 +12,13 @@ pub struct Stop {
 }
 
 /// A row of stops.txt that is a station. Stations are numbered from 0 in file order, apart from stops.
-#[derive(Debug, Drop)]
+#[derive(Drop)]
 pub struct Station {
     pub id: Id,
 }
 
 /// A row of trips.txt. Trips are numbered from 0 in file order.
-#[derive(Debug, Drop)]
+#[derive(Drop)]
 pub struct Trip {
     pub id: Id,
     /// The number of its service among those that trips name, in the order of their first trips.
@@ -26,7 +26,7 @@ pub struct Trip {
 }
 
 /// A row of calendar.txt: a service's weekdays, from Monday on, within a range of dates, both ends included.
-#[derive(Debug, Drop)]
+#[derive(Drop)]
 pub struct CalendarRow {
     pub service: Id,
     pub weekdays: [bool; 7],
@@ -35,14 +35,14 @@ pub struct CalendarRow {
 }
 
 /// What a row of calendar_dates.txt does to its date.
-#[derive(Clone, Copy, Debug, PartialEq, Eq)]
+#[derive(Clone, Copy, PartialEq, Eq)]
 pub enum DateChange {
     Added,
     Removed,
 }
 
 /// A row of calendar_dates.txt.
-#[derive(Debug, Drop)]
+#[derive(Drop)]
 pub struct CalendarDate {
     pub service: Id,
     pub date: Date,
@@ -50,7 +50,7 @@ pub struct CalendarDate {
 }
 
 /// A row of stop_times.txt: one call of a trip at a stop. Times are seconds from noon less twelve hours of the service day.
-#[derive(Clone, Copy, Debug, PartialEq, Eq)]
+#[derive(Clone, Copy)]
 pub struct StopTime {
     /// The row of the file, counted from 1 after the header.
     pub row: u32,
@@ -69,7 +69,7 @@ pub struct StopTime {
 }
 
 /// What an id of transfers.txt names.
-#[derive(Clone, Copy, Debug, PartialEq, Eq)]
+#[derive(Clone, Copy)]
 pub enum Place {
     /// The stop of this number.
     Stop(u32),
@@ -78,7 +78,7 @@ pub enum Place {
 }
 
 /// The types of transfer that are kept.
-#[derive(Clone, Copy, Debug, PartialEq, Eq)]
+#[derive(Clone, Copy)]
 pub enum TransferType {
     /// Type 0, or none given.
     Recommended,
@@ -91,7 +91,7 @@ pub enum TransferType {
 }
 
 /// A row of transfers.txt.
-#[derive(Clone, Copy, Debug, PartialEq, Eq)]
+#[derive(Clone, Copy)]
 pub struct Transfer {
     pub from: Place,
     pub to: Place,
@@ -102,7 +102,7 @@ pub struct Transfer {
 
 /// A row of frequencies.txt: a trip departs at `start` and again each `headway` seconds, as long as that is before `end`. Times are
 /// seconds from noon less twelve hours of the service day.
-#[derive(Clone, Copy, Debug, PartialEq, Eq)]
+#[derive(Clone, Copy, PartialEq, Eq)]
 pub struct Frequency {
     /// The number of the trip.
     pub trip: u32,
@@ -115,7 +115,7 @@ pub struct Frequency {
 }
 
 /// How many rows were left out without being at fault.
-#[derive(Clone, Copy, Debug, Default, PartialEq, Eq)]
+#[derive(Clone, Copy, Default)]
 pub struct Skipped {
     /// Of stop_times.txt: rows without a stop.
     pub calls: usize,

@@ -4,16 +4,13 @@ ghost use Rattle.std.specs.Prelude.{◌≡◌};
 ghost use Rattle.gtfs_text.specs.declared.fault.SheetFault.TheVariants.{Memory};
 
 use std::alloc::{AllocError, AllocFailed};
-use thiserror::Error;
 
 /// Why there is no sheet of a file's bytes.
-#[derive(Clone, Copy, Debug, PartialEq, Eq, Error)]
+#[derive(Clone, Copy)]
 pub enum SheetFault {
     /// The record of this number is the first that isn't UTF-8. Record 0 is the header.
-    #[error("record {0} is not UTF-8")]
     BadRecord(usize),
     /// Memory was refused.
-    #[error("out of memory")]
     Memory,
 }
 

@@ -8,7 +8,7 @@ use std::marker::Model;
 use timetable::StopId;
 
 /// A way on from a stop to the end of a journey: the last moment at which one can be there to take it, the seconds on foot, and its rides.
-#[derive(Debug, Drop)]
+#[derive(Drop)]
 pub(crate) struct Way {
     moment: u32,
     walked: u32,

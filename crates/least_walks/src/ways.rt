@@ -9,7 +9,7 @@ use std::marker::Model;
 use timetable::StopId;
 
 /// Ways on from one stop.
-#[derive(Debug, Drop)]
+#[derive(Drop)]
 pub(crate) struct Ways {
     row: Vec<Way>,
 }

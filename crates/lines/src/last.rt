@@ -11,14 +11,14 @@ use std::alloc::{AllocError, Global};
 use std::marker::Model;
 
 /// A position of a line, and when the last instance of the line departs there, in seconds from the start of the first covered day.
-#[derive(Clone, Copy, Debug, PartialEq, Eq)]
+#[derive(Clone, Copy)]
 pub struct LastDeparture {
     pub departure: u32,
     pub at: LinePosition,
 }
 
 /// The last departures of lines at one stop.
-#[derive(Debug, Drop)]
+#[derive(Drop)]
 pub struct LastDepartures {
     row: Vec<LastDeparture>,
 }

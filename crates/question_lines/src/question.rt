@@ -12,7 +12,7 @@ use std::str;
 const LONGEST: usize = 65_536;
 
 /// A last time to leave at.
-#[derive(Clone, Copy, Debug, PartialEq, Eq)]
+#[derive(Clone, Copy)]
 pub struct Until {
     pub day: Date,
     /// The time of that service day, in seconds from its start.
@@ -20,7 +20,7 @@ pub struct Until {
 }
 
 /// Which connections are asked for.
-#[derive(Clone, Copy, Debug, PartialEq, Eq)]
+#[derive(Clone, Copy)]
 pub struct Within {
     /// The last time to leave at; without one it is the last covered moment.
     pub until: Option<Until>,
@@ -29,7 +29,7 @@ pub struct Within {
 }
 
 /// From which place to which, and when.
-#[derive(Clone, Copy, Debug, PartialEq, Eq)]
+#[derive(Clone, Copy)]
 pub struct Question<'a> {
     /// The id of the stop or the station to leave from.
     pub from: &'a str,

@@ -12,7 +12,7 @@ use std::io::{BufRead, ErrorKind};
 pub(crate) const KEPT: usize = 65_538;
 
 /// How far an input has come.
-#[derive(Clone, Copy, PartialEq, Eq)]
+#[derive(Clone, Copy)]
 pub(crate) enum Part {
     /// The line goes on.
     More,

@@ -9,14 +9,14 @@ use std::marker::Model;
 
 /// One who leaves by `until` is there at `arrival`, if no later step of the list says otherwise. Both are moments, in seconds from the
 /// start of the first covered day.
-#[derive(Clone, Copy, Debug)]
+#[derive(Clone, Copy)]
 struct Step {
     until: u32,
     arrival: u32,
 }
 
 /// The steps of one stop, from the last departures to the first.
-#[derive(Debug, Drop)]
+#[derive(Drop)]
 pub(crate) struct Steps {
     list: Vec<Step>,
 }

@@ -4,7 +4,7 @@ use timetable::StopId;
 
 /// For one stop: the seconds from leaving until one is there, over the seconds of a window of departures. A second at which one can't get
 /// there counts as slower than any other.
-#[derive(Clone, Copy, Debug, PartialEq, Eq)]
+#[derive(Clone, Copy)]
 pub struct TravelTimes {
     pub stop: StopId,
     /// At the best second of the window.

@@ -9,7 +9,7 @@ use pattern_query::Refusal as QuestionRefusal;
 use std::fmt;
 
 /// Why a line has no answer. Shown by its code, if it has one, and its name.
-#[derive(Clone, Copy, Debug, PartialEq, Eq)]
+#[derive(Clone, Copy)]
 pub enum Refusal<'a> {
     /// The line is no question.
     BadLine,
@@ -23,7 +23,7 @@ pub enum Refusal<'a> {
 
 /// What is replied to a line: an answer or connections, or why there are none. Shown by its lines and then a line with only a dot, each
 /// with its end.
-#[derive(Debug, Drop)]
+#[derive(Drop)]
 pub enum Reply<'a> {
     Answer(Answer),
     Connections(Connections),

@@ -13,7 +13,7 @@ const REACH: usize = 6;
 
 /// For each line a guess which of its instances one boards: the one that was boarded last. A search tests it, so that any guess
 /// will do. Once they are made they take no memory.
-#[derive(Debug, Drop)]
+#[derive(Drop)]
 pub struct Guesses {
     instances: Vec<usize>,
 }

@@ -19,7 +19,7 @@ use stop_labels::{Label, Row};
 use timetable::{LATEST_MOMENT, StopId, Timetable};
 
 /// What is known of each stop after a number of rides: when one alights there and when one may board there next.
-#[derive(Debug, Drop)]
+#[derive(Drop)]
 pub struct Layer {
     pub rode: Row,
     pub ready: Row,

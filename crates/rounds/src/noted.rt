@@ -12,7 +12,7 @@ use std::marker::Model;
 const NO_POSITION: u16 = u16::MAX;
 
 /// The earliest position of each line from which on to scan it, and which lines have one. Once it is made it takes no memory.
-#[derive(Debug, Drop)]
+#[derive(Drop)]
 pub struct Noted {
     earliest: Vec<u16>,
     lines: Vec<u32>,

@@ -29,7 +29,6 @@ use stop_labels::Row;
 use timetable::{LATEST_MOMENT, Numbers, Rides, StopId, Timetable};
 
 /// Runs of the rounds over one timetable, one after the other. It keeps what the last run found, for the view of it.
-#[derive(Debug)]
 pub struct Scratch {
     rides: Rides,
     lines: Arc<Lines>,

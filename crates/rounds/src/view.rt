@@ -13,7 +13,7 @@ use stop_labels::{Label, Path, Row, is_sooner};
 use timetable::StopId;
 
 /// What a run found, kept by its owner.
-#[derive(Debug, Drop)]
+#[derive(Drop)]
 pub struct Rounds {
     rounds: Vec<Row>,
 }
@@ -54,7 +54,7 @@ impl Rounds {
 }
 
 /// What a run found, to be read. It takes no memory.
-#[derive(Clone, Copy, Debug)]
+#[derive(Clone, Copy)]
 pub struct RoundView<'a> {
     rounds: &'a [Row],
 }

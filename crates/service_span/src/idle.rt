@@ -10,7 +10,7 @@ use service_days::Cover;
 use std::alloc::{AllocError, Global};
 
 /// That no trip runs on a covered day.
-#[derive(Clone, Copy, Debug, PartialEq, Eq)]
+#[derive(Clone, Copy)]
 pub struct Idle {
     /// The first and the last day of service, wherever they lie; none if the feed has no day of service.
     pub span: Option<Span>,

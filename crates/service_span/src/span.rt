@@ -15,7 +15,7 @@ use service_days::is_added;
 use std::alloc::{AllocError, Global};
 
 /// The first and the last day of service.
-#[derive(Clone, Copy, Debug, PartialEq, Eq)]
+#[derive(Clone, Copy)]
 pub struct Span {
     pub first: Date,
     pub last: Date,

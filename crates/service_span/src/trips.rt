@@ -16,7 +16,7 @@ use std::alloc::{AllocError, Global};
 const LAST_DAY: u32 = 7_304_483;
 
 /// A date, and how many trips have a service that runs on it.
-#[derive(Clone, Copy, Debug, PartialEq, Eq)]
+#[derive(Clone, Copy)]
 pub struct DayTrips {
     pub date: Date,
     pub trips: usize,

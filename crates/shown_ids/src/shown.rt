@@ -10,7 +10,7 @@ use std::fmt;
 /// An id of a feed or of a question, which may be any text, as it is shown. A backslash is shown as two, each control character (Unicode
 /// category Cc) as `\u{..}` with its number in hexadecimal, and each other character as itself. So an id never ends a line, nor reaches
 /// the terminal as a command.
-#[derive(Clone, Copy, Debug)]
+#[derive(Clone, Copy)]
 pub struct Shown<'a>(pub &'a str);
 
 impl fmt::Display for Shown<'_> {

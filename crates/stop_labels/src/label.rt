@@ -9,7 +9,7 @@ use timetable::StopId;
 
 /// When one is at a stop, and the pattern of the rides before it. The stops of all rides that there can be are copied at once: that is
 /// faster than ride by ride.
-#[derive(Debug, Drop)]
+#[derive(Drop)]
 pub struct Label {
     arrival: u32,
     rides: u8,

@@ -13,7 +13,7 @@ use timetable::StopId;
 
 /// A label of each stop, or none. When one is at each stop stands in a list of its own too, since that is looked at far more
 /// often than the rides. A stop without a moment there has no label, whatever stands in its place. Once it is made it takes no memory.
-#[derive(Debug, Drop)]
+#[derive(Drop)]
 pub struct Labels {
     arrivals: Vec<Moment>,
     labels: Vec<Label>,

@@ -11,7 +11,7 @@ use std::marker::Model;
 const NEVER: u32 = u32::MAX;
 
 /// When one is at a stop, or none. It takes four bytes, half of those of an `Option<u32>`.
-#[derive(Debug, Drop)]
+#[derive(Drop)]
 pub struct Moment {
     number: u32,
 }

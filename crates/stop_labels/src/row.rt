@@ -16,7 +16,7 @@ use timetable::StopId;
 
 /// The labels of all stops. It remembers when one was at each stop as it was last settled, and lists the stops whose labels
 /// were lowered since then. Once it is made it takes no memory.
-#[derive(Debug, Drop)]
+#[derive(Drop)]
 pub struct Row {
     labels: Labels,
     settled: Vec<Moment>,

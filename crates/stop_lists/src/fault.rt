@@ -7,7 +7,7 @@ use shown_ids::Shown;
 use std::fmt;
 
 /// Why a file of stops isn't read.
-#[derive(Clone, Copy, Debug, PartialEq, Eq)]
+#[derive(Clone, Copy)]
 pub enum ListFault {
     /// The system can't read it.
     ReadFailed,
@@ -57,7 +57,7 @@ impl ListFault {
 
 /// A fault of the file of a path, as `tp` prints it on standard error: a line with the program's name, the fault and the path, and a line
 /// beneath it that says what to do.
-#[derive(Clone, Copy, Debug)]
+#[derive(Clone, Copy)]
 pub struct ListFaultLines<'a> {
     pub path: &'a str,
     pub fault: ListFault,
@@ -75,7 +75,7 @@ impl fmt::Display for ListFaultLines<'_> {
 
 /// Where an id stands in the file of a path, as `tp` prints it on standard error: a line with the path and the number of the file's line,
 /// from 1.
-#[derive(Clone, Copy, Debug)]
+#[derive(Clone, Copy)]
 pub struct PlaceLine<'a> {
     pub path: &'a str,
     pub line: usize,

@@ -8,7 +8,7 @@ use std::marker::Model;
 
 /// One of `count` parts of the stops of a timetable: those whose number leaves `index` after division by `count`. So neighbours in the
 /// order of the numbers go to different parts, and no part has two stops more than another.
-#[derive(Clone, Copy, Debug, PartialEq, Eq)]
+#[derive(Clone, Copy)]
 pub struct Part {
     index: u32,
     count: u32,

@@ -8,7 +8,7 @@ use std::fmt;
 
 /// A stop or a station of stops.txt. They are in the order of their names, and of their ids if the names are the same. Each text is
 /// empty if the row has none.
-#[derive(Clone, Copy, Debug, PartialEq, Eq, PartialOrd, Ord)]
+#[derive(Clone, Copy, PartialEq, Eq, PartialOrd, Ord)]
 pub struct StopRow<'a> {
     /// `stop_name`.
     pub name: &'a str,

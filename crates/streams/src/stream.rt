@@ -11,7 +11,7 @@ use std::marker::Model;
 use std::{format, io};
 
 /// The writer of a stream refused a write.
-#[derive(Clone, Copy, Debug, PartialEq, Eq)]
+#[derive(Clone, Copy)]
 pub struct Refused;
 
 /// A writer, and whether it has refused a write so far. Contracts see the bytes that the writer holds, if they are known, and that.

@@ -7,7 +7,7 @@ use question_lines::{Question, Until, Within};
 
 /// When one may leave, from the moment of a question to its last one, each none if it is of a day that isn't covered; and how many
 /// connections are reported at most.
-#[derive(Clone, Copy, Debug, PartialEq, Eq)]
+#[derive(Clone, Copy)]
 pub struct Times {
     pub moment: Option<u32>,
     pub until: Option<u32>,
