@@ -6,7 +6,7 @@ use Rattle.feed_ids.specs.Names.{stops_at}
 use Rattle.pattern_query.specs.Questions as questions
 use Rattle.pattern_query.specs.declared.refusal.Refusal.{Refusal}
 use Rattle.pattern_query.specs.declared.refusal.Refusal.TheVariants as refusals
-use Rattle.question_lines.specs.declared.question.Question.{Question}
+use Rattle.questions.specs.declared.question.Question.{Question}
 use Rattle.feed_basis.specs.Basis.{BasisData}
 use Rattle.answering.specs.Refusals.{IsCovered, IsMissing, IsRefused}
 

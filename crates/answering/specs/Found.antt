@@ -6,7 +6,7 @@ use Rattle.pattern_query.specs.Answer.{PointData, numbers}
 use Rattle.feed_ids.specs.Names.{stops_at}
 use Rattle.pattern_query.specs.Questions.{AreComplete, AskedReaches, Held, IsStored, ReachesBetween}
 use Rattle.answering.specs.Answers.{IsLastAsked}
-use Rattle.question_lines.specs.declared.question.Question.{Question}
+use Rattle.questions.specs.declared.question.Question.{Question}
 use Rattle.feed_basis.specs.Basis.{BasisData}
 
 -- journeys between the stops of the question's ids at d, from the trees of the first; the best of all if these trees are complete

@@ -9,7 +9,7 @@ use Rattle.faults.specs.declared.fault.Fault.{Fault}
 use Rattle.faults.specs.declared.fault.Fault.TheVariants as faults
 use Rattle.feed_basis.specs.Basis.{BasisData}
 use Rattle.feed_basis.specs.Ids.{IsKnown}
-use Rattle.question_lines.specs.declared.question.Question.{Question}
+use Rattle.questions.specs.declared.question.Question.{Question}
 
 -- both ids of the question stand for stops
 abbrev pub AreKnown : (List ℕ → Option (List ℕ)) → Question → Type 0

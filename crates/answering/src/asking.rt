@@ -14,7 +14,7 @@ use direct_connections::Network;
 use faults::Fault;
 use feed_basis::{Basis, points_of, told};
 use pattern_query::{Refusal, Trees, ask_on};
-use question_lines::Question;
+use questions::Question;
 use rounds::Rides;
 use scanned_journeys::scan_journeys;
 use std::alloc::{AllocError, Global};

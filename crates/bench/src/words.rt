@@ -1,14 +1,13 @@
 //! What the benchmark's words say.
 
-ghost use Rattle.std.specs.Prelude.{◌≡◌, false, [], IfOk, IfErr, IfSome, IfNone, OnOk, map};
-ghost use Rattle.clap.specs.Words.{app_of, rows_of, found_of, matches_of, fault_of, kind_of, FailsBy};
-ghost use Rattle.clap.specs.declared.error.kind.ErrorKind.TheVariants.{OutOfMemory};
-ghost use Rattle.clap.specs.declared.builder.command.Command.TheViews.{out-Command as fields_of};
+ghost use Rattle.std.specs.Prelude.{◌≡◌, [], IfOk, IfErr, IfSome, IfNone, OnOk, map};
+ghost use Rattle.clap.specs.Words.{rows_of, found_of, matches_of, fault_of, FailsBy};
+ghost use Rattle.options.specs.Made.{IsMade};
 ghost use Rattle.options.specs.Statuses.{IsStatus};
 ghost use Rattle.bench.specs.CommandLine.{bench_app, IsMeasure, NamesNothing};
 
 use clap::{ArgMatches, Command, Error};
-use options::{Settings, common, number, number_of, optional, refuse, settings_of, text_of};
+use options::{Settings, Word, common, number_of, refuse, settings_of, text_of, with_words};
 use std::alloc::Global;
 use std::io::Write;
 
@@ -32,7 +31,7 @@ const SOURCES: &str =
 const STORE: &str = "The file of a store, to which the trees of the sources are put";
 
 /// What to measure.
-#[derive(Clone, Copy, Debug)]
+#[derive(Clone, Copy)]
 pub struct Measure<'a> {
     pub settings: Settings<'a>,
     /// How many questions for one ride are asked.
@@ -49,20 +48,21 @@ pub struct Measure<'a> {
     pub store: Option<&'a str>,
 }
 
+// The benchmark's own words.
+const WORDS: [Word; 6] = [
+    Word::Number("direct", "N", "100000", 0, 10_000_000, DIRECT),
+    Word::Number("plain", "N", "100", 0, 1_000_000, PLAIN),
+    Word::Number("queries", "N", "1000", 0, 1_000_000, QUERIES),
+    Word::Number("seed", "S", "1", 0, u32::MAX, SEED),
+    Word::Number("sources", "N", "0", 0, 1_000_000, SOURCES),
+    Word::Optional("store", "FILE", STORE),
+];
+
 // The benchmark's command line.
 fn command<'a>(alloc: Global) -> Result<Command<'a>, Error>
-    ensures shape { IfOk result (λ c. app_of c ≡ bench_app) }
-    ensures local { IfOk result (λ c. (fields_of c).has_globals ≡ false) }
-    ensures err { IfErr result (λ e. kind_of e ≡ OutOfMemory) }
+    ensures { IsMade bench_app result }
 {
-    let command = common(alloc, "bench", ABOUT)?
-        .arg(number(alloc, "direct", "N", "100000", 0, 10_000_000, DIRECT))?
-        .arg(number(alloc, "plain", "N", "100", 0, 1_000_000, PLAIN))?
-        .arg(number(alloc, "queries", "N", "1000", 0, 1_000_000, QUERIES))?
-        .arg(number(alloc, "seed", "S", "1", 0, u32::MAX, SEED))?
-        .arg(number(alloc, "sources", "N", "0", 0, 1_000_000, SOURCES))?
-        .arg(optional(alloc, "store", "FILE", STORE))?;
-    Ok(command)
+    with_words(alloc, common(alloc, "bench", ABOUT)?, &WORDS)
 }
 
 // What the words match of the command line.

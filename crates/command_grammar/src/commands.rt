@@ -11,7 +11,7 @@ use crate::texts::{
     ROW_WORKERS, SCAN, SCAN_MORE, SERVE, SERVE_MORE, STOPS, STOPS_MORE, STORE, TEXT, TO, TO_FILE,
     UNTIL, UNTIL_ON, WEEK, WITHIN, WORKERS,
 };
-use crate::word::Word;
+use options::Word;
 
 // Checks a feed.
 const CHECK_WORDS: [Word; 4] = [

@@ -1,14 +1,10 @@
 //! A command by what it is called and the words that it takes.
 
-ghost use Rattle.std.specs.Prelude.{◌≡◌, false, fold};
-ghost use Rattle.clap.specs.Words.{app_of};
-ghost use Rattle.clap.specs.declared.builder.command.Command.TheViews.{out-Command as fields_of};
-ghost use Rattle.command_grammar.specs.Grammars.{begun_app, grammar_app, with_word};
-ghost use Rattle.command_grammar.specs.Made.{IsMade};
+ghost use Rattle.options.specs.Made.{IsMade};
+ghost use Rattle.command_grammar.specs.Grammars.{begun_app, grammar_app};
 
-use crate::word::Word;
 use clap::{Command, Error};
-use options::common;
+use options::{Word, common, with_words};
 use std::alloc::Global;
 
 /// A command by what it is called and the words that it takes.
@@ -24,22 +20,6 @@ pub(crate) struct Grammar<'a> {
     pub(crate) more: &'a str,
     /// Its usage, if that is written out.
     pub(crate) usage: Option<&'a str>,
-}
-
-// The command with these words too.
-fn with_words<'a>(
-    alloc: Global,
-    command: Command<'a>,
-    words: &[Word<'a>],
-) -> Result<Command<'a>, Error>
-    requires local { (fields_of command).has_globals ≡ false }
-    ensures { IsMade (fold with_word (app_of command.entry) words.now) result }
-{
-    let mut command = command;
-    for word in words {
-        command = command.arg(word.arg(alloc))?;
-    }
-    Ok(command)
 }
 
 impl<'a> Grammar<'a> {

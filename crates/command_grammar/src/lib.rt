@@ -5,7 +5,6 @@ mod commands;
 mod grammar;
 mod program;
 mod texts;
-mod word;
 
 pub use program::matches_of;
 pub use texts::FAULT_TABLE;

@@ -3,7 +3,7 @@ use Rattle.std.proofs.Common.{◌≡◌, ◌+◌, ◌*◌, ℕ, false, List, Opt
 use Rattle.std.proofs.Math.Dec.{eqb}
 use Rattle.std.proofs.lemmas.Bool.{eqb-false}
 use Rattle.clap.specs.Words.{Row, Text}
-use Rattle.question_lines.specs.declared.question.Question.{Question}
+use Rattle.questions.specs.declared.question.Question.{Question}
 use Rattle.option_words.specs.Questions.{HasPlaces}
 use Rattle.command_line.specs.Jobs.{IsCommand, IsSearch, IsTask}
 use Rattle.option_words.specs.ReachWords.{AsksMinutes}

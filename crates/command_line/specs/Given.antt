@@ -1,7 +1,7 @@
 -- What the words say that a fault may be about.
 use Rattle.std.specs.Prelude.{ℕ, List, Option, None, Some}
 use denote.Ref.{Bor}
-use Rattle.question_lines.specs.declared.question.Question.{Question}
+use Rattle.questions.specs.declared.question.Question.{Question}
 use Rattle.command_line.specs.declared.job.Command.{Command}
 use Rattle.command_line.specs.declared.job.Command.TheVariants as commands
 use Rattle.command_line.specs.declared.job.Plan.{Plan}

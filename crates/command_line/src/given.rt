@@ -5,7 +5,7 @@ ghost use Rattle.command_line.specs.Given.{command_places, folder_given, given_b
 
 use crate::job::{Command, Plan, Search, Task};
 use crate::unread::Word;
-use question_lines::Question;
+use questions::Question;
 
 /// The places of a question, by their ids.
 #[derive(Clone, Copy)]

@@ -9,7 +9,7 @@ use feed_texts::{FaultText, GivenText, NamedStop, fault_text_json};
 use file_places::{Part, text_of};
 use gtfs_text::Sheet;
 use pattern_query::Refusal;
-use question_lines::Question;
+use questions::Question;
 use std::alloc::{AllocError, Global};
 use std::format;
 use stop_search::StopRow;

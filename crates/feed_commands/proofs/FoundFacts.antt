@@ -4,7 +4,7 @@ use Rattle.answer_lines.specs.declared.answer.Answer.{Answer}
 use Rattle.answer_lines.specs.declared.report.Report.{Report}
 use Rattle.connection_lines.specs.declared.connections.Connections.{Connections}
 use Rattle.faults.specs.declared.fault.Fault.{Fault}
-use Rattle.question_lines.specs.declared.question.Question.{Question}
+use Rattle.questions.specs.declared.question.Question.{Question}
 use Rattle.feed_commands.specs.Found.{found_by}
 use Rattle.feed_commands.specs.Finds.{FindsAnswer, FindsConnections, FindsReport}
 use Rattle.feed_commands.specs.declared.found.Found.{Found}

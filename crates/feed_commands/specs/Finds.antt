@@ -1,7 +1,7 @@
 -- What a search over the timetable may find, or which fault it has.
 use Rattle.std.specs.Prelude.{◌≡◌, ℕ, Bool, List, Option, None, Some, Result, MatchResult}
-use Rattle.question_lines.specs.declared.question.Question.{Question}
-use Rattle.question_lines.specs.declared.question.Within.{Within}
+use Rattle.questions.specs.declared.question.Question.{Question}
+use Rattle.questions.specs.declared.question.Within.{Within}
 use Rattle.faults.specs.declared.fault.Fault.{Fault}
 use Rattle.feed_basis.specs.Basis.{BasisData}
 use Rattle.feed_basis.specs.Ids.{stop_alone}

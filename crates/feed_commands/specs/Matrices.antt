@@ -7,8 +7,8 @@ use Rattle.pattern_query.specs.declared.refusal.Refusal.TheVariants as refusals
 use Rattle.printing.specs.Finished.{IsFaulted, IsNoMemory, IsUnwritten, StreamsData}
 use Rattle.printing.specs.Tellings.{Telling}
 use Rattle.printing.specs.declared.fault.Voice.{Voice}
-use Rattle.question_lines.specs.declared.question.Question.{Question}
-use Rattle.question_lines.specs.declared.question.Within.{Within}
+use Rattle.questions.specs.declared.question.Question.{Question}
+use Rattle.questions.specs.declared.question.Within.{Within}
 use Rattle.service_days.specs.Answers.{IsMoment}
 use Rattle.stop_lists.specs.Faults.{fault_lines, place_line}
 use Rattle.stop_lists.specs.Lists.{Explains, IsLineOf, IsList, ids_in}

@@ -11,7 +11,7 @@ use faults::Fault;
 use feed_basis::Basis;
 use option_words::{Format, Style};
 use printing::{Asked, Streams, Teller, Told, Voice, copy_of, finish};
-use question_lines::Question;
+use questions::Question;
 use std::alloc::Global;
 use std::io::Write;
 

@@ -7,7 +7,7 @@ use crate::found::{Found, found_answer, found_connections, found_report};
 use answering::{direct, scan};
 use faults::Fault;
 use feed_basis::Basis;
-use question_lines::Question;
+use questions::Question;
 use std::alloc::Global;
 use timetable::Rides;
 use told_connections::{scan_within, times_of};

@@ -13,7 +13,7 @@ use option_words::Workers;
 use pattern_query::Refusal;
 use printing::{Streams, Voice, say_no_memory, say_unwritten, tell_fault};
 use program_system::System;
-use question_lines::Question;
+use questions::Question;
 use std::alloc::Global;
 use std::io::{ErrorKind, Write};
 use stop_lists::{ListFault, ListFaultLines, PlaceLine, ids_of, line_of, read_list};

@@ -20,7 +20,7 @@ use itineraries::{Found, itinerary_of};
 use option_words::{Format, StopSearch};
 use options::Settings;
 use printing::{Asked, Teller};
-use question_lines::Question;
+use questions::Question;
 use reply_lines::Reply;
 use sheet_texts::{
     asked_by, feed_text, found_text, line, listed_by_ids, reach_text, stops_text, times_text,

@@ -3,7 +3,7 @@ use Rattle.std.proofs.Common.{rules, ◌≡◌, List, Option, None, Some, IfSome
 use Rattle.jiff_core.specs.declared.civil.date.Date.{Date}
 use Rattle.clap.specs.Words.{Row, Text, first_of}
 use Rattle.gtfs_text.specs.Values.{date_of, ymd}
-use Rattle.question_lines.specs.declared.question.Question.{Question}
+use Rattle.questions.specs.declared.question.Question.{Question}
 use Rattle.option_words.specs.Days.{HasNoDate, IsNamedDay}
 use Rattle.option_words.specs.Questions.{HasPlaces}
 use Rattle.option_words.specs.Questions.{ArePlaces, IsDayIn, LacksDayIn}

@@ -2,7 +2,7 @@
 use Rattle.std.proofs.Common.{◌≡◌, ◌∙◌, List, Option, Some}
 use Rattle.jiff_core.specs.declared.civil.date.Date.{Date}
 use Rattle.clap.specs.Words.{Row, Text}
-use Rattle.question_lines.specs.declared.question.Question.{Question}
+use Rattle.questions.specs.declared.question.Question.{Question}
 use Rattle.option_words.specs.Questions.{HasPlaces}
 use Rattle.option_words.specs.Questions.{IsAsked}
 use Rattle.option_words.specs.Questions.{ArePlaces, IsFaultOf, LacksTimes}

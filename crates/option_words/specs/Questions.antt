@@ -3,7 +3,7 @@ use Rattle.std.specs.Prelude.{◌≡◌, ℕ, List, Option, None, Some, IfSome, 
 use Rattle.jiff_core.specs.declared.civil.date.Date.{Date}
 use Rattle.clap.specs.Words.{Row, Text}
 use Rattle.options.specs.Values.{HasText}
-use Rattle.question_lines.specs.declared.question.Question.{Question}
+use Rattle.questions.specs.declared.question.Question.{Question}
 use Rattle.option_words.specs.Days.{HasTime, IsNamedDay, HasNoDate, HasNoTime}
 use Rattle.option_words.specs.WithinWords.{IsNextOf, IsWithinOf, NamesUntil}
 use Rattle.option_words.specs.declared.question.Places.{Places}

@@ -3,8 +3,8 @@ use Rattle.std.specs.Prelude.{◌≡◌, ◌≤◌, ◌^◌, ℕ, List, Option, 
 use Rattle.jiff_core.specs.declared.civil.date.Date.{Date}
 use Rattle.clap.specs.Words.{Row, Text, first_of}
 use Rattle.options.specs.Values.{HasNumber, HasText}
-use Rattle.question_lines.specs.declared.question.Until.{Until}
-use Rattle.question_lines.specs.declared.question.Within.{Within}
+use Rattle.questions.specs.declared.question.Until.{Until}
+use Rattle.questions.specs.declared.question.Within.{Within}
 use Rattle.option_words.specs.Days.{HasTime, IsNamedDay}
 
 -- the last time to leave at, if one is named: of the day that is named for it, or else of the day to leave on

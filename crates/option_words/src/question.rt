@@ -12,7 +12,7 @@ use civil_dates::Date;
 use clap::ArgMatches;
 use gtfs_text::{date, time};
 use options::text_of;
-use question_lines::Question;
+use questions::Question;
 
 // The ids and the time of a question, as they are written.
 #[derive(Clone, Copy)]

@@ -11,7 +11,7 @@ use civil_dates::Date;
 use clap::ArgMatches;
 use gtfs_text::time;
 use options::{number_of, text_of};
-use question_lines::{Until, Within};
+use questions::{Until, Within};
 
 // The greatest number of connections that can be asked for.
 const MOST: u16 = 1_000;

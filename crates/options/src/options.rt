@@ -1,11 +1,11 @@
 //! The options that the programs have.
 
-ghost use Rattle.std.specs.Prelude.{◌≡◌, false, IfOk, IfErr};
-ghost use Rattle.clap.specs.Words.{app_of, rule_of, kind_of};
-ghost use Rattle.clap.specs.declared.error.kind.ErrorKind.TheVariants.{OutOfMemory};
-ghost use Rattle.clap.specs.declared.builder.command.Command.TheViews.{out-Command as fields_of};
-ghost use Rattle.options.specs.Options.{required_rule, optional_rule, flag_rule, defaulted_rule, number_rule, feed_app, common_app};
+ghost use Rattle.std.specs.Prelude.{◌≡◌, false};
+ghost use Rattle.clap.specs.Words.{rule_of};
+ghost use Rattle.options.specs.Made.{IsMade};
+ghost use Rattle.options.specs.Options.{required_rule, optional_rule, flag_rule, defaulted_rule, number_rule, common_app};
 
+use crate::word::{Word, with_words};
 use clap::builder::ValueParser;
 use clap::{Arg, ArgAction, Command, Error};
 use std::alloc::Global;
@@ -19,7 +19,7 @@ const RIDES: &str = "The most rides of a journey, 1 to 8";
 const WALK: &str = "Seconds of a walk or change without any, up to 86400";
 
 /// An option that may be left out: it has no value then. `shown` is how its value is shown in the help.
-pub fn optional<'a>(alloc: Global, name: &'a str, shown: &'a str, help: &'a str) -> Arg<'a>
+pub(crate) fn optional<'a>(alloc: Global, name: &'a str, shown: &'a str, help: &'a str) -> Arg<'a>
     ensures rule { rule_of result ≡ optional_rule name.entry.now }
     ensures local { result.global ≡ false }
 {
@@ -31,7 +31,7 @@ pub fn optional<'a>(alloc: Global, name: &'a str, shown: &'a str, help: &'a str)
 }
 
 /// An option that must be given, with how its value is shown in the help, and the help itself.
-pub fn required<'a>(alloc: Global, name: &'a str, shown: &'a str, help: &'a str) -> Arg<'a>
+pub(crate) fn required<'a>(alloc: Global, name: &'a str, shown: &'a str, help: &'a str) -> Arg<'a>
     ensures rule { rule_of result ≡ required_rule name.entry.now }
     ensures local { result.global ≡ false }
 {
@@ -39,7 +39,7 @@ pub fn required<'a>(alloc: Global, name: &'a str, shown: &'a str, help: &'a str)
 }
 
 /// An option that may be left out: it has this value then.
-pub fn defaulted<'a>(
+pub(crate) fn defaulted<'a>(
     alloc: Global,
     name: &'a str,
     shown: &'a str,
@@ -53,7 +53,7 @@ pub fn defaulted<'a>(
 }
 
 /// An option without a value: it is there, or it isn't.
-pub fn flag<'a>(alloc: Global, name: &'a str, help: &'a str) -> Arg<'a>
+pub(crate) fn flag<'a>(alloc: Global, name: &'a str, help: &'a str) -> Arg<'a>
     ensures rule { rule_of result ≡ flag_rule name.entry.now }
     ensures local { result.global ≡ false }
 {
@@ -64,7 +64,7 @@ pub fn flag<'a>(alloc: Global, name: &'a str, help: &'a str) -> Arg<'a>
 }
 
 /// An option whose value is a whole number from `least` to `most`, and `value` if it is left out.
-pub fn number<'a>(
+pub(crate) fn number<'a>(
     alloc: Global,
     name: &'a str,
     shown: &'a str,
@@ -80,30 +80,20 @@ pub fn number<'a>(
     defaulted(alloc, name, shown, value, help).value_parser(parser)
 }
 
-// A command with the feed and the covered days. An error is want of memory.
-fn of_feed<'a>(alloc: Global, name: &'a str, about: &'a str) -> Result<Command<'a>, Error>
-    ensures shape { IfOk result (λ c. app_of c ≡ feed_app name.entry.now) }
-    ensures local { IfOk result (λ c. (fields_of c).has_globals ≡ false) }
-    ensures err { IfErr result (λ e. kind_of e ≡ OutOfMemory) }
-{
-    let command = Command::new(alloc, name)
-        .about(about)
-        .arg(required(alloc, "feed", "DIR", "The folder of the feed's files"))?
-        .arg(required(alloc, "date", "YYYYMMDD", "The first covered day"))?
-        .arg(number(alloc, "days", "N", "1", 0, 255, DAYS))?;
-    Ok(command)
-}
+// The options that all commands have.
+const COMMON: [Word; 6] = [
+    Word::Required("feed", "DIR", "The folder of the feed's files"),
+    Word::Required("date", "YYYYMMDD", "The first covered day"),
+    Word::Number("days", "N", "1", 0, 255, DAYS),
+    Word::Defaulted("zone", "RULE", "<-00>0", ZONE),
+    Word::Number("rides", "K", "3", 1, 8, RIDES),
+    Word::Number("default-walk", "SECONDS", "120", 0, 86_400, WALK),
+];
 
 /// A command with the options that all commands have: the feed, the covered days, the zone, the rides and the walks. An
 /// error is want of memory.
 pub fn common<'a>(alloc: Global, name: &'a str, about: &'a str) -> Result<Command<'a>, Error>
-    ensures shape { IfOk result (λ c. app_of c ≡ common_app name.entry.now) }
-    ensures local { IfOk result (λ c. (fields_of c).has_globals ≡ false) }
-    ensures err { IfErr result (λ e. kind_of e ≡ OutOfMemory) }
+    ensures { IsMade (common_app name.entry.now) result }
 {
-    let command = of_feed(alloc, name, about)?
-        .arg(defaulted(alloc, "zone", "RULE", "<-00>0", ZONE))?
-        .arg(number(alloc, "rides", "K", "3", 1, 8, RIDES))?
-        .arg(number(alloc, "default-walk", "SECONDS", "120", 0, 86_400, WALK))?;
-    Ok(command)
+    with_words(alloc, Command::new(alloc, name).about(about), &COMMON)
 }

@@ -3,7 +3,7 @@
 ghost use Rattle.std.specs.Prelude.{◌≡◌};
 
 use options::Settings;
-use question_lines::Question;
+use questions::Question;
 
 /// What an answer is an answer to.
 #[derive(Clone, Copy)]

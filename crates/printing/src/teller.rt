@@ -2,7 +2,7 @@
 
 ghost use Rattle.std.specs.Prelude.{◌≡◌, Option, IfOk, IfErr, IfSome, string_bytes};
 ghost use Rattle.feed_basis.specs.Basis.{BasisData};
-ghost use Rattle.question_lines.specs.declared.question.Question.{Question};
+ghost use Rattle.questions.specs.declared.question.Question.{Question};
 ghost use Rattle.reply_lines.specs.Printed.{no_memory};
 ghost use Rattle.printing.specs.Tellings.{IsStopsFault, Telling, tells_legs};
 
@@ -17,7 +17,7 @@ use file_faults::FaultList;
 use gtfs_rows::FeedFault;
 use option_words::{Format, StopSearch, Style};
 use options::Settings;
-use question_lines::Question;
+use questions::Question;
 use reply_lines::Reply;
 use std::alloc::{AllocError, Global};
 

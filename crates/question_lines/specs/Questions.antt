@@ -6,9 +6,9 @@ use Rattle.std.specs.List.{slice_split}
 use Rattle.std.specs.Str.{IsUtf8}
 use Rattle.jiff_core.specs.declared.civil.date.Date.{Date}
 use Rattle.gtfs_text.specs.Values.{date_of, time_of, ymd}
-use Rattle.question_lines.specs.declared.question.Question.{Question}
-use Rattle.question_lines.specs.declared.question.Until.{Until}
-use Rattle.question_lines.specs.declared.question.Within.{Within}
+use Rattle.questions.specs.declared.question.Question.{Question}
+use Rattle.questions.specs.declared.question.Until.{Until}
+use Rattle.questions.specs.declared.question.Within.{Within}
 
 -- what stands before the first tab of a line, between each and the next, and after the last
 abbrev pub cut_at_tabs : List ℕ → List (List ℕ)

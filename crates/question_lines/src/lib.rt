@@ -6,4 +6,3 @@ mod question;
 mod reading;
 
 pub use line::Line;
-pub use question::{Question, Until, Within};

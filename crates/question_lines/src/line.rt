@@ -5,8 +5,9 @@ ghost use Rattle.std.specs.Str.Lines.{strip_carriage_return};
 ghost use Rattle.question_lines.specs.Lines.{IsKept, ReadsLine};
 ghost use Rattle.question_lines.specs.Questions.{IsQuestion, NotQuestion};
 
-use crate::question::{Question, question_of};
+use crate::question::question_of;
 use crate::reading::{KEPT, Part, read_part};
+use questions::Question;
 use std::alloc::{AllocError, Global};
 use std::io;
 use std::io::{BufRead, Error, ErrorKind};

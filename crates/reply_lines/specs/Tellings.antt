@@ -1,6 +1,6 @@
 -- The texts of replies.
 use Rattle.std.specs.Prelude.{◌≡◌, ℕ, List, Option}
-use Rattle.question_lines.specs.declared.question.Question.{Question}
+use Rattle.questions.specs.declared.question.Question.{Question}
 use Rattle.reply_lines.specs.Printed.{reply_text}
 use Rattle.reply_lines.specs.declared.reply.Reply.{Reply}
 

@@ -14,7 +14,7 @@ use Rattle.faults.specs.declared.fault.Fault.{Fault}
 use Rattle.faults.specs.declared.fault.Fault.TheVariants as told
 use Rattle.told_connections.specs.Windows.{IsAskedWithin, IsUnaskedWithin}
 use Rattle.told_connections.specs.declared.times.Times.{Times}
-use Rattle.question_lines.specs.declared.question.Question.{Question}
+use Rattle.questions.specs.declared.question.Question.{Question}
 use Rattle.serving.specs.Answers.{AsksWithin, IsAsked, IsForCause, IsRefused, IsReply, IsTold, IsUnaskedAt, refused_by, reply_of}
 use Rattle.reply_lines.specs.declared.reply.Refusal.TheVariants as refusals
 use Rattle.reply_lines.specs.declared.reply.Reply.{Reply}

@@ -8,7 +8,7 @@ use Rattle.std.proofs.lemmas.List.Folds.{concat-append}
 use Rattle.board.specs.Ties.{BoardPart}
 use Rattle.answer_lines.specs.Printing.{AppendsBeginning}
 use Rattle.question_lines.specs.Lines.{HasNoLine, IsKept, LosesLine}
-use Rattle.question_lines.specs.declared.question.Question.{Question}
+use Rattle.questions.specs.declared.question.Question.{Question}
 use Rattle.reply_lines.specs.Printed.{no_memory}
 use Rattle.reply_lines.specs.Tellings.{Telling}
 use Rattle.serving.specs.Tellings.{IsAsking, IsBegun, IsPrinted, IsReplyText}

@@ -20,8 +20,8 @@ use Rattle.connection_lines.specs.declared.connections.Connections.{Connections}
 use Rattle.feed_basis.specs.Basis.{BasisData}
 use Rattle.feed_basis.specs.Points.{TellsLeaving}
 use Rattle.question_lines.specs.Questions.{IsQuestion, NotQuestion}
-use Rattle.question_lines.specs.declared.question.Question.{Question}
-use Rattle.question_lines.specs.declared.question.Within.{Within}
+use Rattle.questions.specs.declared.question.Question.{Question}
+use Rattle.questions.specs.declared.question.Within.{Within}
 use Rattle.told_connections.specs.Times.{AreTimesOf}
 use Rattle.told_connections.specs.Windows.{IsAskedWithin, IsUnaskedWithin}
 use Rattle.told_connections.specs.declared.times.Times.{Times}

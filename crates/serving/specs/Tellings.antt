@@ -4,7 +4,7 @@ use Rattle.std.specs.Io.KnownBytes.{Appends}
 use Rattle.board.specs.Ties.{BoardPart}
 use Rattle.answer_lines.specs.Printing.{AppendsBeginning}
 use Rattle.question_lines.specs.Questions.{IsQuestion, NotQuestion}
-use Rattle.question_lines.specs.declared.question.Question.{Question}
+use Rattle.questions.specs.declared.question.Question.{Question}
 use Rattle.reply_lines.specs.Printed.{no_memory}
 use Rattle.reply_lines.specs.Tellings.{Telling}
 use Rattle.reply_lines.specs.declared.reply.Reply.{Reply}

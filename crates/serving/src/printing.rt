@@ -8,7 +8,7 @@ ghost use Rattle.serving.specs.Tellings.{IsBegun, IsPrinted};
 use crate::telling::ReplyTeller;
 use answer_lines::print_bytes;
 use feed_basis::Basis;
-use question_lines::Question;
+use questions::Question;
 use reply_lines::Reply;
 use std::alloc::Global;
 use std::io::Write;

@@ -12,7 +12,7 @@ use answer_lines::Answer;
 use board::Reader;
 use feed_basis::{Basis, told};
 use planner::{AskFault, Planner};
-use question_lines::Question;
+use questions::Question;
 use reply_lines::{Refusal, Reply};
 use std::alloc::Global;
 use timetable::LATEST_MOMENT;

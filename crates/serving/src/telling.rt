@@ -2,12 +2,12 @@
 
 ghost use Rattle.std.specs.Prelude.{◌≡◌, Bool, Option, IfOk, string_bytes};
 ghost use Rattle.feed_basis.specs.Basis.{BasisData};
-ghost use Rattle.question_lines.specs.declared.question.Question.{Question};
+ghost use Rattle.questions.specs.declared.question.Question.{Question};
 ghost use Rattle.reply_lines.specs.Printed.{no_memory};
 ghost use Rattle.reply_lines.specs.Tellings.{Telling};
 
 use feed_basis::Basis;
-use question_lines::Question;
+use questions::Question;
 use reply_lines::Reply;
 use std::alloc::{AllocError, Global};
 use std::format;

@@ -10,7 +10,7 @@ use connection_lines::Connections;
 use faults::Fault;
 use feed_basis::Basis;
 use planner::Planner;
-use question_lines::{Question, Within};
+use questions::{Question, Within};
 use reply_lines::{Refusal, Reply};
 use std::alloc::Global;
 use told_connections::{ask_within, times_of};

@@ -5,7 +5,7 @@ use feed_texts::{StopList, stop_list_geojson, stop_list_json};
 use itineraries::Asked;
 use itinerary_texts::{Itinerary, geojson, itinerary_json, people_text};
 use option_words::Format;
-use question_lines::{Question, Within};
+use questions::{Question, Within};
 use std::alloc::{AllocError, Global};
 
 // The last time to leave at, if one is named.

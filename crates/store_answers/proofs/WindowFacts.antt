@@ -9,7 +9,7 @@ use Rattle.pattern_query.specs.Leaving.{LeavesLast}
 use Rattle.pattern_query.specs.Questions.{AskedReaches, IsAskedPoint, tree_at}
 use Rattle.feed_ids.specs.Names.{stops_at}
 use Rattle.store_excerpt.specs.Laws.{WholeIsComplete}
-use Rattle.question_lines.specs.declared.question.Question.{Question}
+use Rattle.questions.specs.declared.question.Question.{Question}
 use Rattle.connection_lines.specs.declared.connections.Connections.{Connections}
 use Rattle.connections.specs.Connections.{AreFirst, Connects, IsConnection, WalksLeast}
 use Rattle.connections.specs.declared.connection.Connection.{Connection}

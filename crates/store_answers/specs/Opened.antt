@@ -7,7 +7,7 @@ use Rattle.feed_ids.specs.Names.{stops_at}
 use Rattle.recovery.specs.Opening.{IsOpening, StandsForSources}
 use Rattle.store_excerpt.specs.Board.{ShowsAmong}
 use Rattle.store_excerpt.specs.Excerpt.{ShowsWhole}
-use Rattle.question_lines.specs.declared.question.Question.{Question}
+use Rattle.questions.specs.declared.question.Question.{Question}
 use Rattle.feed_basis.specs.Basis.{BasisData, IsSound}
 use Rattle.store_terms.specs.Stores.{form_over}
 

@@ -12,7 +12,7 @@ use Rattle.section_store.specs.Lasting.{IsExact, IsTrusted}
 use Rattle.section_store.specs.Sections.{Stands, sources}
 use Rattle.store_excerpt.specs.Board.{IsWholeAmong}
 use Rattle.recovery.specs.Opening.{IsOpening, StandsForSources}
-use Rattle.question_lines.specs.declared.question.Question.{Question}
+use Rattle.questions.specs.declared.question.Question.{Question}
 use Rattle.connection_lines.specs.declared.connections.Connections.{Connections}
 use Rattle.connections.specs.declared.connection.Connection.{Connection}
 use Rattle.faults.specs.declared.fault.Fault.{Fault}

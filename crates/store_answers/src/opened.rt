@@ -8,7 +8,7 @@ use disk_model::Disk;
 use faults::Fault;
 use feed_basis::Basis;
 use pattern_query::place_named;
-use question_lines::Question;
+use questions::Question;
 use std::alloc::Global;
 use store_excerpt::Excerpt;
 use timetable::Rides;

@@ -9,7 +9,7 @@ use connection_lines::Connections;
 use disk_model::Disk;
 use faults::Fault;
 use feed_basis::Basis;
-use question_lines::Question;
+use questions::Question;
 use std::alloc::Global;
 use store_excerpt::laws::whole_is_complete;
 use timetable::Rides;

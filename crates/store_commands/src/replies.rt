@@ -3,7 +3,7 @@
 use feed_basis::Basis;
 use option_words::Format;
 use printing::Teller;
-use question_lines::Question;
+use questions::Question;
 use reply_lines::Reply;
 use serving::ReplyTeller;
 use std::alloc::{AllocError, Global};

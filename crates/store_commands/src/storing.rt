@@ -15,7 +15,7 @@ use feed_commands::{Found, found_answer, found_connections, found_report};
 use option_words::{Audited, Style};
 use printing::tells_legs;
 use program_system::System;
-use question_lines::Question;
+use questions::Question;
 use std::alloc::Global;
 use std::io::Write;
 use store_answers::{ask_stored, ask_stored_within, audit, audit_all, list};

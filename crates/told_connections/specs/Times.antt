@@ -1,9 +1,9 @@
 -- When one may leave, and how many connections are reported.
 use Rattle.std.specs.Prelude.{◌≡◌, ℕ, Option, None, Some}
 use Rattle.feed_basis.specs.Basis.{BasisData}
-use Rattle.question_lines.specs.declared.question.Question.{Question}
-use Rattle.question_lines.specs.declared.question.Until.{Until}
-use Rattle.question_lines.specs.declared.question.Within.{Within}
+use Rattle.questions.specs.declared.question.Question.{Question}
+use Rattle.questions.specs.declared.question.Until.{Until}
+use Rattle.questions.specs.declared.question.Within.{Within}
 use Rattle.service_days.specs.Answers.{IsMoment}
 use Rattle.told_connections.specs.declared.times.Times.{Times}
 

@@ -19,7 +19,7 @@ use Rattle.faults.specs.declared.fault.Fault.{Fault}
 use Rattle.feed_basis.specs.Basis.{BasisData}
 use Rattle.feed_basis.specs.Ids.{stop_alone}
 use Rattle.feed_ids.specs.Names.{stops_at}
-use Rattle.question_lines.specs.declared.question.Question.{Question}
+use Rattle.questions.specs.declared.question.Question.{Question}
 use Rattle.service_days.specs.Cover.{CoverDays}
 use Rattle.told_connections.specs.Next.{AreChosen}
 use Rattle.told_connections.specs.declared.times.Times.{Times}

@@ -19,7 +19,7 @@ use direct_connections::Network;
 use faults::Fault;
 use feed_basis::Basis;
 use pattern_query::Refusal;
-use question_lines::Question;
+use questions::Question;
 use rounds::Scratch;
 use std::alloc::{AllocError, Global};
 use std::sync::Arc;

@@ -17,7 +17,7 @@ use faults::Fault;
 use feed_basis::Basis;
 use feed_ids::Place;
 use pattern_query::{Refusal, Trees, place_named, stops_of};
-use question_lines::Question;
+use questions::Question;
 use std::alloc::Global;
 use timetable::StopId;
 

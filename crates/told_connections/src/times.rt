@@ -3,7 +3,7 @@
 ghost use Rattle.told_connections.specs.Times.{AreTimesOf, IsLastMoment};
 
 use feed_basis::Basis;
-use question_lines::{Question, Until, Within};
+use questions::{Question, Until, Within};
 
 /// When one may leave, from the moment of a question to its last one, each none if it is of a day that isn't covered; and how many
 /// connections are reported at most.

@@ -1,7 +1,7 @@
 use Rattle.std.proofs.Common.{◌≡◌, ◌∙◌, List, ℕ, Option, None, Some, option_map, ap, refl, sym, subst, arith}
 use Rattle.jiff_core.specs.declared.civil.date.Date.{Date}
 use Rattle.question_lines.specs.Questions.{AreFields, IsWithin, LacksFields, NotQuestion, cut_at_tabs, up_to}
-use Rattle.question_lines.specs.declared.question.Within.{Within}
+use Rattle.questions.specs.declared.question.Within.{Within}
 use Rattle.question_lines.proofs.Tabs.{same_last}
 use Rattle.question_lines.proofs.question.question_of.Goals as goal
 

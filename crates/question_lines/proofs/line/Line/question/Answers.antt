@@ -1,7 +1,7 @@
 use Rattle.std.proofs.Common.{◌≡◌, List, ℕ, Option, None, Some, MatchOption, inl, inr, subst, ◌∙◌, arith}
 use Rattle.question_lines.specs.Lines.{IsKept}
 use Rattle.question_lines.specs.Questions.{IsQuestion, NotQuestion}
-use Rattle.question_lines.specs.declared.question.Question.{Question}
+use Rattle.questions.specs.declared.question.Question.{Question}
 use Rattle.question_lines.proofs.line.Line.question.Goals as goal
 
 -- a line that is kept is the same question

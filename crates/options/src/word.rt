@@ -1,22 +1,25 @@
 //! The words that a command takes, one by one.
 
-ghost use Rattle.std.specs.Prelude.{◌≡◌, false};
-ghost use Rattle.clap.specs.Words.{rule_of};
-ghost use Rattle.command_grammar.specs.CommandLine.{ranged_rule, text_rule, texts_rule};
-ghost use Rattle.command_grammar.specs.Grammars.{word_rule};
+ghost use Rattle.std.specs.Prelude.{◌≡◌, false, fold};
+ghost use Rattle.clap.specs.Words.{app_of, rule_of};
+ghost use Rattle.clap.specs.declared.builder.command.Command.TheViews.{out-Command as fields_of};
+ghost use Rattle.options.specs.Made.{IsMade};
+ghost use Rattle.options.specs.Words.{ranged_rule, text_rule, texts_rule, word_rule, with_word};
 
-use clap::Arg;
+use crate::options::{defaulted, flag, number, optional, required};
 use clap::builder::ValueParser;
-use options::{flag, number, optional, required};
+use clap::{Arg, Command, Error};
 use std::alloc::Global;
 
 /// A word that a command takes: its name, how its value is shown in the help, if it has one, and at last the help itself.
 #[derive(Clone, Copy)]
-pub(crate) enum Word<'a> {
+pub enum Word<'a> {
     /// An option that must be given.
     Required(&'a str, &'a str, &'a str),
     /// An option that may be left out.
     Optional(&'a str, &'a str, &'a str),
+    /// An option that may be left out, with its value then.
+    Defaulted(&'a str, &'a str, &'a str, &'a str),
     /// An option without a value.
     Flag(&'a str, &'a str),
     /// An option whose value is a whole number, with that if it is left out, the least one and the greatest.
@@ -62,14 +65,17 @@ fn ranged<'a>(
 }
 
 impl<'a> Word<'a> {
-    /// The argument of `clap` that it is.
-    pub(crate) fn arg(self, alloc: Global) -> Arg<'a>
+    // The argument of `clap` that it is.
+    fn arg(self, alloc: Global) -> Arg<'a>
         ensures rule { rule_of result ≡ word_rule self.entry }
         ensures local { result.global ≡ false }
     {
         match self {
             Word::Required(name, shown, help) => required(alloc, name, shown, help),
             Word::Optional(name, shown, help) => optional(alloc, name, shown, help),
+            Word::Defaulted(name, shown, value, help) => {
+                defaulted(alloc, name, shown, value, help)
+            }
             Word::Flag(name, help) => flag(alloc, name, help),
             Word::Number(name, shown, value, least, most, help) => {
                 number(alloc, name, shown, value, least, most, help)
@@ -81,4 +87,20 @@ impl<'a> Word<'a> {
             Word::Texts(name, shown, help) => texts(alloc, name, shown, help),
         }
     }
+}
+
+/// The command with these words too. An error is want of memory.
+pub fn with_words<'a>(
+    alloc: Global,
+    command: Command<'a>,
+    words: &[Word<'a>],
+) -> Result<Command<'a>, Error>
+    requires local { (fields_of command).has_globals ≡ false }
+    ensures { IsMade (fold with_word (app_of command.entry) words.now) result }
+{
+    let mut command = command;
+    for word in words {
+        command = command.arg(word.arg(alloc))?;
+    }
+    Ok(command)
 }

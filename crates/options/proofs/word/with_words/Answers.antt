@@ -1,8 +1,8 @@
 use Rattle.std.proofs.Common.{◌∙◌, ◌||◌, Bool, ap, fold, sym, take}
 use Rattle.std.proofs.lemmas.List.Sums.{fold_more}
 use Rattle.clap.specs.Words.{App, Rule, app_of, rule_of, with_rule}
-use Rattle.command_grammar.specs.Grammars.{with_word}
-use Rattle.command_grammar.proofs.grammar.with_words.Goals as goal
+use Rattle.options.specs.Words.{with_word}
+use Rattle.options.proofs.word.with_words.Goals as goal
 
 pub loop-word-preserved : goal.loop-word-preserved
 loop-word-preserved c =

@@ -1,8 +1,8 @@
 use Rattle.std.proofs.Common.{◌≡◌, false, fold, take}
 use Rattle.clap.specs.Words.{app_of}
 use Rattle.clap.specs.declared.builder.command.Command.TheViews.{out-Command as fields_of}
-use Rattle.command_grammar.specs.Grammars.{with_word}
-use Rattle.command_grammar.proofs.grammar.with_words.Given as goal
+use Rattle.options.specs.Words.{with_word}
+use Rattle.options.proofs.word.with_words.Given as goal
 
 abbrev pub invariant-loop-word : goal.invariant-loop-word
 invariant-loop-word l = record {
